@@ -4,6 +4,7 @@ ghost use Rattle.std.specs.Fn.{CalledAt};
 ghost use Rattle.std.specs.List.Retain.{IsFiltered};
 ghost use Rattle.collections.specs.ById.{IsById, find_id, put_id, count_below, with_id, changed_id};
 
+use snowflake_id::Snowflake;
 use std::alloc::{AllocError, Global};
 use std::marker::Model;
 
@@ -218,11 +219,11 @@ pub fn copies<T: Duplicate + Drop>(alloc: Global, items: &[T]) -> Result<Vec<T>,
     Ok(copy)
 }
 
-/// A list of ids is itself by id.
-impl Keyed for u64 {
+/// A list of ids ascends by itself.
+impl Keyed for Snowflake {
     ghost key = { λ id. id };
 
     fn key(&self) -> u64 {
-        *self
+        self.0
     }
 }

@@ -5,6 +5,6 @@ pub mod by_id;
 pub mod seq;
 pub mod text;
 
-pub use by_id::{ById, Change, Keyed};
+pub use by_id::{ById, Change, Duplicate, Keyed};
 pub use seq::Seq;
 pub use text::Text;

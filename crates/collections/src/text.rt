@@ -1,4 +1,4 @@
-ghost use Rattle.std.specs.Prelude.{◌≡◌, IfOk, IsUtf8, length, string_bytes};
+ghost use Rattle.std.specs.Prelude.{◌≡◌, IfOk, IsUtf8, length, string_bytes, []};
 ghost use Rattle.std.specs.Str.{bytes_eq};
 
 use std::alloc::{AllocError, Global};
@@ -24,6 +24,15 @@ impl Text {
     {
         let inner = String::from_str(alloc, text)?;
         Ok(Text { inner })
+    }
+
+    /// The text without bytes, which takes no memory.
+    pub fn empty(alloc: Global) -> Text
+        ensures { result ≡ [] }
+    {
+        Text {
+            inner: String::new(alloc),
+        }
     }
 
     /// The text of a string, which is moved.

@@ -8,10 +8,9 @@ use Rattle.std.specs.Result.{OkIff}
 use Rattle.std.proofs.lemmas.Str.Parse.{IsNumeralModel, numerals_by_value, tells_all_ascii_digits, parse_digits}
 use Rattle.std.proofs.lemmas.Fmt.{digits_decimal, digits_value-decimal, decimal_nonempty}
 use Rattle.std.proofs.lemmas.Bool.Decides.{nat_tests}
-use Rattle.snowflake_id.specs.declared.Snowflake.{Snowflake}
 use Rattle.snowflake_id.specs.declared.BadId.{BadId}
 use Rattle.snowflake_id.specs.declared.BadId.TheVariants.{Empty, NotDigits, TooLarge}
-use Rattle.snowflake_id.specs.Text.{id_from, id_within, id_of_text}
+use Rattle.snowflake_id.specs.Text.{id_within, id_of_text}
 
 numerals : IsNumeralModel (λ ds. all_ascii_digits ds ≡ true) (digits_value 10)
 numerals = numerals_by_value (λ ds. all_ascii_digits ds ≡ true) tells_all_ascii_digits
@@ -33,8 +32,8 @@ unfolding id_of_text
 digits_text s e d = rw (e, d) refl
 
 -- what `parse` gives, as an id
-abbrev pub parsed : {E : Type 0} → Result ℕ E → Result Snowflake BadId
-parsed (Ok n) = Ok (id_from n)
+abbrev pub parsed : {E : Type 0} → Result ℕ E → Result ℕ BadId
+parsed (Ok n) = Ok n
 parsed (Err e) = Err TooLarge
 
 within : {E : Type 0} (s : List ℕ) (r : Result ℕ E) → (length s == 0) ≡ false → OkIff r ((0 < length s) × (digits_value 10 s < 2 ^ 64)) (digits_value 10 s) → parsed r ≡ id_within (digits_value 10 s)
@@ -44,14 +43,14 @@ within s (Err x) e h = grind (arith, nat_tests, h)
 pub parsed_text : {E : Type 0} (s : List ℕ) (r : Result ℕ E) → (length s == 0) ≡ false → all_ascii_digits s ≡ true → ParsesUnsigned 64 10 s r → parsed r ≡ id_of_text s
 parsed_text s r e d h = within s r e (parse_digits numerals 64 s r h d) ∙ sym (digits_text s e d)
 
-within_bound : (m n : ℕ) → m ≡ n → n < 2 ^ 64 → id_within m ≡ Ok (id_from n)
+within_bound : (m n : ℕ) → m ≡ n → n < 2 ^ 64 → id_within m ≡ Ok n
 within_bound m n e h = grind (arith, nat_tests)
 
 not_zero : (n : ℕ) → 0 < n → (n == 0) ≡ false
 not_zero n h = grind (arith, nat_tests)
 
 -- The digits of a number below 2^64 are its id.
-pub id_of_decimal : (n : ℕ) → n < 2 ^ 64 → id_of_text (decimal n) ≡ Ok (id_from n)
+pub id_of_decimal : (n : ℕ) → n < 2 ^ 64 → id_of_text (decimal n) ≡ Ok n
 id_of_decimal n h =
     digits_text (decimal n) (not_zero _ (decimal_nonempty n h)) (digits_decimal numerals n h)
     ∙ within_bound _ n (digits_value-decimal numerals n h) h

@@ -7,6 +7,7 @@ ghost use Rattle.std.specs.List.{list_all};
 ghost use Rattle.snowflake_id.specs.Text.{id_of_text};
 
 use std::alloc::{AllocError, Global};
+use std::marker::Model;
 use thiserror::Error;
 
 /// The first millisecond of 2015, in Unix time, from which snowflakes count (API Reference,
@@ -18,6 +19,16 @@ pub const DISCORD_EPOCH: u64 = 1_420_070_400_000;
 /// From bit 22 on it holds the milliseconds since [`DISCORD_EPOCH`].
 #[derive(Clone, Copy, Debug, PartialEq, Eq, PartialOrd, Ord, Hash)]
 pub struct Snowflake(pub u64);
+
+impl Model for Snowflake {
+    ghost use Rattle.std.specs.Prelude.{ℕ};
+
+    ghost Value = { ℕ };
+
+    ghost view = { λ id. id.0 };
+
+    ghost inverse = { λ number. record { 0 = number } };
+}
 
 /// Why a text is no snowflake. The first of these that applies is the one reported.
 #[derive(Clone, Copy, Debug, PartialEq, Eq, Error)]
@@ -59,7 +70,7 @@ impl Snowflake {
     /// The decimal digits, without leading zeros.
     #[tactic(auto, using(crate::proofs::Texts::id_of_decimal))]
     pub fn text(self, alloc: Global) -> Result<String, AllocError>
-        ensures digits { IfOk result (λ text. string_bytes text ≡ decimal self.0) }
+        ensures digits { IfOk result (λ text. string_bytes text ≡ decimal self) }
         ensures reads_back { IfOk result (λ text. id_of_text (string_bytes text) ≡ Ok self) }
     {
         self.0.to_string(alloc)
@@ -68,7 +79,7 @@ impl Snowflake {
     /// The moment at which the id was made, in milliseconds of Unix time (API Reference,
     /// Snowflakes).
     pub fn millis(self) -> u64
-        ensures { result ≡ self.0 / 2 ^ 22 + DISCORD_EPOCH }
+        ensures { result ≡ self / 2 ^ 22 + DISCORD_EPOCH }
     {
         (self.0 >> 22) + DISCORD_EPOCH
     }
@@ -76,7 +87,7 @@ impl Snowflake {
     /// The shard, of `count` shards, that a guild with this id belongs to (Gateway, Sharding).
     pub fn shard_of(self, count: u64) -> u64
         requires { 1 ≤ count }
-        ensures { result ≡ (self.0 / 2 ^ 22) % count }
+        ensures { result ≡ (self / 2 ^ 22) % count }
     {
         (self.0 >> 22) % count
     }
