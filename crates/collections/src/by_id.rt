@@ -1,0 +1,229 @@
+ghost use Rattle.std.specs.Prelude.{◌≡◌, ℕ, [], OnOk, OnErr, None, slice_get, is_some, IfOk, IsSome, length};
+ghost use Rattle.std.specs.Option.{option_copied};
+ghost use Rattle.std.specs.Fn.{CalledAt};
+ghost use Rattle.std.specs.List.Retain.{IsFiltered};
+ghost use Rattle.collections.specs.ById.{IsById, find_id, put_id, count_below, with_id, changed_id};
+
+use snowflake_id::Snowflake;
+use std::alloc::{AllocError, Global};
+use std::marker::Model;
+
+/// What has an id: a number by which a list may ascend.
+pub trait Keyed {
+    ghost key: { Self → ℕ };
+
+    fn key(&self) -> u64
+        ensures { result ≡ key self.now };
+}
+
+/// A change of a record, which leaves its id.
+pub trait Change<T: Keyed> {
+    ghost changed: { Self → T → T };
+
+    fn change(self, item: &mut T)
+        ensures { item.new ≡ changed self item.old };
+
+    ghost keeps_key: { (c : Self) (x : T) → T.key (changed c x) ≡ T.key x };
+}
+
+fn change_at<T: Keyed, C: Change<T> + Drop>(items: &mut Vec<T>, id: u64, change: C)
+    requires { IsById T.key items.old.items }
+    ensures { items.new.items ≡ changed_id T.key id (C.changed change) items.old.items }
+{
+    let place = place_of(items.as_slice(), id);
+    if place >= items.len() {
+        return;
+    }
+    let item = &mut items[place];
+    if item.key() == id {
+        change.change(item);
+    }
+}
+
+fn replace_at<T: Keyed + Drop>(items: &mut Vec<T>, item: T)
+    requires ascending { IsById T.key items.old.items }
+    requires there { IsSome (find_id T.key (T.key item) items.old.items) }
+    ensures { items.new.items ≡ put_id T.key item items.old.items }
+{
+    let place = place_of(items.as_slice(), item.key());
+    if place >= items.len() {
+        return;
+    }
+    items[place] = item;
+}
+
+/// A list of records, ascending by id.
+#[derive(Drop)]
+pub struct ById<T: Keyed> {
+    items: Vec<T>,
+}
+
+impl<T: Keyed> Model for ById<T> {
+    ghost use Rattle.std.specs.Prelude.{List};
+
+    ghost Value = { List T };
+
+    ghost use Rattle.collections.specs.ById.{IsById};
+
+    ghost view = { λ a. a.items.items };
+
+    ghost invariant = { λ a. IsById T.key a.items.items };
+}
+
+// How many of the records have a smaller id.
+fn place_of<T: Keyed>(items: &[T], id: u64) -> usize
+    requires { IsById T.key items.now }
+    ensures { result ≡ count_below T.key id items.now }
+{
+    items.partition_point(|x| x.key() < id)
+}
+
+// The record at a place, if it has the id.
+fn record_at<T: Keyed>(items: &[T], place: usize, id: u64) -> Option<&T>
+    ensures { option_copied result ≡ with_id T.key id (slice_get items.now place) }
+{
+    if place >= items.len() {
+        return None;
+    }
+    let found = &items[place];
+    if found.key() == id { Some(found) } else { None }
+}
+
+impl<T: Keyed + Drop> ById<T> {
+    pub fn new(alloc: Global) -> Self
+        ensures { result ≡ [] }
+    {
+        ById {
+            items: Vec::new(alloc),
+        }
+    }
+
+    pub fn as_slice(&self) -> &[T]
+        ensures items { result.now ≡ self.now }
+        ensures ascending { IsById T.key self.now }
+    {
+        self.items.as_slice()
+    }
+
+    /// A list that ascends already.
+    pub fn from_ascending(items: Vec<T>) -> Self
+        requires { IsById T.key items.items }
+        ensures { result ≡ items.items }
+    {
+        ById { items }
+    }
+
+    pub fn contains(&self, id: u64) -> bool
+        ensures { result ≡ is_some (find_id T.key id self.now) }
+    {
+        self.get(id).is_some()
+    }
+
+    /// The record of an id, and nothing exactly where there is none.
+    pub fn get(&self, id: u64) -> Option<&T>
+        ensures { option_copied result ≡ find_id T.key id self.now }
+    {
+        let items = self.items.as_slice();
+        let place = place_of(items, id);
+        record_at(items, place, id)
+    }
+
+    /// Adds a record that is not there yet, in its place. An `Err` changes nothing.
+    pub fn insert(&mut self, item: T) -> Result<(), AllocError>
+        requires { find_id T.key (T.key item) self.old ≡ None }
+        ensures ok { OnOk result (self.new ≡ put_id T.key item self.old) }
+        ensures err { OnErr result (self.new ≡ self.old) }
+    {
+        let place = place_of(self.items.as_slice(), item.key());
+        self.items.insert(place, item)?;
+        Ok(())
+    }
+
+    /// How many records there are.
+    pub fn len(&self) -> usize
+        ensures { result ≡ length self.now }
+    {
+        self.items.len()
+    }
+
+    /// Sets a record: in the place of the one with its id, or as a new one. An `Err` changes nothing.
+    pub fn put(&mut self, item: T) -> Result<(), AllocError>
+        ensures ok { OnOk result (self.new ≡ put_id T.key item self.old) }
+        ensures err { OnErr result (self.new ≡ self.old) }
+    {
+        if self.contains(item.key()) {
+            self.replace(item);
+            Ok(())
+        } else {
+            self.insert(item)
+        }
+    }
+
+    /// Sets a record in the place of the one with its id, which is there.
+    pub fn replace(&mut self, item: T)
+        requires { IsSome (find_id T.key (T.key item) self.old) }
+        ensures { self.new ≡ put_id T.key item self.old }
+    {
+        replace_at(&mut self.items, item);
+    }
+
+    /// Keeps the records at which a test is true.
+    pub fn retain<F: FnMut(&T) -> bool>(&mut self, keep: F)
+        requires { F.IsAlwaysCallable keep }
+        ensures { IsFiltered (CalledAt F.FnMut) keep self.old self.new }
+    {
+        self.items.retain(keep);
+    }
+
+    /// Changes the record of an id, if there is one.
+    pub fn change<C: Change<T> + Drop>(&mut self, id: u64, change: C)
+        ensures { self.new ≡ changed_id T.key id (C.changed change) self.old }
+    {
+        change_at(&mut self.items, id, change);
+    }
+}
+
+impl<T: Keyed + Copy> ById<T> {
+    pub fn copy(&self, alloc: Global) -> Result<Self, AllocError>
+        ensures { IfOk result (λ copy. copy ≡ self.now) }
+    {
+        let items = Vec::from_slice(alloc, self.items.as_slice())?;
+        Ok(ById { items })
+    }
+}
+
+/// What can be copied, at the cost of memory.
+pub trait Duplicate: Sized {
+    fn duplicate(&self, alloc: Global) -> Result<Self, AllocError>
+        ensures { IfOk result (λ copy. copy ≡ self.now) };
+}
+
+impl<T: Keyed + Drop + Duplicate> ById<T> {
+    /// A list of copies.
+    pub fn duplicate(&self, alloc: Global) -> Result<Self, AllocError>
+        ensures { IfOk result (λ copy. copy ≡ self.now) }
+    {
+        let items = copies(alloc, self.items.as_slice())?;
+        Ok(ById { items })
+    }
+}
+
+/// Copies of all items.
+pub fn copies<T: Duplicate + Drop>(alloc: Global, items: &[T]) -> Result<Vec<T>, AllocError>
+    ensures { IfOk result (λ copy. copy.items ≡ items.now) }
+{
+    let mut copy = Vec::with_capacity(alloc, items.len())?;
+    for item in items {
+        copy.push(item.duplicate(alloc)?)?;
+    }
+    Ok(copy)
+}
+
+/// A list of ids ascends by itself.
+impl Keyed for Snowflake {
+    ghost key = { λ id. id };
+
+    fn key(&self) -> u64 {
+        self.0
+    }
+}

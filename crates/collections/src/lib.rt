@@ -1,0 +1,10 @@
+//! Texts, lists, and lists of records that ascend by id, each seen in a clause as a plain list.
+#![tactic(auto)]
+
+pub mod by_id;
+pub mod seq;
+pub mod text;
+
+pub use by_id::{ById, Change, Duplicate, Keyed};
+pub use seq::Seq;
+pub use text::Text;

@@ -1,0 +1,6 @@
+pub mod Heads
+pub mod Record
+pub mod Consistent
+pub mod Permissions
+pub mod Sight
+pub mod Ascending

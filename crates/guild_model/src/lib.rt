@@ -1,0 +1,27 @@
+//! The record of a guild: its roles, members, channels, threads, voice states, presences and the
+//! heads of its messages, as plain lists that ascend by id.
+#![tactic(auto)]
+
+pub mod channel;
+pub mod guild;
+pub mod member;
+pub mod message;
+pub mod moment;
+pub mod presence;
+pub mod role;
+pub mod thread;
+pub mod user;
+pub mod verdict;
+pub mod voice;
+
+pub use channel::{Channel, ChannelKind, Overwrite, Overwrites};
+pub use guild::Guild;
+pub use member::Member;
+pub use message::{MessageHead, MessageHeads};
+pub use moment::{BadMoment, Moment};
+pub use presence::{Activity, Presence};
+pub use role::Role;
+pub use thread::{Thread, ThreadKind, ThreadMember};
+pub use user::User;
+pub use verdict::Verdict;
+pub use voice::Voice;

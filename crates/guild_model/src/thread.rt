@@ -1,0 +1,64 @@
+ghost use Rattle.std.specs.Prelude.{◌≡◌, IfOk};
+
+use crate::moment::Moment;
+use collections::{ById, Duplicate, Keyed, Text};
+use snowflake_id::Snowflake;
+use std::alloc::{AllocError, Global};
+
+/// The types of threads (Threads, Thread Types).
+#[derive(Clone, Copy, PartialEq, Eq, Debug)]
+pub enum ThreadKind {
+    Announcement,
+    Public,
+    Private,
+}
+
+/// A user in a thread, with the moment at which it joined (Channels Resource, Thread Member Object).
+#[derive(Clone, Copy, PartialEq, Eq, Debug)]
+pub struct ThreadMember {
+    pub user: Snowflake,
+    pub joined: Moment,
+}
+
+impl Keyed for ThreadMember {
+    ghost key = { λ m. m.user };
+
+    fn key(&self) -> u64 {
+        self.user.0
+    }
+}
+
+/// A thread (Threads, Thread Fields).
+#[derive(Drop)]
+pub struct Thread {
+    pub id: Snowflake,
+    pub kind: ThreadKind,
+    pub name: Text,
+    /// The channel that the thread stands in.
+    pub parent: Snowflake,
+    pub owner: Snowflake,
+    pub archived: bool,
+    pub members: ById<ThreadMember>,
+}
+
+impl Keyed for Thread {
+    ghost key = { λ t. t.id };
+
+    fn key(&self) -> u64 {
+        self.id.0
+    }
+}
+
+impl Duplicate for Thread {
+    fn duplicate(&self, alloc: Global) -> Result<Thread, AllocError> {
+        Ok(Thread {
+            id: self.id,
+            kind: self.kind,
+            name: self.name.copy(alloc)?,
+            parent: self.parent,
+            owner: self.owner,
+            archived: self.archived,
+            members: self.members.copy(alloc)?,
+        })
+    }
+}
