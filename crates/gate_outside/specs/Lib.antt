@@ -1,3 +1,5 @@
 pub mod Causes
 pub mod Streams
 pub mod Houses
+pub mod FaultPlans
+pub mod MemStreams

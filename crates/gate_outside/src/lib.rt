@@ -2,6 +2,9 @@
 //! adapters over the system.
 #![tactic(auto)]
 
+pub mod fault_plan;
 pub mod faults;
 pub mod houses;
+pub mod mem_streams;
 pub mod streams;
+pub mod unread;
