@@ -4,3 +4,4 @@ pub mod Consistent
 pub mod Permissions
 pub mod Sight
 pub mod Ascending
+pub mod Changes
