@@ -1,6 +1,6 @@
 -- The longest suffix within two limits.
-use Rattle.std.proofs.Common.{◌≡◌, ℕ, ◌+◌, ◌-◌, ◌<◌, ◌≤◌, Bool, true, false, IsTrue, List, [], ◌∷◌, ◌++◌, length, drop, fold, refl, sym, ap, ◌∙◌, arith, length-append, append_assoc, append-nil, suc, inl, inr, ◌⊎◌}
-use Rattle.std.specs.Prelude.{sum_by, slice_get, Some, if◌then◌else◌, ◌&&◌, nat_le}
+use Rattle.std.proofs.Common.{◌≡◌, ℕ, ◌+◌, ◌-◌, ◌<◌, ◌≤◌, Bool, true, false, List, [], ◌∷◌, ◌++◌, length, drop, refl, sym, ◌∙◌, arith, length-append, append_assoc, append-nil, suc, inl, inr, ◌⊎◌}
+use Rattle.std.specs.Prelude.{sum_by, slice_get, Some, if◌then◌else◌}
 use Rattle.std.proofs.lemmas.Bool.{cases_lt, false≢true}
 use Rattle.std.proofs.lemmas.Bool.Decides.{nat_tests}
 use Rattle.std.proofs.lemmas.List.Sums.{sum_by-append, sum_by-cons}

@@ -1,6 +1,6 @@
 ghost use Rattle.std.specs.Prelude.{◌≡◌, ◌+◌, ◌++◌, ◌≤◌, length, drop};
 ghost use Rattle.std.specs.Iterator.{at_most};
-ghost use Rattle.std.specs.Map.Iter.{TakesFirst, ShowsInOrder, deref};
+ghost use Rattle.std.specs.Map.Iter.{TakesFirst, deref};
 
 use collections::Text;
 use std::marker::Model;

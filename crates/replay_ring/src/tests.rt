@@ -24,9 +24,9 @@ fn worked_cases(rt: HostRuntime) -> Result<(), Fail> {
 #[test]
 fn two_of_three(rt: HostRuntime) -> Result<(), Fail> {
     let mut ring = Ring::new(rt.alloc(), 2, 10)?;
-    for text in ["abcd", "efgh", "ij"] {
-        ring.push(text.to_string(rt.alloc())?);
-    }
+    ring.push("abcd".to_string(rt.alloc())?);
+    ring.push("efgh".to_string(rt.alloc())?);
+    ring.push("ij".to_string(rt.alloc())?);
     assert!(rt; ring.covers(1));
     let texts: Vec<&str> = ring.after(1).collect(rt.alloc())?;
     assert_eq!(rt; texts.as_slice(), ["efgh", "ij"].as_slice());

@@ -1,6 +1,4 @@
-use Rattle.std.proofs.Common.{◌≡◌, ◌-◌, ◌++◌, ◌∷◌, [], length, refl, sym, ◌∙◌, arith}
-use Rattle.circular_buffer.specs.Buffer.{buffer, keep_last}
-use Rattle.replay_ring.specs.Replay.{longest_suffix}
+use Rattle.std.proofs.Common.{refl, arith}
 use Rattle.replay_ring.proofs.Suffixes.{longest_suffix-long, fits_back}
 use Rattle.replay_ring.proofs.ring.Ring.push.Goals as goal
 
