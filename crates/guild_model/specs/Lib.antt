@@ -4,6 +4,6 @@ pub mod Consistent
 pub mod Permissions
 pub mod Sight
 pub mod Ascending
+pub mod Changes
 pub mod Verdict
 pub mod Tests
-pub mod Changes

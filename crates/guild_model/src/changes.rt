@@ -1,7 +1,7 @@
 //! Changes of a record's parts that edits and clients have in common.
 
 ghost use Rattle.std.specs.Prelude.{◌≡◌, refl};
-ghost use Rattle.guild_model.specs.Changes.{without_role, without_role_in};
+ghost use Rattle.guild_model.specs.Changes.{without_role, without_role_overwrite};
 
 use crate::channel::Channel;
 use crate::member::Member;
@@ -23,7 +23,7 @@ impl Change<Member> for WithoutRole {
 }
 
 impl Change<Channel> for WithoutRole {
-    ghost changed = { λ change c. without_role_in change.0 c };
+    ghost changed = { λ change c. without_role_overwrite change.0 c };
 
     fn change(self, channel: &mut Channel) {
         channel.overwrites.roles.remove(self.0.0);

@@ -1,0 +1,5 @@
+pub mod Kinds
+pub mod Serves
+pub mod Objects
+pub mod Projection
+pub mod Fold

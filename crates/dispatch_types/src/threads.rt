@@ -1,0 +1,85 @@
+ghost use Rattle.std.specs.Prelude.{◌≡◌, ◌↔◌, ◌≤◌, min, IfOk, IsErr};
+
+use collections::Text;
+use guild_model::{Moment, ThreadKind};
+use snowflake_id::Snowflake;
+use std::marker::Model;
+
+/// How many users are in a thread, cut at 50 (Channels Resource, `member_count`).
+#[derive(Clone, Copy, PartialEq, Eq, Debug)]
+pub struct ThreadCount(u32);
+
+impl Model for ThreadCount {
+    ghost use Rattle.std.specs.Prelude.{ℕ, ◌≤◌};
+
+    ghost Value = { ℕ };
+
+    ghost view = { λ c. c.0 };
+
+    ghost invariant = { λ c. c.0 ≤ 50 };
+
+    ghost inverse = { λ count. record { 0 = count } };
+}
+
+/// The count is above 50.
+#[derive(Clone, Copy, PartialEq, Eq, Debug)]
+pub struct BadCount;
+
+impl ThreadCount {
+    /// The count as it is written; refused exactly above 50.
+    pub fn new(count: u64) -> Result<ThreadCount, BadCount>
+        ensures value { IfOk result (λ c. c ≡ count) }
+        ensures refused { IsErr result ↔ (51 ≤ count) }
+    {
+        if count > 50 {
+            return Err(BadCount);
+        }
+        Ok(ThreadCount(count as u32))
+    }
+
+    /// The count of that many users.
+    pub fn of(users: usize) -> ThreadCount
+        ensures { result ≡ min 50 users }
+    {
+        if users < 50 {
+            ThreadCount(users as u32)
+        } else {
+            ThreadCount(50)
+        }
+    }
+
+    pub fn get(self) -> u32
+        ensures value { result ≡ self }
+        ensures within { result ≤ 50 }
+    {
+        self.0
+    }
+}
+
+/// A user in a thread as it is sent (Channels Resource, Thread Member Object).
+#[derive(Clone, Copy, PartialEq, Eq, Debug)]
+pub struct ThreadMemberObject {
+    pub thread: Snowflake,
+    pub user: Snowflake,
+    pub joined: Moment,
+}
+
+/// A thread as it is sent (Threads, Thread Fields).
+#[derive(Drop)]
+pub struct ThreadObject {
+    pub guild: Snowflake,
+    pub id: Snowflake,
+    pub kind: ThreadKind,
+    pub name: Text,
+    pub owner: Snowflake,
+    pub parent: Snowflake,
+    pub archived: bool,
+    pub count: ThreadCount,
+}
+
+/// A thread of GUILD_CREATE, with the moment at which the bot joined it, where it is in it.
+#[derive(Drop)]
+pub struct JoinedThread {
+    pub thread: ThreadObject,
+    pub joined: Option<Moment>,
+}

@@ -1,0 +1,2 @@
+pub mod IntentSets
+pub mod Names

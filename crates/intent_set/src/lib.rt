@@ -1,0 +1,11 @@
+//! The intents of a session, and the kinds of dispatches that they ask for.
+#![tactic(auto)]
+
+mod flags;
+mod intents;
+mod kind;
+#[cfg(test)]
+mod tests;
+
+pub use intents::{Intents, UnknownIntent};
+pub use kind::Kind;

@@ -1,0 +1,9 @@
+use Rattle.std.proofs.Common.{ap, ◌∙◌}
+use Rattle.serde_json.specs.View.{members_view}
+use Rattle.serde_json.proofs.Views.{members_view-insert_entry}
+use Rattle.json_view.proofs.object.put_field.Goals as goal
+
+pub returns : goal.returns
+returns c =
+    ap members_view c.in_ok-_replaced.ensures.entries
+    ∙ members_view-insert_entry c.args.members.now.entries c.args.name c.args.value
