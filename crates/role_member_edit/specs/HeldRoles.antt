@@ -31,3 +31,10 @@ member_role_remove_verdict g user role = first_of (everyone_role g role ∷ unkn
 
 abbrev pub member_role_removed : Record → ℕ → ℕ → Record
 member_role_removed g user role = with_member_changed g user (without_role role)
+
+-- the roles that a member holds with one more, and a member that holds these
+abbrev pub held_with : Record → ℕ → ℕ → List ℕ
+held_with g user role = option_map_or (λ (m : Member). put_id own_id role m.roles) (find_id member_id user g.members) (role ∷ [])
+
+abbrev pub with_roles : List ℕ → Member → Member
+with_roles roles m = record m { roles = roles }
