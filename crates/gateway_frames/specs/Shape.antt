@@ -38,7 +38,7 @@ optional read (Some v) = and_then (read v) (λ a. Ok (Some a))
 
 -- an id or null, which has to be there
 abbrev pub nullable_id_at : List ℕ → Data → Result (Option ℕ) FrameFault
-nullable_id_at name d = and_then (shaped (field name d)) (λ v. optional (λ id. shaped (id_value id)) (given name d))
+nullable_id_at name d = and_then (shaped (field name d)) (λ _. optional (λ v. shaped (id_value v)) (given name d))
 
 abbrev pub optional_whole : List ℕ → Data → Result (Option ℕ) FrameFault
 optional_whole name d = optional (λ v. ok_or (whole v) BadShape) (given name d)

@@ -4,8 +4,13 @@
 mod fault;
 mod fields;
 mod frame;
+mod out;
+mod out_text;
 mod read;
 mod shapes;
+mod text;
+mod values;
 
 pub use fault::FrameFault;
 pub use frame::{Ask, Find, Frame, Identify, Resume, Status, VoiceAsk};
+pub use out::Out;
