@@ -7,6 +7,8 @@ mod parts;
 mod roles;
 mod sight;
 mod standing;
+#[cfg(test)]
+mod tests;
 mod tiers;
 
 pub use masks::{base_mask, channel_mask, mask_from};

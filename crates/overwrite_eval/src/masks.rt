@@ -16,7 +16,7 @@ use step_count::Steps;
 #[tactic(auto, using(perm_bits::proofs::BitSets::bit_sets))]
 pub fn base_mask<L: Ledger>(guild: &Guild, user: Snowflake, steps: &mut Steps<L>) -> Perms
     ensures bits { (b : ℕ) → b < 53 → has_bit result b ≡ base_has guild.now user b }
-    ensures cost { steps.new ≡ steps.old + role_looks guild.now user }
+    ensures looks { steps.new ≡ steps.old + role_looks guild.now user }
 {
     match guild.member(user) {
         Some(member) => member_base(guild.id, guild.owner, guild.roles.as_slice(), member, steps),
@@ -36,8 +36,8 @@ pub fn mask_from<L: Ledger>(
 ) -> Perms
     requires { (b : ℕ) → b < 53 → has_bit base b ≡ base_has guild.now user b }
     ensures bits { (b : ℕ) → b < 53 → has_bit result b ≡ grants guild.now user channel b }
-    ensures counts { steps.old ≤ steps.new }
-    ensures cost { steps.new ≤ steps.old + overwrite_looks guild.now channel }
+    ensures at_least { steps.old ≤ steps.new }
+    ensures at_most { steps.new ≤ steps.old + overwrite_looks guild.now channel }
 {
     match (guild.member(user), guild.channel(channel)) {
         (Some(member), Some(channel)) => member_mask(guild.id, member, channel, base, steps),
@@ -54,8 +54,8 @@ pub fn mask_of<L: Ledger>(
     steps: &mut Steps<L>,
 ) -> Perms
     ensures bits { (b : ℕ) → b < 53 → has_bit result b ≡ granted (standing guild.now member.now) channel b }
-    ensures counts { steps.old + (length member.now.roles + 1) ≤ steps.new }
-    ensures cost { steps.new ≤ steps.old + (length member.now.roles + 1) + overwrite_looks guild.now channel }
+    ensures at_least { steps.old + (length member.now.roles + 1) ≤ steps.new }
+    ensures at_most { steps.new ≤ steps.old + (length member.now.roles + 1) + overwrite_looks guild.now channel }
 {
     let base = member_base(guild.id, guild.owner, guild.roles.as_slice(), member, steps);
     match guild.channel(channel) {
@@ -74,8 +74,8 @@ pub fn channel_mask<L: Ledger>(
     steps: &mut Steps<L>,
 ) -> Perms
     ensures bits { (b : ℕ) → b < 53 → has_bit result b ≡ grants guild.now user channel b }
-    ensures counts { steps.old + role_looks guild.now user ≤ steps.new }
-    ensures cost { steps.new ≤ steps.old + role_looks guild.now user + overwrite_looks guild.now channel }
+    ensures at_least { steps.old + role_looks guild.now user ≤ steps.new }
+    ensures at_most { steps.new ≤ steps.old + role_looks guild.now user + overwrite_looks guild.now channel }
 {
     match guild.member(user) {
         Some(member) => mask_of(guild, member, channel, steps),

@@ -33,7 +33,7 @@ pub fn member_base<L: Ledger>(
 ) -> Perms
     requires { IsById role_id roles.now }
     ensures bits { (b : ℕ) → b < 53 → has_bit result b ≡ part_base guild owner roles.now member.now b }
-    ensures cost { steps.new ≡ steps.old + (length member.now.roles + 1) }
+    ensures looks { steps.new ≡ steps.old + (length member.now.roles + 1) }
 {
     let mask = roles_mask(guild, roles, member.roles.as_slice(), steps);
     if owner == member.user.id || is_administrator(mask) {
@@ -54,8 +54,8 @@ pub fn member_mask<L: Ledger>(
 ) -> Perms
     ensures bits { (b : ℕ) → b < 53
         → has_bit result b ≡ (has_bit base administrator || unwrap_or (named guild member.now channel.now.overwrites b) (has_bit base b)) }
-    ensures counts { steps.old ≤ steps.new }
-    ensures cost { steps.new ≤ steps.old + looks_of channel.now.overwrites }
+    ensures at_least { steps.old ≤ steps.new }
+    ensures at_most { steps.new ≤ steps.old + looks_of channel.now.overwrites }
 {
     if is_administrator(base) {
         Perms::ALL

@@ -16,7 +16,7 @@ use step_count::Steps;
 fn role_mask<L: Ledger>(roles: &[Role], id: Snowflake, steps: &mut Steps<L>) -> Perms
     requires { IsById role_id roles.now }
     ensures bits { (b : ℕ) → has_bit result b ≡ role_has roles.now b id }
-    ensures cost { steps.new ≡ steps.old + 1 }
+    ensures looks { steps.new ≡ steps.old + 1 }
 {
     steps.tick();
     match find(roles, id.0) {
@@ -34,7 +34,7 @@ pub fn roles_mask<L: Ledger>(
 ) -> Perms
     requires { IsById role_id roles.now }
     ensures bits { (b : ℕ) → has_bit result b ≡ roles_have guild roles.now held.now b }
-    ensures cost { steps.new ≡ steps.old + (length held.now + 1) }
+    ensures looks { steps.new ≡ steps.old + (length held.now + 1) }
 {
     let mut mask = role_mask(roles, guild, steps);
     for id in held {

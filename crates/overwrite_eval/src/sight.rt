@@ -50,8 +50,8 @@ pub fn sees_channel<L: Ledger>(
     steps: &mut Steps<L>,
 ) -> bool
     ensures seen { result ≡ sees_channel guild.now user channel }
-    ensures counts { steps.old + role_looks guild.now user ≤ steps.new }
-    ensures cost { steps.new ≤ steps.old + role_looks guild.now user + overwrite_looks guild.now channel }
+    ensures at_least { steps.old + role_looks guild.now user ≤ steps.new }
+    ensures at_most { steps.new ≤ steps.old + role_looks guild.now user + overwrite_looks guild.now channel }
 {
     may_view(channel_mask(guild, user, channel, steps))
 }
@@ -64,15 +64,11 @@ fn member_sees<L: Ledger>(
     steps: &mut Steps<L>,
 ) -> bool
     ensures seen { result ≡ member_sees guild.now member.now thread.now }
-    ensures counts { steps.old ≤ steps.new }
-    ensures cost { steps.new ≤ steps.old + (length member.now.roles + 1) + overwrite_looks guild.now thread.now.parent }
+    ensures at_least { steps.old ≤ steps.new }
+    ensures at_most { steps.new ≤ steps.old + (length member.now.roles + 1) + overwrite_looks guild.now thread.now.parent }
 {
     let mask = mask_of(guild, member, thread.parent, steps);
-    shows_thread(
-        mask,
-        thread.kind,
-        thread.members.contains(member.user.id.0),
-    )
+    shows_thread(mask, thread.kind, thread.members.contains(member.user.id.0))
 }
 
 /// Whether a user sees a thread, archived or not (Threads, Private Threads). A stranger sees none, and
@@ -84,8 +80,8 @@ pub fn sees_thread<L: Ledger>(
     steps: &mut Steps<L>,
 ) -> bool
     ensures seen { result ≡ sees_thread guild.now user thread }
-    ensures counts { steps.old ≤ steps.new }
-    ensures cost { steps.new ≤ steps.old + role_looks guild.now user + parent_looks guild.now thread }
+    ensures at_least { steps.old ≤ steps.new }
+    ensures at_most { steps.new ≤ steps.old + role_looks guild.now user + parent_looks guild.now thread }
 {
     match (guild.member(user), guild.thread(thread)) {
         (Some(member), Some(thread)) => member_sees(guild, member, thread, steps),

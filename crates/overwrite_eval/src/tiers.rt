@@ -73,7 +73,7 @@ impl RoleTiers {
     ) -> RoleTiers
         ensures everyone { Unites (is_of guild) overwrites.now result.everyone }
         ensures held { Unites (is_held held.now) overwrites.now result.held }
-        ensures cost { steps.new ≡ steps.old + length overwrites.now }
+        ensures looks { steps.new ≡ steps.old + length overwrites.now }
     {
         let mut everyone = Tier::NONE;
         let mut of_held = Tier::NONE;
@@ -90,15 +90,11 @@ impl RoleTiers {
 }
 
 // The tier of a member's own overwrite, which is empty where there is none.
-fn member_tier<L: Ledger>(
-    user: Snowflake,
-    overwrites: &[Overwrite],
-    steps: &mut Steps<L>,
-) -> Tier
+fn member_tier<L: Ledger>(user: Snowflake, overwrites: &[Overwrite], steps: &mut Steps<L>) -> Tier
     requires { IsById overwrite_id overwrites.now }
     ensures own { Unites (is_of user) overwrites.now result }
-    ensures counts { steps.old ≤ steps.new }
-    ensures cost { steps.new ≤ steps.old + length overwrites.now }
+    ensures at_least { steps.old ≤ steps.new }
+    ensures at_most { steps.new ≤ steps.old + length overwrites.now }
 {
     match find(overwrites, user.0) {
         Some(overwrite) => {
@@ -119,8 +115,8 @@ pub fn overwritten<L: Ledger>(
 ) -> Perms
     ensures bits { (b : ℕ)
         → has_bit result b ≡ unwrap_or (named guild member.now overwrites.now b) (has_bit base b) }
-    ensures counts { steps.old ≤ steps.new }
-    ensures cost { steps.new ≤ steps.old + looks_of overwrites.now }
+    ensures at_least { steps.old ≤ steps.new }
+    ensures at_most { steps.new ≤ steps.old + looks_of overwrites.now }
 {
     let of_roles = RoleTiers::of(guild, &member.roles, overwrites.roles.as_slice(), steps);
     let own = member_tier(member.user.id, overwrites.members.as_slice(), steps);
