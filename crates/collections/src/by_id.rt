@@ -1,8 +1,8 @@
-ghost use Rattle.std.specs.Prelude.{◌≡◌, ℕ, [], OnOk, OnErr, None, slice_get, is_some, IfOk, IsSome, length};
+ghost use Rattle.std.specs.Prelude.{◌≡◌, ℕ, [], OnOk, OnErr, None, slice_get, is_some, IfOk, IsSome, length, map};
 ghost use Rattle.std.specs.Option.{option_copied};
 ghost use Rattle.std.specs.Fn.{CalledAt};
 ghost use Rattle.std.specs.List.Retain.{IsFiltered};
-ghost use Rattle.collections.specs.ById.{IsById, find_id, put_id, count_below, with_id, changed_id};
+ghost use Rattle.collections.specs.ById.{IsById, find_id, put_id, count_below, with_id, changed_id, without_id};
 
 use snowflake_id::Snowflake;
 use std::alloc::{AllocError, Global};
@@ -50,6 +50,27 @@ fn replace_at<T: Keyed + Drop>(items: &mut Vec<T>, item: T)
         return;
     }
     items[place] = item;
+}
+
+fn remove_at<T: Keyed + Drop>(items: &mut Vec<T>, id: u64)
+    requires { IsById T.key items.old.items }
+    ensures { items.new.items ≡ without_id T.key id items.old.items }
+{
+    let place = place_of(items.as_slice(), id);
+    if place >= items.len() {
+        return;
+    }
+    if items[place].key() == id {
+        items.remove(place);
+    }
+}
+
+fn change_each<T: Keyed, C: Change<T> + Copy>(items: &mut Vec<T>, change: C)
+    ensures { items.new.items ≡ map (C.changed change) items.old.items }
+{
+    for item in items.iter_mut() {
+        change.change(item);
+    }
 }
 
 /// A list of records, ascending by id.
@@ -173,6 +194,20 @@ impl<T: Keyed + Drop> ById<T> {
         ensures { IsFiltered (CalledAt F.FnMut) keep self.old self.new }
     {
         self.items.retain(keep);
+    }
+
+    /// Takes away the record of an id, if there is one.
+    pub fn remove(&mut self, id: u64)
+        ensures { self.new ≡ without_id T.key id self.old }
+    {
+        remove_at(&mut self.items, id);
+    }
+
+    /// Changes every record.
+    pub fn change_all<C: Change<T> + Copy>(&mut self, change: C)
+        ensures { self.new ≡ map (C.changed change) self.old }
+    {
+        change_each(&mut self.items, change);
     }
 
     /// Changes the record of an id, if there is one.
