@@ -1,0 +1,3 @@
+pub mod Greeting
+pub mod Due
+pub mod Law

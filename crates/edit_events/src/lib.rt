@@ -1,0 +1,4 @@
+//! What an edit owes.
+#![tactic(auto)]
+
+pub mod law;
