@@ -3,3 +3,5 @@ pub mod Streams
 pub mod Houses
 pub mod FaultPlans
 pub mod MemStreams
+pub mod MemHouses
+pub mod Shelves

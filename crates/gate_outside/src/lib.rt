@@ -5,6 +5,7 @@
 pub mod fault_plan;
 pub mod faults;
 pub mod houses;
+pub mod mem_house;
 pub mod mem_streams;
 pub mod streams;
 pub mod unread;
