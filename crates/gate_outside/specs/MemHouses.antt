@@ -1,5 +1,5 @@
 -- The house in memory.
-use Rattle.std.specs.Prelude.{◌≡◌, ℕ, List, [], ◌∷◌, ◌++◌, Bool, true, false, if◌then◌else◌, ◌||◌, Result, Ok, Err, is_none, option_and_then}
+use Rattle.std.specs.Prelude.{◌≡◌, ℕ, List, [], ◌∷◌, ◌++◌, Bool, true, false, if◌then◌else◌, ◌||◌, Result, Ok, Err, is_none, find, ◌==◌}
 use Rattle.std.specs.Option.{option_map}
 use Rattle.std.specs.declared.option.Option.{Option}
 use Rattle.std.specs.declared.option.Option.TheVariants.{Some, None}
@@ -19,8 +19,7 @@ pub record FileState : Type 0 where
 
 -- the first file of that name
 abbrev pub file_of : List FileState → List ℕ → Option FileState
-file_of [] name = None
-file_of (f ∷ files) name = if bytes_eq f.name name then Some f else file_of files name
+file_of files name = find (λ f. bytes_eq f.name name) files
 
 -- the files, the names that were asked for, the asks that are to fail, the sources that are back
 pub record HouseState : Type 0 where
@@ -53,3 +52,16 @@ Asks (Err fault.Memory) old new name = new ≡ old
 -- what the house keeps of a source that is back
 abbrev pub kept : SourceState → Returned
 kept s = record { left = Some s.left; faults = s.plan.faults }
+
+-- what an ask gives, where memory serves
+abbrev pub given_for : HouseState → List ℕ → Option SourceState
+given_for h name = if fails h.plan then None else option_map source_of (file_of h.files name)
+
+-- after a source has come back
+abbrev pub with_returned : HouseState → SourceState → HouseState
+with_returned h s = record {
+  files = h.files;
+  asks = h.asks;
+  plan = if s.plan.faults == 0 then h.plan else after_fault h.plan;
+  returned = h.returned ++ kept s ∷ [];
+}
