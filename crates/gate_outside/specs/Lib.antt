@@ -5,3 +5,4 @@ pub mod FaultPlans
 pub mod MemStreams
 pub mod MemHouses
 pub mod Shelves
+pub mod StdStreams

@@ -19,9 +19,9 @@ impl Model for FaultPlan {
     ghost Value = { Plan };
 
     ghost view = { λ p. record {
-        failing = p.failing.items;
-        calls = p.calls;
-        faults = p.faults;
+      failing = p.failing.items;
+      calls = p.calls;
+      faults = p.faults;
     } };
 }
 

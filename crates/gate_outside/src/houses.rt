@@ -40,8 +40,8 @@ pub trait House {
     /// Takes a source back. It takes no memory.
     fn put_back(&mut self, source: Self::In)
         ensures returned { GrowsBy (returned self.old) (returned self.new) (record {
-            left = Self.In.left source;
-            faults = Self.In.faults source;
+          left = Self.In.left source;
+          faults = Self.In.faults source;
         }) }
         ensures asks { asks self.new ≡ asks self.old }
         ensures contents { contents self.new ≡ contents self.old }

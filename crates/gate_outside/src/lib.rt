@@ -7,5 +7,8 @@ pub mod faults;
 pub mod houses;
 pub mod mem_house;
 pub mod mem_streams;
+pub mod piece;
+pub mod std_house;
+pub mod std_streams;
 pub mod streams;
 pub mod unread;

@@ -120,10 +120,10 @@ impl Model for MemFile {
     ghost Value = { FileState };
 
     ghost view = { λ f. record {
-        name = f.name;
-        bytes = f.bytes.items;
-        most = f.most;
-        failing = f.failing.items;
+      name = f.name;
+      bytes = f.bytes.items;
+      most = f.most;
+      failing = f.failing.items;
     } };
 
     ghost invariant = { λ f. 0 < f.most };
@@ -141,10 +141,10 @@ impl MemFile {
     ) -> Result<MemFile, AllocError>
         requires { 0 < most }
         ensures { IfOk result (λ f. f ≡ record {
-            name = name.now;
-            bytes = bytes.items;
-            most = most;
-            failing = failing.items;
+          name = name.now;
+          bytes = bytes.items;
+          most = most;
+          failing = failing.items;
         }) }
     {
         let name = Name::new(alloc, name)?;
@@ -184,10 +184,10 @@ impl Model for MemHouse {
     ghost use Rattle.gate_outside.specs.Shelves.{all_on};
 
     ghost view = { λ h. record {
-        files = h.files.items;
-        asks = h.asks.items;
-        plan = h.plan;
-        returned = all_on h.shelf;
+      files = h.files.items;
+      asks = h.asks.items;
+      plan = h.plan;
+      returned = all_on h.shelf;
     } };
 }
 
@@ -196,10 +196,10 @@ impl MemHouse {
     /// for a name that no file has fails too.
     pub fn new(alloc: Global, files: Vec<MemFile>, failing: Vec<u64>) -> MemHouse
         ensures { result ≡ record {
-            files = files.items;
-            asks = [];
-            plan = fresh failing.items;
-            returned = [];
+          files = files.items;
+          asks = [];
+          plan = fresh failing.items;
+          returned = [];
         } }
     {
         MemHouse {
@@ -248,6 +248,7 @@ impl MemHouse {
 
 impl House for MemHouse {
     type In = HouseSource;
+
     type Out = MemSink;
 
     ghost source_faults = { λ h. h.plan.faults };

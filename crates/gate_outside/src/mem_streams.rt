@@ -31,10 +31,10 @@ impl Model for MemSource {
     ghost Value = { SourceState };
 
     ghost view = { λ s. record {
-        left = s.left;
-        most = s.most;
-        ended = s.ended;
-        plan = s.plan;
+      left = s.left;
+      most = s.most;
+      ended = s.ended;
+      plan = s.plan;
     } };
 
     ghost invariant = { λ s. (0 < s.most) × (s.ended ≡ true → s.left ≡ []) };
@@ -46,10 +46,10 @@ impl MemSource {
     pub fn new(bytes: Vec<u8>, most: usize, failing: Vec<u64>) -> MemSource
         requires { 0 < most }
         ensures { result ≡ record {
-            left = bytes.items;
-            most = most;
-            ended = false;
-            plan = fresh failing.items;
+          left = bytes.items;
+          most = most;
+          ended = false;
+          plan = fresh failing.items;
         } }
     {
         MemSource {
@@ -154,9 +154,9 @@ impl Model for MemSink {
     ghost Value = { SinkState };
 
     ghost view = { λ s. record {
-        got = s.got.items;
-        most = s.most;
-        plan = s.plan;
+      got = s.got.items;
+      most = s.most;
+      plan = s.plan;
     } };
 
     ghost invariant = { λ s. 0 < s.most };
@@ -168,9 +168,9 @@ impl MemSink {
     pub fn new(alloc: Global, most: usize, failing: Vec<u64>) -> MemSink
         requires { 0 < most }
         ensures { result ≡ record {
-            got = [];
-            most = most;
-            plan = fresh failing.items;
+          got = [];
+          most = most;
+          plan = fresh failing.items;
         } }
     {
         MemSink {

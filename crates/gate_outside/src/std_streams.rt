@@ -1,0 +1,141 @@
+//! Sources and sinks over the system. Contracts see their counts, and no bytes.
+ghost use Rattle.std.specs.Prelude.{◌≡◌, ◌<◌, ◌≤◌, None, length, IfOk};
+ghost use Rattle.gate_outside.specs.StdStreams.{new_input};
+
+use crate::faults::{Failed, Fault};
+use crate::streams::{Sink, Source};
+use std::io;
+use std::io::{Print, Read};
+use std::marker::Model;
+
+// Where the bytes come from.
+#[derive(Drop)]
+enum Origin<F: Read + Drop, I: Read + Drop> {
+    File(F),
+    Standard(I),
+}
+
+/// A source over an open file, or over standard input.
+#[derive(Drop)]
+pub struct FileSource<F: Read + Drop, I: Read + Drop> {
+    origin: Origin<F, I>,
+    ended: bool,
+    faults: u64,
+}
+
+impl<F: Read + Drop, I: Read + Drop> Model for FileSource<F, I> {
+    ghost use Rattle.gate_outside.specs.StdStreams.{InputState};
+
+    ghost Value = { InputState };
+
+    ghost view = { λ s. record {
+      ended = s.ended;
+      faults = s.faults;
+    } };
+}
+
+impl<F: Read + Drop, I: Read + Drop> FileSource<F, I> {
+    /// A source over a file that is open.
+    pub fn file(file: F) -> FileSource<F, I>
+        ensures { result ≡ new_input }
+    {
+        FileSource {
+            origin: Origin::File(file),
+            ended: false,
+            faults: 0,
+        }
+    }
+
+    /// A source over standard input.
+    pub fn standard_input(input: I) -> FileSource<F, I>
+        ensures { result ≡ new_input }
+    {
+        FileSource {
+            origin: Origin::Standard(input),
+            ended: false,
+            faults: 0,
+        }
+    }
+
+    /// How often a read failed.
+    pub fn faults(&self) -> u64
+        ensures { result ≡ self.now.faults }
+    {
+        self.faults
+    }
+}
+
+impl<F: Read + Drop, I: Read + Drop> Source for FileSource<F, I> {
+    ghost left = { λ _. None };
+
+    ghost ended = { λ s. s.ended };
+
+    ghost faults = { λ s. s.faults };
+
+    fn read(&mut self, into: &mut [u8]) -> Result<usize, Failed> {
+        if self.ended {
+            return Ok(0);
+        }
+        let answer = match &mut self.origin {
+            Origin::File(file) => file.read(into),
+            Origin::Standard(input) => input.read(into),
+        };
+        match answer {
+            Ok(count) => {
+                self.ended = count == 0 && !into.is_empty();
+                Ok(count)
+            }
+            Err(_) => {
+                self.faults = self.faults.saturating_add(1);
+                Err(Failed)
+            }
+        }
+    }
+}
+
+/// A sink over standard output. Each piece goes out by one call, without a buffer.
+#[derive(Drop)]
+pub struct StdoutSink<P: Print + Drop> {
+    output: P,
+    faults: u64,
+}
+
+impl<P: Print + Drop> Model for StdoutSink<P> {
+    ghost use Rattle.std.specs.Prelude.{ℕ};
+
+    ghost Value = { ℕ };
+
+    ghost view = { λ s. s.faults };
+}
+
+impl<P: Print + Drop> StdoutSink<P> {
+    /// A sink over what the runtime prints to.
+    pub fn new(output: P) -> StdoutSink<P>
+        ensures { result ≡ 0 }
+    {
+        StdoutSink { output, faults: 0 }
+    }
+
+    /// How often a write failed.
+    pub fn faults(&self) -> u64
+        ensures { result ≡ self.now }
+    {
+        self.faults
+    }
+}
+
+impl<P: Print + Drop> Sink for StdoutSink<P> {
+    ghost got = { λ _. None };
+
+    ghost faults = { λ s. s };
+
+    fn write(&mut self, from: &[u8]) -> Result<usize, Fault> {
+        if let Ok(count) = self.output.write_some(from) {
+            if count > 0 || from.is_empty() {
+                return Ok(count);
+            }
+        }
+        self.faults = self.faults.saturating_add(1);
+        Err(Fault::Failed)
+    }
+}
