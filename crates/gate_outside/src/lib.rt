@@ -2,7 +2,7 @@
 //! adapters over the system.
 #![tactic(auto)]
 
-pub mod fault_plan;
+mod fault_plan;
 pub mod faults;
 pub mod houses;
 pub mod mem_house;
@@ -11,4 +11,6 @@ pub mod piece;
 pub mod std_house;
 pub mod std_streams;
 pub mod streams;
-pub mod unread;
+#[cfg(test)]
+mod tests;
+mod unread;
