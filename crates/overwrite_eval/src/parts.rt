@@ -24,7 +24,7 @@ fn is_administrator(mask: Perms) -> bool
 
 // The base mask of a member.
 #[tactic(auto, using(perm_bits::proofs::BitSets::bit_sets), unfolding(guild_model::specs::Permissions::part_base))]
-pub fn member_base<L: Ledger>(
+pub(crate) fn member_base<L: Ledger>(
     guild: Snowflake,
     owner: Snowflake,
     roles: &[Role],
@@ -45,7 +45,7 @@ pub fn member_base<L: Ledger>(
 
 // The mask in a channel, from the base mask, which has ADMINISTRATOR where the member may do all.
 #[tactic(auto, using(perm_bits::proofs::BitSets::bit_sets))]
-pub fn member_mask<L: Ledger>(
+pub(crate) fn member_mask<L: Ledger>(
     guild: Snowflake,
     member: &Member,
     channel: &Channel,
@@ -99,7 +99,12 @@ fn mask_on<L: Ledger>(
 }
 
 // The base mask of a member, uncounted.
-pub fn part_base(guild: Snowflake, owner: Snowflake, roles: &[Role], member: &Member) -> Perms
+pub(crate) fn part_base(
+    guild: Snowflake,
+    owner: Snowflake,
+    roles: &[Role],
+    member: &Member,
+) -> Perms
     requires { IsById role_id roles.now }
     ensures { (b : ℕ) → b < 53 → has_bit result b ≡ part_base guild owner roles.now member.now b }
 {
@@ -107,7 +112,12 @@ pub fn part_base(guild: Snowflake, owner: Snowflake, roles: &[Role], member: &Me
 }
 
 // The mask in a channel from the base mask, uncounted.
-pub fn part_mask_from(guild: Snowflake, member: &Member, channel: &Channel, base: Perms) -> Perms
+pub(crate) fn part_mask_from(
+    guild: Snowflake,
+    member: &Member,
+    channel: &Channel,
+    base: Perms,
+) -> Perms
     ensures { (b : ℕ) → b < 53
         → has_bit result b ≡ (has_bit base administrator || unwrap_or (named guild member.now channel.now.overwrites b) (has_bit base b)) }
 {
