@@ -1,9 +1,10 @@
-ghost use Rattle.std.specs.Prelude.{◌≡◌, ◌+◌, ◌<◌, ◌≤◌, ℕ, ◌||◌, length, unwrap_or};
+ghost use Rattle.std.specs.Prelude.{◌≡◌, ◌+◌, ◌<◌, ◌≤◌, ℕ, length};
 ghost use Rattle.collections.specs.ById.{IsById};
 ghost use Rattle.perm_bits.specs.Bits.{has_bit};
 ghost use Rattle.perm_bits.specs.Permissions.{administrator};
 ghost use Rattle.guild_model.specs.Record.{role_id};
-ghost use Rattle.guild_model.specs.Permissions.{named, part_base, part_grants};
+ghost use Rattle.guild_model.specs.Permissions.{part_base, part_grants};
+ghost use Rattle.overwrite_eval.specs.FromBase.{from_base};
 ghost use Rattle.overwrite_eval.specs.Looks.{looks_of};
 
 use crate::roles::roles_mask;
@@ -52,8 +53,7 @@ pub(crate) fn member_mask<L: Ledger>(
     base: Perms,
     steps: &mut Steps<L>,
 ) -> Perms
-    ensures bits { (b : ℕ) → b < 53
-        → has_bit result b ≡ (has_bit base administrator || unwrap_or (named guild member.now channel.now.overwrites b) (has_bit base b)) }
+    ensures bits { (b : ℕ) → b < 53 → has_bit result b ≡ from_base guild member.now channel.now.overwrites base b }
     ensures at_least { steps.old ≤ steps.new }
     ensures at_most { steps.new ≤ steps.old + looks_of channel.now.overwrites }
 {
@@ -92,8 +92,7 @@ fn mask_on<L: Ledger>(
     requires name { blank.name ≡ L.name }
     requires parts { blank.parts ≡ L.parts }
     requires shared { 0 < blank.parts }
-    ensures { (b : ℕ) → b < 53
-        → has_bit result b ≡ (has_bit base administrator || unwrap_or (named guild member.now channel.now.overwrites b) (has_bit base b)) }
+    ensures { (b : ℕ) → b < 53 → has_bit result b ≡ from_base guild member.now channel.now.overwrites base b }
 {
     member_mask(guild, member, channel, base, &mut Steps::<L>::new(blank))
 }
@@ -118,8 +117,7 @@ pub(crate) fn part_mask_from(
     channel: &Channel,
     base: Perms,
 ) -> Perms
-    ensures { (b : ℕ) → b < 53
-        → has_bit result b ≡ (has_bit base administrator || unwrap_or (named guild member.now channel.now.overwrites b) (has_bit base b)) }
+    ensures { (b : ℕ) → b < 53 → has_bit result b ≡ from_base guild member.now channel.now.overwrites base b }
 {
     mask_on::<Brand>(guild, member, channel, base, Blank::new(1))
 }
