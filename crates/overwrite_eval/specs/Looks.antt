@@ -1,5 +1,5 @@
 -- How many roles and overwrites there are to look at.
-use Rattle.std.specs.Prelude.{ℕ, ◌+◌, length, Option, Some, None}
+use Rattle.std.specs.Prelude.{ℕ, ◌+◌, length}
 use Rattle.std.specs.Option.{option_map_or}
 use Rattle.collections.specs.ById.{find_id}
 use Rattle.guild_model.specs.declared.channel.Channel.{Channel}

@@ -47,7 +47,7 @@ pub fn mask_from<L: Ledger>(
 
 // What a member may do in a channel, and nothing in one that is not there.
 #[tactic(auto, using(perm_bits::proofs::BitSets::bit_sets))]
-pub fn mask_of<L: Ledger>(
+pub(crate) fn mask_of<L: Ledger>(
     guild: &Guild,
     member: &Member,
     channel: Snowflake,

@@ -12,7 +12,7 @@ use std::sync::ledger::Ledger;
 use step_count::Steps;
 
 // Whether a mask lets its holder view the channel.
-pub fn may_view(mask: Perms) -> bool
+pub(crate) fn may_view(mask: Perms) -> bool
     ensures { result ≡ has_bit mask view_channel }
 {
     mask.has(Perms::VIEW_CHANNEL)
@@ -35,7 +35,7 @@ fn is_private(kind: ThreadKind) -> bool
 }
 
 // Whether a thread is seen by one that has this mask in its parent, and is in it or not.
-pub fn shows_thread(mask: Perms, kind: ThreadKind, joined: bool) -> bool
+pub(crate) fn shows_thread(mask: Perms, kind: ThreadKind, joined: bool) -> bool
     ensures { result ≡ (has_bit mask view_channel && (not (is_private kind) || joined || has_bit mask manage_threads)) }
 {
     may_view(mask) && (!is_private(kind) || joined || may_manage_threads(mask))

@@ -16,7 +16,7 @@ use step_count::Steps;
 
 // What the overwrites of one tier allow and deny, united.
 #[derive(Clone, Copy)]
-pub struct Tier {
+struct Tier {
     allow: Perms,
     deny: Perms,
 }
@@ -59,7 +59,7 @@ impl Tier {
 
 // The tiers of a channel's overwrites of roles.
 #[derive(Clone, Copy)]
-pub struct RoleTiers {
+struct RoleTiers {
     everyone: Tier,
     held: Tier,
 }
@@ -106,7 +106,7 @@ fn member_tier<L: Ledger>(user: Snowflake, overwrites: &[Overwrite], steps: &mut
 }
 
 // What a channel's overwrites make of a member's base mask.
-pub fn overwritten<L: Ledger>(
+pub(crate) fn overwritten<L: Ledger>(
     guild: Snowflake,
     member: &Member,
     overwrites: &Overwrites,
