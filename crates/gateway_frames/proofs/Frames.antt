@@ -174,20 +174,20 @@ ask_plain guild (Users ids) presences nonce = users_ask_plain guild ids presence
 
 pub frame_back : (f : Frame) → FrameFits f → MaySend f → frame_from (frame_data f) ≡ Ok f
 frame_back (frame.Heartbeat n) h m = heartbeat_back n
-frame_back (frame.Identify i) h m = framed_identify _ i (identify_back i.token i.intents i.large_threshold i.shard).0
-frame_back (frame.Presence s) h m = framed_presence _ s (presence_back s).0
-frame_back (frame.Voice v) h m = framed_voice _ v (voice_back v.guild v.channel v.self_mute v.self_deaf h.0 h.1)
-frame_back (frame.Resume r) h m = framed_resume _ r (resume_back r).0
-frame_back (frame.Ask a) h m = framed_ask _ a (ask_back a.guild a.find a.presences a.nonce h.0 h.1 m)
+frame_back (frame.Identify i) h m = framed_identify (identify_data i) i (identify_back i.token i.intents i.large_threshold i.shard).0
+frame_back (frame.Presence s) h m = framed_presence (presence_data s) s (presence_back s).0
+frame_back (frame.Voice v) h m = framed_voice (voice_data v) v (voice_back v.guild v.channel v.self_mute v.self_deaf h.0 h.1)
+frame_back (frame.Resume r) h m = framed_resume (resume_data r) r (resume_back r).0
+frame_back (frame.Ask a) h m = framed_ask (ask_data a) a (ask_back a.guild a.find a.presences a.nonce h.0 h.1 m)
 
 count_plain : (n : Option ℕ) → Plain (nullable_count n)
 count_plain None = (omega arith, refl)
 count_plain (Some n) = (omega arith, refl)
 
 pub frame_plain : (f : Frame) → (depth (frame_data f) ≤ 10) × (has_float (frame_data f) ≡ false)
-frame_plain (frame.Heartbeat n) = framed_plain 1 _ (count_plain n)
-frame_plain (frame.Identify i) = framed_plain 2 _ (identify_back i.token i.intents i.large_threshold i.shard).1
-frame_plain (frame.Presence s) = framed_plain 3 _ (presence_back s).1
-frame_plain (frame.Voice v) = framed_plain 4 _ (voice_plain v.guild v.channel v.self_mute v.self_deaf)
-frame_plain (frame.Resume r) = framed_plain 6 _ (resume_back r).1
-frame_plain (frame.Ask a) = framed_plain 8 _ (ask_plain a.guild a.find a.presences a.nonce)
+frame_plain (frame.Heartbeat n) = framed_plain 1 (nullable_count n) (count_plain n)
+frame_plain (frame.Identify i) = framed_plain 2 (identify_data i) (identify_back i.token i.intents i.large_threshold i.shard).1
+frame_plain (frame.Presence s) = framed_plain 3 (presence_data s) (presence_back s).1
+frame_plain (frame.Voice v) = framed_plain 4 (voice_data v) (voice_plain v.guild v.channel v.self_mute v.self_deaf)
+frame_plain (frame.Resume r) = framed_plain 6 (resume_data r) (resume_back r).1
+frame_plain (frame.Ask a) = framed_plain 8 (ask_data a) (ask_plain a.guild a.find a.presences a.nonce)
