@@ -10,7 +10,7 @@ use Rattle.dispatch_types.specs.declared.dispatch.Dispatch.{Dispatch}
 use Rattle.dispatch_types.specs.declared.dispatch.Dispatch.TheVariants.{GuildCreate}
 use Rattle.dispatch_types.specs.Serves.{served}
 use Rattle.dispatch_types.specs.Projection.{projection}
-use Rattle.dispatch_types.specs.Fold.{Held, folded, fold_from}
+use Rattle.dispatch_types.specs.Fold.{Held, purge, folded, fold_from}
 use Rattle.edit_apply.specs.declared.Edit.{Edit}
 use Rattle.edit_apply.specs.declared.Edit.TheVariants as edit
 use Rattle.edit_apply.specs.declared.GuildEdit.TheVariants.{GuildOpen, GuildRename}
@@ -40,10 +40,14 @@ abbrev pub EditKeeps : Type 0
 EditKeeps = (s : Record) (e : Edit) (v : Viewer) (h : Held) → IsWell s → is_built e ≡ true → is_built_viewer v ≡ true
     → Agrees s v h → Agrees (after s e) v (fold_from v.intents s.id h (owed s e v))
 
--- of another guild it holds what it held
+-- a purge leaves a client that holds the projection as it is
+abbrev pub ProjectionStays : Type 0
+ProjectionStays = (s : Record) (v : Viewer) (h : Held) → IsWell s → Agrees s v h → purge v.intents s.id h ≡ h
+
+-- what is owed for an edit of another guild leaves a client that a purge leaves as it is
 abbrev pub OthersStay : Type 0
-OthersStay = (s t : Record) (e : Edit) (v : Viewer) (h : Held) → IsWell s → IsWell t → is_built e ≡ true → (s.id == t.id) ≡ false
-    → Agrees t v h → fold_from v.intents t.id h (owed s e v) ≡ h
+OthersStay = (s : Record) (e : Edit) (v : Viewer) (g : ℕ) (h : Held) → is_built e ≡ true → (s.id == g) ≡ false
+    → purge v.intents g h ≡ h → fold_from v.intents g h (owed s e v) ≡ h
 
 -- GUILD_CREATE of a served guild that is available brings the projection, whatever was held
 abbrev pub GreetingHolds : Type 0
@@ -51,5 +55,5 @@ GreetingHolds = (s : Record) (v : Viewer) (h : Held) (me : Member) → IsWell s 
     → has_bit v.intents guilds ≡ true → h.bot ≡ v.user → Agrees s v (folded v.intents s.id h (GuildCreate (greeting s v me)))
 
 abbrev pub GreetingStays : Type 0
-GreetingStays = (s t : Record) (v : Viewer) (h : Held) (me : Member) → IsWell t → (s.id == t.id) ≡ false
-    → Agrees t v h → folded v.intents t.id h (GuildCreate (greeting s v me)) ≡ h
+GreetingStays = (s : Record) (v : Viewer) (g : ℕ) (h : Held) (me : Member) → (s.id == g) ≡ false
+    → purge v.intents g h ≡ h → folded v.intents g h (GuildCreate (greeting s v me)) ≡ h
