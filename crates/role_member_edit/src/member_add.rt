@@ -44,5 +44,6 @@ pub fn apply(
         roles: ById::new(alloc),
         joined: at,
         timeout: None,
-    })
+    })?;
+    Ok(())
 }

@@ -39,5 +39,6 @@ pub fn apply(
         name,
         permissions: perms,
         position,
-    })
+    })?;
+    Ok(())
 }
