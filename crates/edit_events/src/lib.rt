@@ -1,4 +1,9 @@
-//! What an edit owes.
+//! What an edit of a guild owes to a viewer, and what a client then holds.
 #![tactic(auto)]
 
+pub mod create;
+pub mod due;
 pub mod law;
+
+pub use create::greeting;
+pub use due::{Was, events, note};
