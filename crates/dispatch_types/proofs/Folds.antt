@@ -42,7 +42,6 @@ guild_of (MessageReactionAdd reaction) = Some reaction.guild
 guild_of (MessageReactionRemove reaction) = Some reaction.guild
 guild_of (TypingStart guild channel user seconds) = Some guild
 
-
 unseen : (here : Bool) (f : OpenView → OpenView) → here ≡ false → (h : Held) → seen_by here f h ≡ h
 unseen here f other h = ap (λ b. seen_by b f h) other
 

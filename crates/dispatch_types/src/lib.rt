@@ -20,3 +20,6 @@ pub use serving::{served, serves};
 pub use threads::{BadCount, JoinedThread, ThreadCount, ThreadMemberObject, ThreadObject};
 pub use view::{GuildView, OpenView, ThreadView};
 pub use viewer::{BadShard, Shard, Viewer};
+
+#[cfg(test)]
+mod tests;

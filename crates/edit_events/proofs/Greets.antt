@@ -172,10 +172,10 @@ module _ (s : Record) (v : Viewer) (me : Member) (ascends : IsAscending s) (foun
       let view : OpenView = open_view s v.intents told_users me in
       let opens : told v.intents guilds (Open view) ≡ Some (Open view) = ap (λ b. if b then Some (Open view) else None) asks in
       let brings : on_open (purged v.intents s.id) (created_view v.intents h.bot (greeting s v me)) ≡ projection s v told_users =
-          ap (λ b. on_open (purged v.intents s.id) (created_view v.intents b (greeting s v me))) bot
-          ∙ (ap (on_open (purged v.intents s.id)) (created-told ∙ opens)
-          ∙ (ap (λ (w : OpenView). Some (Open w)) (purged-open s v.intents told_users me)
-          ∙ sym (projection-open s v told_users me asks is_served available))) in
+      ap (λ b. on_open (purged v.intents s.id) (created_view v.intents b (greeting s v me))) bot
+      ∙ (ap (on_open (purged v.intents s.id)) (created-told ∙ opens)
+      ∙ (ap (λ (w : OpenView). Some (Open w)) (purged-open s v.intents told_users me)
+      ∙ sym (projection-open s v told_users me asks is_served available))) in
       subst (λ (held : Held). Agrees s v held) (sym (folded-greeting h)) (record { bot = bot; view = brings })
 
 pub greeting_holds : GreetingHolds

@@ -82,11 +82,11 @@ pub follows : (s t : Record) (v : Viewer) (h : Held) (me me' : Member) (d : Disp
     → Agrees s v h → Agrees t v (folded v.intents s.id h d)
 follows s t v h me me' d f same asks before now here here' makes turns agrees =
     let brings : on_open (purged v.intents s.id) (on_open f h.view) ≡ projection t v h.known =
-        ap (λ o. on_open (purged v.intents s.id) (on_open f o)) (agrees.view ∙ projection-open s v h.known me asks before here)
-        ∙ (ap (λ (w : OpenView). Some (view.Open (purged v.intents s.id w))) turns
-        ∙ (ap (λ g. Some (view.Open (purged v.intents g (open_view t v.intents h.known me')))) (sym same)
-        ∙ (ap (λ (w : OpenView). Some (view.Open w)) (purged-open t v.intents h.known me')
-        ∙ sym (projection-open t v h.known me' asks now here')))) in
+    ap (λ o. on_open (purged v.intents s.id) (on_open f o)) (agrees.view ∙ projection-open s v h.known me asks before here)
+    ∙ (ap (λ (w : OpenView). Some (view.Open (purged v.intents s.id w))) turns
+    ∙ (ap (λ g. Some (view.Open (purged v.intents g (open_view t v.intents h.known me')))) (sym same)
+    ∙ (ap (λ (w : OpenView). Some (view.Open w)) (purged-open t v.intents h.known me')
+    ∙ sym (projection-open t v h.known me' asks now here')))) in
     subst (λ (held : Held). Agrees t v held) (sym makes) (record { bot = agrees.bot; view = brings })
 
 -- guild_open

@@ -40,10 +40,16 @@ module _ (s : Record) (v : Viewer) where
 
   -- what a viewer with this member is told
   unfoldable pub greeting : Member → GuildCreate
-  greeting me = record { id = s.id; name = s.name; owner = s.owner; roles = s.roles;
-      channels = map (channel_object s.id) s.channels;
-      members = map member_object (filter is_shown s.members);
-      member_count = length s.members; large = is_large s v;
-      threads = map thread_told (seen_threads s me);
-      voices = map voice_object (listed v.intents guild_voice_states s.voices);
-      presences = map (presence_object s.id) (filter is_told s.presences) }
+  greeting me = record {
+    id = s.id;
+    name = s.name;
+    owner = s.owner;
+    roles = s.roles;
+    channels = map (channel_object s.id) s.channels;
+    members = map member_object (filter is_shown s.members);
+    member_count = length s.members;
+    large = is_large s v;
+    threads = map thread_told (seen_threads s me);
+    voices = map voice_object (listed v.intents guild_voice_states s.voices);
+    presences = map (presence_object s.id) (filter is_told s.presences);
+  }

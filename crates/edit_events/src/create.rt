@@ -8,8 +8,8 @@ ghost use Rattle.dispatch_types.specs.Objects.{channel_object, member_object, vo
 ghost use Rattle.dispatch_types.specs.Projection.{listed, seen_threads};
 ghost use Rattle.edit_events.specs.Greeting.{is_large, is_near, is_shown, is_told, thread_told, greeting};
 
-use collections::by_id::copies;
 use collections::Seq;
+use collections::by_id::copies;
 use dispatch_types::{
     ChannelObject, GuildCreate, JoinedThread, MemberObject, PresenceObject, ThreadObject, Viewer,
     VoiceObject,
@@ -62,11 +62,7 @@ fn channels(alloc: Global, guild: &Guild) -> Result<Seq<ChannelObject>, AllocErr
     Ok(objects)
 }
 
-fn members(
-    alloc: Global,
-    guild: &Guild,
-    viewer: &Viewer,
-) -> Result<Seq<MemberObject>, AllocError>
+fn members(alloc: Global, guild: &Guild, viewer: &Viewer) -> Result<Seq<MemberObject>, AllocError>
     ensures { IfOk result (λ objects. objects ≡ map member_object (filter (is_shown guild.now viewer.now) guild.now.members)) }
 {
     let members = guild.members.as_slice();

@@ -7,3 +7,6 @@ pub mod law;
 
 pub use create::greeting;
 pub use due::{Was, events, note};
+
+#[cfg(test)]
+mod tests;
