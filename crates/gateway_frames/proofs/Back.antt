@@ -1,11 +1,9 @@
 -- Texts read back as the values that they were written for.
-use Rattle.std.proofs.Common.{◌≡◌, ℕ, ◌≤◌, List, length, Bool, false, Option, Some, None, Result, Ok, Err, IfOk, String, Global, string_bytes, refl, sym, ap, ◌∙◌, subst, arith}
+use Rattle.std.proofs.Common.{◌≡◌, ℕ, ◌≤◌, List, length, false, Some, Result, Ok, Err, IfOk, String, Global, string_bytes, ap, ◌∙◌, arith}
 use Rattle.std.specs.declared.alloc.AllocError.{AllocError}
 use Rattle.std.proofs.lemmas.Str.{IsUtf8-string_bytes}
-use Rattle.serde_json.specs.Data.{Data, null, boolean, object, string, no_members, member, depth}
+use Rattle.serde_json.specs.Data.{Data, depth}
 use Rattle.serde_json.specs.Read.{read, max_depth}
-use Rattle.serde_json.proofs.OnLiterals.{serde_json_on_literals}
-use Rattle.std.proofs.lemmas.Option.{none-some, same_Some}
 use Rattle.serde_json.specs.Written.{has_float, compact_text}
 use Rattle.std.specs.Prelude.{nat_lt}
 use Rattle.std.proofs.lemmas.Bool.Decides.{nat_tests}
@@ -16,8 +14,7 @@ use Rattle.gateway_frames.specs.Written.{frame_data, MaySend}
 use Rattle.json_view.proofs.Readings.{reading-IsUtf8}
 use Rattle.gateway_frames.specs.declared.out.Out.{Out}
 use Rattle.gateway_frames.specs.declared.out.Out.TheVariants.{Hello, Ack, Invalid, Reconnect, Resumed}
-use Rattle.gateway_frames.specs.Out.{out_data, IsNoDispatch}
-use Rattle.gateway_frames.specs.Candidate.{candidate}
+use Rattle.gateway_frames.specs.Out.{out_data}
 
 pub reads_as : (r : Result (String Global) AllocError) (d e : Data) → d ≡ e → depth e ≤ max_depth
     → IfOk r (λ s. depth d ≤ max_depth → read (string_bytes s) ≡ Some d) → IfOk r (λ s. reading (string_bytes s) ≡ Some e)

@@ -1,5 +1,5 @@
 -- What a frame is written as reads as that frame, nests little and has no float.
-use Rattle.std.proofs.Common.{◌≡◌, ℕ, ◌<◌, ◌≤◌, ◌^◌, List, [], ◌∷◌, map, length, Bool, true, false, ◌||◌, Option, Some, None, Result, Ok, Err, refl, sym, ap, ◌∙◌, arith}
+use Rattle.std.proofs.Common.{◌≡◌, ℕ, ◌≤◌, List, [], ◌∷◌, map, length, Bool, false, Option, Some, None, Ok, refl, arith}
 use Rattle.std.specs.Prelude.{nat_lt}
 use Rattle.std.proofs.lemmas.Bool.Decides.{nat_tests}
 use Rattle.serde_json.specs.Data.{Data, depth, items_depth}
@@ -8,7 +8,6 @@ use Rattle.serde_json.specs.View.{items_of}
 use Rattle.serde_json.specs.Written.{has_float, items_have_float}
 use Rattle.serde_json.proofs.OnLiterals.{serde_json_on_literals}
 use Rattle.snowflake_id.proofs.Texts.{id_of_decimal}
-use Rattle.gateway_frames.specs.declared.fault.FrameFault.{FrameFault}
 use Rattle.gateway_frames.specs.declared.frame.Frame.{Frame}
 use Rattle.gateway_frames.specs.declared.frame.Frame.TheVariants as frame
 use Rattle.gateway_frames.specs.declared.frame.Identify.{Identify}
