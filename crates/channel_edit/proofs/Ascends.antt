@@ -41,18 +41,30 @@ module _ (g : Record) (a : IsAscending g) where
       let n : Channel = new_channel g channel kind name parent position sync in
       let first : InOrder (first_overwrites g parent sync) = ordered_first parent sync in
       let ordered : HasOrderedOverwrites n = record { roles = first.roles; members = first.members } in
-      record { roles = a.roles; members = a.members;
+      record {
+        roles = a.roles;
+        members = a.members;
         channels = IsById-put channel_id n g.channels a.channels;
-        threads = a.threads; voices = a.voices; presences = a.presences; held = a.held;
+        threads = a.threads;
+        voices = a.voices;
+        presences = a.presences;
+        held = a.held;
         overwrites = All-put channel_id HasOrderedOverwrites n g.channels ordered a.overwrites;
-        joined = a.joined }
+        joined = a.joined;
+      }
 
   pub channel_changed : (at : ℕ) (f : Channel → Channel) → ((c : Channel) → channel_id (f c) ≡ channel_id c) → ((c : Channel) → HasOrderedOverwrites c → HasOrderedOverwrites (f c)) → IsAscending (with_channel_changed g at f)
-  channel_changed at f same keeps = record { roles = a.roles; members = a.members;
-      channels = IsById-changed channel_id at f g.channels same a.channels;
-      threads = a.threads; voices = a.voices; presences = a.presences; held = a.held;
-      overwrites = All-changed channel_id HasOrderedOverwrites at f g.channels keeps a.overwrites;
-      joined = a.joined }
+  channel_changed at f same keeps = record {
+    roles = a.roles;
+    members = a.members;
+    channels = IsById-changed channel_id at f g.channels same a.channels;
+    threads = a.threads;
+    voices = a.voices;
+    presences = a.presences;
+    held = a.held;
+    overwrites = All-changed channel_id HasOrderedOverwrites at f g.channels keeps a.overwrites;
+    joined = a.joined;
+  }
 
   pub updated : (channel : ℕ) (name : List ℕ) (parent : Option ℕ) (position : ℕ) → IsAscending (channel_updated g channel name parent position)
   updated channel name parent position =
@@ -78,12 +90,16 @@ module _ (g : Record) (a : IsAscending g) where
   pub channel_gone : (channel : ℕ) → IsAscending (channel_deleted g channel)
   channel_gone channel =
       let others : Channel → Bool = λ c. not (channel_id c == channel) in
-      record { roles = a.roles; members = a.members;
+      record {
+        roles = a.roles;
+        members = a.members;
         channels = IsById-map channel_id channel_id (orphaned channel) (λ c. refl) (filter others g.channels) (IsById-filter channel_id others g.channels a.channels);
         threads = IsById-filter thread_id (is_outside channel) g.threads a.threads;
         voices = IsById-filter voice_id (speaks_outside channel) g.voices a.voices;
-        presences = a.presences; held = a.held;
+        presences = a.presences;
+        held = a.held;
         overwrites = All-map HasOrderedOverwrites (orphaned channel) (filter others g.channels)
             (All-weaker HasOrderedOverwrites (λ c. HasOrderedOverwrites (orphaned channel c)) (λ c o. record { roles = o.roles; members = o.members }) (filter others g.channels)
-                (All-filter others HasOrderedOverwrites g.channels a.overwrites));
-        joined = All-filter (is_outside channel) (λ (t : Thread). IsById thread_member_id t.members) g.threads a.joined }
+            (All-filter others HasOrderedOverwrites g.channels a.overwrites));
+        joined = All-filter (is_outside channel) (λ (t : Thread). IsById thread_member_id t.members) g.threads a.joined;
+      }

@@ -41,7 +41,7 @@ pub set_as : (g : Record) (channel : ℕ) (kind : OverwriteKind) (o : Overwrite)
     → with_channel_changed g channel (with_overwrites os) ≡ overwrite_was_set g channel o.id kind o.allow o.deny
 set_as g channel kind o os e =
     let same : changed_id channel_id channel (with_overwrites os) g.channels ≡ changed_id channel_id channel (with_overwrite kind o) g.channels =
-        changed_alike channel_id channel _ _ g.channels (λ c found. rw (e, found) refl) in
+    changed_alike channel_id channel _ _ g.channels (λ c found. rw (e, found) refl) in
     ap (λ cs. record g { channels = cs }) same
 
 -- the parts of an answer
@@ -93,7 +93,7 @@ module _ (g : Record) (is_open : g.opened ≡ true) (h : IsConsistent g) where
       (λ id. has-changed channel_id at f same id g.channels)
       (λ id. ap is_parent (find-changed channel_id at f same id g.channels) ∙ same_kind (at == id) f (find_id channel_id id g.channels) kinds)
       (λ channel role c found there.
-          found_changed (at == channel) f c (find_id channel_id channel g.channels) keeps (λ c e role. h.overwritten channel role c e) (sym (find-changed channel_id at f same channel g.channels) ∙ found) role there)
+      found_changed (at == channel) f c (find_id channel_id channel g.channels) keeps (λ c e role. h.overwritten channel role c e) (sym (find-changed channel_id at f same channel g.channels) ∙ found) role there)
 
   pub updated : (channel : ℕ) (name : List ℕ) (parent : Option ℕ) (position : ℕ) → IsConsistent (channel_updated g channel name parent position)
   updated channel name parent position = channel_changed channel (with_settings name parent position) (λ c. refl) (λ c. refl) (λ c old. old)
@@ -166,7 +166,9 @@ module _ (g : Record) (is_open : g.opened ≡ true) (h : IsConsistent g) where
       let free = neither (has_id channel_id channel g.channels) (has_id thread_id channel g.threads) (place_free g channel kind name parent accepted) in
       record {
         empty = λ closed. absurd (cc (is_open, closed));
-        everyone = h.everyone; owner = h.owner; held = h.held;
+        everyone = h.everyone;
+        owner = h.owner;
+        held = h.held;
         overwritten = λ id role c found there.
             found_put (channel == id) c n (find_id channel_id id g.channels) (covered_first parent sync) (λ e role. h.overwritten id role c e) (sym (find-put channel_id n id g.channels) ∙ found) role there;
         voices = λ user v found. let old = h.voices user v found in (old.0, has-kept channel_id n v.channel g.channels old.1);
@@ -178,7 +180,8 @@ module _ (g : Record) (is_open : g.opened ≡ true) (h : IsConsistent g) where
         joined = h.joined;
         apart = λ id there. apart_from channel id free.1 (sym (has-put channel_id n id g.channels) ∙ there);
         places = All-weaker (λ (m : MessageHead). is_place g m.place ≡ true) (λ (m : MessageHead). is_place (channel_created g channel kind name parent position sync) m.place ≡ true)
-            (λ m there. still_place n m.place there) g.messages h.places }
+            (λ m there. still_place n m.place there) g.messages h.places;
+      }
     where
       apart_from : (channel id : ℕ) → has_id thread_id channel g.threads ≡ false → ((channel == id) || has_id channel_id id g.channels) ≡ true → has_id thread_id id g.threads ≡ false
       apart_from channel id free there = by_test (channel == id) refl there
@@ -244,27 +247,30 @@ module _ (g : Record) (is_open : g.opened ≡ true) (h : IsConsistent g) where
 
     pub channel_gone : IsConsistent (channel_deleted g channel)
     channel_gone = record {
-        empty = λ closed. absurd (cc (is_open, closed));
-        everyone = h.everyone; owner = h.owner; held = h.held;
-        overwritten = λ id role c found there.
-            let was = found-map (orphaned channel) (if channel == id then None else find_id channel_id id g.channels) c (sym (find_left id) ∙ found) in
-            let old = found_left (channel == id) (find_id channel_id id g.channels) was.0 was.1.0 in
-            h.overwritten id role was.0 old.1 (sym (ap (λ (c : Channel). has_id overwrite_id role c.overwrites.roles) was.1.1) ∙ there);
-        voices = λ user v found.
-            let was = voice_was user v found in
-            let old = h.voices user v was.0 in
-            (old.0, stays v.channel (two_sides v.channel channel was.1) old.1);
-        presences = h.presences;
-        parents = λ thread t found.
-            let was = thread_was thread t found in
-            ap is_parent (find_left t.parent) ∙ parent_left (channel == t.parent) (find_id channel_id t.parent g.channels) (two_sides t.parent channel was.1) (h.parents thread t was.0);
-        joined = λ thread user t found there. h.joined thread user t (thread_was thread t found).0 there;
-        apart = λ id there.
-            let had = both (channel == id) (has_id channel_id id g.channels) (sym (has_left id) ∙ there) in
-            ap is_some (find-filter thread_id (is_outside channel) id g.threads threads_ascend) ∙ keep_none (is_outside channel) (find_id thread_id id g.threads) (h.apart id had);
-        places = λ k d lt.
-            place_left (slice_index_or (filter (stands_outside g.threads channel) g.messages) k d) (All-filter (stands_outside g.threads channel) (λ (m : MessageHead). is_place g m.place ≡ true) g.messages h.places k d lt)
-            (filter_passes (stands_outside g.threads channel) g.messages k d lt) }
+      empty = λ closed. absurd (cc (is_open, closed));
+      everyone = h.everyone;
+      owner = h.owner;
+      held = h.held;
+      overwritten = λ id role c found there.
+          let was = found-map (orphaned channel) (if channel == id then None else find_id channel_id id g.channels) c (sym (find_left id) ∙ found) in
+          let old = found_left (channel == id) (find_id channel_id id g.channels) was.0 was.1.0 in
+          h.overwritten id role was.0 old.1 (sym (ap (λ (c : Channel). has_id overwrite_id role c.overwrites.roles) was.1.1) ∙ there);
+      voices = λ user v found.
+          let was = voice_was user v found in
+          let old = h.voices user v was.0 in
+          (old.0, stays v.channel (two_sides v.channel channel was.1) old.1);
+      presences = h.presences;
+      parents = λ thread t found.
+          let was = thread_was thread t found in
+          ap is_parent (find_left t.parent) ∙ parent_left (channel == t.parent) (find_id channel_id t.parent g.channels) (two_sides t.parent channel was.1) (h.parents thread t was.0);
+      joined = λ thread user t found there. h.joined thread user t (thread_was thread t found).0 there;
+      apart = λ id there.
+          let had = both (channel == id) (has_id channel_id id g.channels) (sym (has_left id) ∙ there) in
+          ap is_some (find-filter thread_id (is_outside channel) id g.threads threads_ascend) ∙ keep_none (is_outside channel) (find_id thread_id id g.threads) (h.apart id had);
+      places = λ k d lt.
+          place_left (slice_index_or (filter (stands_outside g.threads channel) g.messages) k d) (All-filter (stands_outside g.threads channel) (λ (m : MessageHead). is_place g m.place ≡ true) g.messages h.places k d lt)
+          (filter_passes (stands_outside g.threads channel) g.messages k d lt);
+    }
       where
         both : (b c : Bool) → (not b && c) ≡ true → c ≡ true
         both true c e = absurd (cc)
