@@ -1,0 +1,4 @@
+pub mod State
+pub mod Identify
+pub mod Frames
+pub mod Kept
