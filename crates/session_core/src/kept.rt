@@ -1,7 +1,5 @@
 //! What is kept of connections and sessions, by their numbers.
 
-ghost use Rattle.std.specs.Prelude.{◌≡◌};
-
 use collections::Text;
 use dispatch_types::Viewer;
 

@@ -1,8 +1,20 @@
+ghost use Rattle.std.specs.Prelude.{◌≡◌, false, nat_lt, ◌∷◌, [], length, map, is_some, IfOk, OnOk, OnErr};
+ghost use Rattle.session_core.specs.State.{no_sessions, has_link, with_link, opened, open_replies, heard};
+
 use crate::Bot;
+use crate::Reply;
+use crate::close::UNKNOWN_ERROR;
 use crate::kept::{Line, Live};
+use gateway_frames::Out;
 use indexmap::IndexMap;
-use std::alloc::Global;
+use std::alloc::{AllocError, Global};
 use std::marker::Model;
+
+/// The most connections that a worker has at a time.
+const MAX_LINKS: usize = 64;
+
+/// The milliseconds between heartbeats (Gateway, Hello event).
+const HEARTBEAT_INTERVAL: u64 = 41_250;
 
 /// The connections and sessions of one worker (Gateway, Connection Lifecycle).
 #[derive(Drop)]
@@ -29,9 +41,6 @@ impl Model for Sessions {
 }
 
 impl Sessions {
-    ghost use Rattle.std.specs.Prelude.{◌≡◌};
-    ghost use Rattle.session_core.specs.State.{no_sessions};
-
     /// A worker without connections and sessions.
     pub fn new(alloc: Global, worker: u8, bots: Vec<Bot>) -> Sessions
         ensures { result ≡ no_sessions worker bots.items }
@@ -44,5 +53,63 @@ impl Sessions {
             links: IndexMap::new(alloc),
             live: IndexMap::new(alloc),
         }
+    }
+
+    /// Whether a connection is open.
+    fn is_open(&self, conn: u32) -> bool
+        ensures { result ≡ has_link conn self.now }
+    {
+        self.links.contains_key(&conn)
+    }
+
+    /// Whether a further connection is served.
+    fn has_room(&self) -> bool
+        ensures { result ≡ nat_lt (length self.now.links) 64 }
+    {
+        self.links.len() < MAX_LINKS
+    }
+
+    /// Adds a connection that is not open.
+    fn add(&mut self, conn: u32, now: u64) -> Result<(), AllocError>
+        requires { has_link conn self.old ≡ false }
+        ensures ok { OnOk result (self.new ≡ with_link conn now self.old) }
+        ensures err { OnErr result (self.new ≡ self.old) }
+    {
+        let line = Line {
+            heard: now,
+            session: None,
+        };
+        self.links.insert(conn, line)?;
+        Ok(())
+    }
+
+    /// A client has connected (Gateway, Hello event). Where it is open already nothing comes of it,
+    /// and where there is no room it is closed. An `Err` changes nothing.
+    pub fn open(&mut self, conn: u32, now: u64) -> Result<Vec<Reply>, AllocError>
+        ensures replies { IfOk result (λ replies. replies.items ≡ open_replies conn self.old) }
+        ensures opened { OnOk result (self.new ≡ opened conn now self.old) }
+        ensures err { OnErr result (self.new ≡ self.old) }
+    {
+        if self.is_open(conn) {
+            return Ok(Vec::new(self.alloc));
+        }
+        if !self.has_room() {
+            let replies = vec![in self.alloc; Reply::Close(conn, UNKNOWN_ERROR)]?;
+            return Ok(replies);
+        }
+        let hello = Out::Hello(HEARTBEAT_INTERVAL);
+        let replies = vec![in self.alloc; Reply::Send(conn, hello)]?;
+        self.add(conn, now)?;
+        Ok(replies)
+    }
+
+    /// A heartbeat has come.
+    fn hear(&mut self, conn: u32, now: u64)
+        ensures { self.new ≡ heard conn now self.old }
+    {
+        let Some(line) = self.links.get_mut(&conn) else {
+            return;
+        };
+        line.heard = now;
     }
 }
