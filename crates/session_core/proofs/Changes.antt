@@ -133,3 +133,15 @@ IsKept-tie made lines lines' old new c l x kept free here there once is once' is
   where
     new_number : conn_at old (made + 1) ≡ None
     new_number = rw (kept.counted (made + 1) (omega arith)) refl
+
+-- ---- one connection is heard
+
+-- the connection, heard at a moment
+abbrev pub heard_line : Line → ℕ → Line
+heard_line l now = record l { heard = now }
+
+pub IsKept-heard : (made : ℕ) (old new : List (ℕ × Line)) (sessions : List (ℕ × Live)) (c now : ℕ) (l : Line)
+    → IsKept made old sessions → lookup (nat_eq c) old ≡ Some l → IsDistinct nat_eq (keys_of new) → IsSetAt c (Some (heard_line l now)) old new
+    → IsKept made new sessions
+IsKept-heard made old new sessions c now l kept there once is =
+    IsKept-line made old new sessions c (Some (heard_line l now)) kept once is (rw there refl)

@@ -1,7 +1,8 @@
 -- What is kept by numbers, and the lists that it stands for.
-use Rattle.std.proofs.Common.{◌≡◌, ℕ, List, [], ◌∷◌, map, filter, not, Bool, true, false, cond, if◌then◌else◌, Option, Some, None, is_some, refl, sym, ap, subst, ◌∙◌, arith, eqb-true, eq-eqb, nat_eq, ◌==◌, inl, inr}
+use Rattle.std.proofs.Common.{◌≡◌, ℕ, List, [], ◌∷◌, ◌++◌, map, filter, not, Bool, true, false, cond, if◌then◌else◌, Option, Some, None, is_some, refl, sym, ap, subst, ◌∙◌, arith, eqb-true, eq-eqb, nat_eq, ◌==◌, inl, inr}
 use Rattle.std.specs.List.{find, list_any, IsDistinct, AllByRecursion}
 use Rattle.std.specs.Map.{lookup, keys_of, set_value, remove_entry}
+use Rattle.std.proofs.lemmas.List.{map-append}
 use Rattle.std.proofs.lemmas.Bool.{cases_Bool, false_from_ne_true}
 use Rattle.std.proofs.lemmas.Bool.Decides.{nat_tests}
 use Rattle.std.proofs.lemmas.Map.{lookup-none, NonePasses}
@@ -36,10 +37,18 @@ pub has_link-kept : (lines : List (ℕ × Line)) (c : ℕ) → list_any (λ (l :
 has_link-kept [] c = refl
 has_link-kept (e ∷ es) c = grind (arith, nat_tests, has_link-kept es c)
 
-abbrev heard_at : ℕ → ℕ → Link → Link
+pub absent-link : (lines : List (ℕ × Line)) (c : ℕ) → list_any (λ (l : Link). l.number == c) (map link_of lines) ≡ false → lookup (nat_eq c) lines ≡ None
+absent-link lines c closed =
+    let none : is_some (lookup (nat_eq c) lines) ≡ false = sym (has_link-kept lines c) ∙ closed in
+    grind (arith, none)
+
+pub added-kept : (old new : List (ℕ × Line)) (e : ℕ × Line) → new ≡ old ++ e ∷ [] → map link_of new ≡ map link_of old ++ link_of e ∷ []
+added-kept old new e is = rw is (map-append link_of old (e ∷ []))
+
+abbrev pub heard_at : ℕ → ℕ → Link → Link
 heard_at c now l = if l.number == c then record l { heard = now } else l
 
-heard-absent : (lines : List (ℕ × Line)) (c now : ℕ) → lookup (nat_eq c) lines ≡ None → map (heard_at c now) (map link_of lines) ≡ map link_of lines
+pub heard-absent : (lines : List (ℕ × Line)) (c now : ℕ) → lookup (nat_eq c) lines ≡ None → map (heard_at c now) (map link_of lines) ≡ map link_of lines
 heard-absent [] c now absent = refl
 heard-absent (e ∷ es) c now absent = grind (arith, nat_tests, heard-absent es c now)
 
