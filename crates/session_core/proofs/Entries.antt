@@ -42,8 +42,13 @@ absent-link lines c closed =
     let none : is_some (lookup (nat_eq c) lines) ≡ false = sym (has_link-kept lines c) ∙ closed in
     grind (arith, none)
 
-pub added-kept : (old new : List (ℕ × Line)) (e : ℕ × Line) → new ≡ old ++ e ∷ [] → map link_of new ≡ map link_of old ++ link_of e ∷ []
-added-kept old new e is = rw is (map-append link_of old (e ∷ []))
+pub open-absent : (lines : List (ℕ × Line)) (c : ℕ) → list_any (λ (l : Link). l.number == c) (map link_of lines) ≡ true → lookup (nat_eq c) lines ≡ None → ⊥
+open-absent lines c opened absent =
+    let there : is_some (lookup (nat_eq c) lines) ≡ true = sym (has_link-kept lines c) ∙ opened in
+    grind (arith, there, absent)
+
+pub added-kept : {V W : Type 0} (f : ℕ × V → W) (old new : List (ℕ × V)) (e : ℕ × V) → new ≡ old ++ e ∷ [] → map f new ≡ map f old ++ f e ∷ []
+added-kept f old new e is = rw is (map-append f old (e ∷ []))
 
 abbrev pub heard_at : ℕ → ℕ → Link → Link
 heard_at c now l = if l.number == c then record l { heard = now } else l
@@ -61,6 +66,18 @@ heard-kept (e ∷ es) c now l once there =
     | inr apart ↦
         let later : lookup (nat_eq c) es ≡ Some l = rw apart at there in
         grind (arith, nat_tests, apart, heard-kept es c now l (once-after e es once) later)
+    ]
+
+-- whose session it has is not seen
+pub tied-kept : (lines : List (ℕ × Line)) (c : ℕ) (l : Line) (session : Option ℕ) → lookup (nat_eq c) lines ≡ Some l
+    → map link_of (set_value (nat_eq c) lines (record l { session = session })) ≡ map link_of lines
+tied-kept [] c l session there = refl
+tied-kept (e ∷ es) c l session there =
+    elim (cases_Bool (nat_eq c e.0)) [
+    | inl same ↦ grind (arith, same, there)
+    | inr apart ↦
+        let later : lookup (nat_eq c) es ≡ Some l = rw apart at there in
+        grind (arith, apart, tied-kept es c l session later)
     ]
 
 without-absent : (lines : List (ℕ × Line)) (c : ℕ) → lookup (nat_eq c) lines ≡ None → filter (λ (l : Link). not (l.number == c)) (map link_of lines) ≡ map link_of lines

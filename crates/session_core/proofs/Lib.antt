@@ -1,2 +1,4 @@
 pub mod Entries
 pub mod Changes
+pub mod Intents
+pub mod Sides

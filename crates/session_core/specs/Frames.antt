@@ -1,5 +1,5 @@
 -- What a frame is answered: the first row that fits decides (Gateway, Opcodes and Status Codes).
-use Rattle.std.specs.Prelude.{ℕ, ◌+◌, ◌-◌, ◌^◌, ◌==◌, List, [], ◌∷◌, Bool, true, false, Result, Ok, Err, if◌then◌else◌}
+use Rattle.std.specs.Prelude.{◌≡◌, ℕ, ◌+◌, ◌-◌, ◌^◌, ◌==◌, List, [], ◌∷◌, Bool, true, false, Result, Ok, Err, if◌then◌else◌}
 use Rattle.dispatch_types.specs.declared.viewer.Viewer.{Viewer}
 use Rattle.gateway_frames.specs.declared.frame.Identify.{Identify as Asked}
 use Rattle.gateway_frames.specs.declared.frame.Frame.{Frame}
@@ -9,6 +9,8 @@ use Rattle.gateway_frames.specs.declared.fault.FrameFault.TheVariants.{TooLong, 
 use Rattle.gateway_frames.specs.declared.out.Out.TheVariants.{Ack}
 use Rattle.gateway_frames.specs.Read.{frame_of}
 use Rattle.session_core.specs.declared.bot.Bot.{Bot}
+use Rattle.session_core.specs.declared.fault.SessionFault.{SessionFault}
+use Rattle.session_core.specs.declared.fault.SessionFault.TheVariants as fault
 use Rattle.session_core.specs.declared.reply.Reply.{Reply}
 use Rattle.session_core.specs.declared.reply.Reply.TheVariants.{Send, Close, Begin}
 use Rattle.session_core.specs.State.{State, Place, Detached, has_link, has_session, gone, heard, begun}
@@ -76,3 +78,12 @@ module _ {A : Type 0} where
   is_spent Answers s = false
   is_spent (Shuts code) s = false
   is_spent (Begins bot viewer) s = s.made == 2 ^ 32 - 1
+
+-- what a call leaves that makes a move, by what it returns
+abbrev pub Done : (conn now : ℕ) → Move → State ℕ → State ℕ → List Reply → Type 0
+Done conn now move old new replies =
+    (replies ≡ move_replies conn move old) × (new ≡ moved conn now (λ bot viewer n. 0) move old) × (is_spent move old ≡ false)
+
+abbrev pub Refused : Move → State ℕ → State ℕ → SessionFault → Type 0
+Refused move old new fault.Spent = (is_spent move old ≡ true) × (new ≡ old)
+Refused move old new fault.Memory = new ≡ old

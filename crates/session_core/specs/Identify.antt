@@ -24,6 +24,14 @@ is_no_shard (Some shard) = (shard.1 == 0) || not (nat_lt shard.0 shard.1)
 abbrev pub goes_beyond : ℕ → ℕ → Bool
 goes_beyond intents privileged = list_any (λ b. has_bit intents b && not (has_bit privileged b)) privileged_bits
 
+-- the set of these bits, if it is one of intents
+abbrev pub intents_if : ℕ → Option ℕ
+intents_if bits = if are_intents bits then Some bits else None
+
+-- the shard, or none where none is given, if it is one
+abbrev pub shard_if : Option (ℕ × ℕ) → Option (Option (ℕ × ℕ))
+shard_if shard = if is_no_shard shard then None else Some shard
+
 -- 50 where none is given, and from 50 to 250
 abbrev pub threshold_of : Option ℕ → ℕ
 threshold_of None = 50
@@ -44,6 +52,16 @@ judged sessions i bot =
 abbrev pub judged_of : (sessions : ℕ) → Identify → Option Bot → Result Bot ℕ
 judged_of sessions i None = Err 4004
 judged_of sessions i (Some bot) = judged sessions i bot
+
+-- whom its dispatches are for
+abbrev pub viewer_as : Identify → Result Bot ℕ → Result Viewer ℕ
+viewer_as i (Ok bot) = Ok (viewer_of bot i)
+viewer_as i (Err code) = Err code
+
+-- the bot with its viewer
+abbrev pub start_as : Identify → Result Bot ℕ → Result (Bot × Viewer) ℕ
+start_as i (Ok bot) = Ok (bot, viewer_of bot i)
+start_as i (Err code) = Err code
 
 -- the bot that may begin a session, or the code by which it may not
 unfoldable pub identified : {A : Type 0} → State A → Identify → Result Bot ℕ

@@ -2,6 +2,8 @@
 use Rattle.std.specs.Prelude.{◌≡◌, ℕ, ◌<◌, List, map, Option, Some, None, option_and_then, ◌↔◌, nat_eq}
 use Rattle.std.specs.List.{IsDistinct}
 use Rattle.std.specs.Map.{lookup, keys_of}
+use Rattle.dispatch_types.specs.declared.viewer.Viewer.{Viewer}
+use Rattle.session_core.specs.declared.bot.Bot.{Bot}
 use Rattle.session_core.specs.declared.kept.Line.{Line}
 use Rattle.session_core.specs.declared.kept.Live.{Live}
 use Rattle.session_core.specs.declared.kept.Hold.{Hold}
@@ -21,6 +23,10 @@ link_of e = record { number = e.0; heard = e.1.heard }
 
 abbrev pub session_of : ℕ × Live → Session ℕ
 session_of e = record { number = e.0; token = e.1.token; name = e.1.name; viewer = e.1.viewer; place = place_of e.1.hold; sent = e.1.sent }
+
+-- what is kept of a session on a connection that had no dispatch yet
+abbrev pub new_live : Bot → Viewer → ℕ → Live
+new_live bot viewer conn = record { token = bot.token; name = bot.name; viewer = viewer; hold = hold.Attached conn; sent = 0 }
 
 -- the session of a connection
 abbrev pub session_at : List (ℕ × Line) → ℕ → Option ℕ

@@ -1,3 +1,7 @@
+ghost use Rattle.std.specs.Prelude.{◌≡◌, IfOk};
+
+use std::alloc::{AllocError, Global};
+
 use collections::Text;
 use intent_set::Intents;
 use snowflake_id::Snowflake;
@@ -13,4 +17,19 @@ pub struct Bot {
     pub name: Text,
     /// The privileged intents that it may ask for.
     pub privileged: Intents,
+}
+
+impl Bot {
+    pub(crate) fn copy(&self, alloc: Global) -> Result<Bot, AllocError>
+        ensures { IfOk result (λ copy. copy ≡ self.now) }
+    {
+        let token = self.token.copy(alloc)?;
+        let name = self.name.copy(alloc)?;
+        Ok(Bot {
+            token,
+            user: self.user,
+            name,
+            privileged: self.privileged,
+        })
+    }
 }

@@ -1,5 +1,9 @@
 //! What is kept of connections and sessions, by their numbers.
 
+
+ghost use Rattle.std.specs.Prelude.{◌≡◌};
+
+use crate::Bot;
 use collections::Text;
 use dispatch_types::Viewer;
 
@@ -30,4 +34,21 @@ pub struct Live {
     pub hold: Hold,
     /// How many dispatches it had.
     pub sent: u64,
+}
+
+impl Live {
+    ghost use Rattle.session_core.specs.Kept.{new_live};
+
+    /// A session on a connection that had no dispatch yet.
+    pub fn new(bot: Bot, viewer: Viewer, conn: u32) -> Live
+        ensures { result ≡ new_live bot viewer conn }
+    {
+        Live {
+            token: bot.token,
+            name: bot.name,
+            viewer,
+            hold: Hold::Attached(conn),
+            sent: 0,
+        }
+    }
 }

@@ -1,10 +1,11 @@
-ghost use Rattle.std.specs.Prelude.{◌≡◌, false, nat_lt, ◌∷◌, [], length, map, is_some, IfOk, OnOk, OnErr};
-ghost use Rattle.session_core.specs.State.{no_sessions, has_link, with_link, opened, open_replies, heard};
+ghost use Rattle.std.specs.Prelude.{◌≡◌, ◌<◌, ◌^◌, ◌-◌, true, false, nat_lt, ◌∷◌, [], length, map, is_some, IfOk, OnOk, OnErr};
+ghost use Rattle.session_core.specs.State.{no_sessions, has_session, gone, begun, Detached, has_link, with_link, opened, open_replies, heard};
 
 use crate::Bot;
 use crate::Reply;
 use crate::close::UNKNOWN_ERROR;
-use crate::kept::{Line, Live};
+use crate::kept::{Hold, Line, Live};
+use dispatch_types::Viewer;
 use gateway_frames::Out;
 use indexmap::IndexMap;
 use std::alloc::{AllocError, Global};
@@ -111,5 +112,49 @@ impl Sessions {
             return;
         };
         line.heard = now;
+    }
+
+    /// Whether a connection has a session.
+    fn has_session(&self, conn: u32) -> bool
+        ensures { result ≡ has_session conn self.now }
+    {
+        match self.links.get(&conn) {
+            Some(line) => line.session.is_some(),
+            None => false,
+        }
+    }
+
+    /// A connection is gone. Its session stays without one.
+    fn detach(&mut self, conn: u32, now: u64)
+        ensures { self.new ≡ gone conn (Detached now) self.old }
+    {
+        let Some(line) = self.links.shift_remove(&conn) else {
+            return;
+        };
+        let Some(number) = line.session else {
+            return;
+        };
+        let Some(session) = self.live.get_mut(&number) else {
+            return;
+        };
+        session.hold = Hold::Detached(now);
+    }
+
+    /// Adds a session on a connection that has none.
+    fn add_session(&mut self, conn: u32, bot: Bot, viewer: Viewer) -> Result<(), AllocError>
+        requires linked { has_link conn self.old ≡ true }
+        requires free { has_session conn self.old ≡ false }
+        requires counted { self.old.made < 2 ^ 32 - 1 }
+        ensures ok { OnOk result (self.new ≡ begun conn bot viewer (λ n. 0) self.old) }
+        ensures err { OnErr result (self.new ≡ self.old) }
+    {
+        let number = self.made + 1;
+        self.live.insert(number, Live::new(bot, viewer, conn))?;
+        self.made = number;
+        let Some(line) = self.links.get_mut(&conn) else {
+            return Ok(());
+        };
+        line.session = Some(number);
+        Ok(())
     }
 }

@@ -3,6 +3,7 @@ use Rattle.std.specs.Map.{lookup}
 use Rattle.std.specs.Option.{option_and_then}
 use Rattle.indexmap.proofs.CallerLemmas.{insert_entry-new}
 use Rattle.session_core.specs.declared.kept.Line.{Line}
+use Rattle.session_core.specs.Kept.{link_of}
 use Rattle.session_core.proofs.Entries.{absent-link, added-kept}
 use Rattle.session_core.proofs.Changes.{IsKept-line}
 use Rattle.session_core.proofs.sessions.Sessions.add.Goals as goal
@@ -22,6 +23,6 @@ returns-clause-ok c =
     let l : Line = record { heard = c.args.now; session = None } in
     let absent : lookup (nat_eq c.args.conn) c.self.inside.links.entries ≡ None =
         absent-link c.self.inside.links.entries c.args.conn (rw (← c.self.view_is) at c.requires) in
-    let links = added-kept c.self.inside.links.entries c.insert.new.self.entries (c.args.conn, l)
+    let links = added-kept link_of c.self.inside.links.entries c.insert.new.self.entries (c.args.conn, l)
         (h.entries ∙ insert_entry-new nat_eq c.self.inside.links c.args.conn l absent) in
     rw (← c.self.view_is, links) refl
