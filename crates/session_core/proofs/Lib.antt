@@ -2,3 +2,4 @@ pub mod Entries
 pub mod Changes
 pub mod Intents
 pub mod Sides
+pub mod Starts

@@ -4,6 +4,7 @@
 mod bot;
 mod close;
 mod fault;
+mod frames;
 mod judge;
 mod kept;
 mod reply;

@@ -1,12 +1,14 @@
 ghost use Rattle.std.specs.Prelude.{◌≡◌, ◌<◌, ◌^◌, ◌-◌, true, false, nat_lt, ◌∷◌, [], length, map, is_some, IfOk, OnOk, OnErr};
-ghost use Rattle.session_core.specs.State.{no_sessions, has_session, gone, begun, Detached, has_link, with_link, opened, open_replies, heard};
+ghost use Rattle.session_core.specs.State.{no_sessions, live, has_session, gone, begun, Detached, has_link, with_link, opened, open_replies, heard};
+ghost use Rattle.session_core.specs.Identify.{identified, start_as};
 
 use crate::Bot;
 use crate::Reply;
-use crate::close::UNKNOWN_ERROR;
+use crate::close::{AUTHENTICATION_FAILED, UNKNOWN_ERROR};
+use crate::judge::{bot_of, judge};
 use crate::kept::{Hold, Line, Live};
 use dispatch_types::Viewer;
-use gateway_frames::Out;
+use gateway_frames::{Identify, Out};
 use indexmap::IndexMap;
 use std::alloc::{AllocError, Global};
 use std::marker::Model;
@@ -41,6 +43,14 @@ impl Model for Sessions {
     ghost invariant = { λ s. IsKept s.made s.links.entries s.live.entries };
 }
 
+/// One reply alone.
+pub(crate) fn one(alloc: Global, reply: Reply) -> Result<Vec<Reply>, AllocError>
+    ensures { IfOk result (λ replies. replies.items ≡ reply ∷ []) }
+{
+    let replies = vec![in alloc; reply]?;
+    Ok(replies)
+}
+
 impl Sessions {
     /// A worker without connections and sessions.
     pub fn new(alloc: Global, worker: u8, bots: Vec<Bot>) -> Sessions
@@ -56,8 +66,45 @@ impl Sessions {
         }
     }
 
+    pub(crate) fn alloc(&self) -> Global {
+        self.alloc
+    }
+
+    /// How many sessions were made.
+    pub(crate) fn made(&self) -> u32
+        ensures { result ≡ self.now.made }
+    {
+        self.made
+    }
+
+    /// How many live sessions there are.
+    pub fn len(&self) -> usize
+        ensures sessions { result ≡ length self.now.sessions }
+        ensures live { result ≡ length (live self.now) }
+    {
+        self.live.len()
+    }
+
+    /// The bot that may begin a session, and whom its dispatches are for, or the code by which it
+    /// may not (Gateway Events, Identify).
+    #[tactic(auto, unfolding(crate::specs::Identify::identified))]
+    pub(crate) fn identify(
+        &self,
+        identify: &Identify,
+    ) -> Result<Result<(Bot, Viewer), u16>, AllocError>
+        ensures { IfOk result (λ start. start ≡ start_as identify.now (identified self.now identify.now)) }
+    {
+        let Some(bot) = bot_of(self.bots.as_slice(), identify.token.as_str()) else {
+            return Ok(Err(AUTHENTICATION_FAILED));
+        };
+        match judge(self.len(), identify, bot) {
+            Err(code) => Ok(Err(code)),
+            Ok(viewer) => Ok(Ok((bot.copy(self.alloc)?, viewer))),
+        }
+    }
+
     /// Whether a connection is open.
-    fn is_open(&self, conn: u32) -> bool
+    pub(crate) fn is_open(&self, conn: u32) -> bool
         ensures { result ≡ has_link conn self.now }
     {
         self.links.contains_key(&conn)
@@ -95,17 +142,16 @@ impl Sessions {
             return Ok(Vec::new(self.alloc));
         }
         if !self.has_room() {
-            let replies = vec![in self.alloc; Reply::Close(conn, UNKNOWN_ERROR)]?;
-            return Ok(replies);
+            return one(self.alloc, Reply::Close(conn, UNKNOWN_ERROR));
         }
         let hello = Out::Hello(HEARTBEAT_INTERVAL);
-        let replies = vec![in self.alloc; Reply::Send(conn, hello)]?;
+        let replies = one(self.alloc, Reply::Send(conn, hello))?;
         self.add(conn, now)?;
         Ok(replies)
     }
 
     /// A heartbeat has come.
-    fn hear(&mut self, conn: u32, now: u64)
+    pub(crate) fn hear(&mut self, conn: u32, now: u64)
         ensures { self.new ≡ heard conn now self.old }
     {
         let Some(line) = self.links.get_mut(&conn) else {
@@ -115,7 +161,7 @@ impl Sessions {
     }
 
     /// Whether a connection has a session.
-    fn has_session(&self, conn: u32) -> bool
+    pub(crate) fn has_session(&self, conn: u32) -> bool
         ensures { result ≡ has_session conn self.now }
     {
         match self.links.get(&conn) {
@@ -125,7 +171,7 @@ impl Sessions {
     }
 
     /// A connection is gone. Its session stays without one.
-    fn detach(&mut self, conn: u32, now: u64)
+    pub(crate) fn detach(&mut self, conn: u32, now: u64)
         ensures { self.new ≡ gone conn (Detached now) self.old }
     {
         let Some(line) = self.links.shift_remove(&conn) else {
@@ -141,7 +187,7 @@ impl Sessions {
     }
 
     /// Adds a session on a connection that has none.
-    fn add_session(&mut self, conn: u32, bot: Bot, viewer: Viewer) -> Result<(), AllocError>
+    pub(crate) fn add_session(&mut self, conn: u32, bot: Bot, viewer: Viewer) -> Result<(), AllocError>
         requires linked { has_link conn self.old ≡ true }
         requires free { has_session conn self.old ≡ false }
         requires counted { self.old.made < 2 ^ 32 - 1 }
