@@ -3,3 +3,4 @@ pub mod Changes
 pub mod Intents
 pub mod Sides
 pub mod Starts
+pub mod Places

@@ -2,3 +2,4 @@ pub mod State
 pub mod Identify
 pub mod Frames
 pub mod Kept
+pub mod Pushes

@@ -124,10 +124,8 @@ impl Sessions {
         ensures spent { result ≡ Err Spent → is_spent (move_of self.old conn text.now) self.old ≡ true }
         ensures err { OnErr result (self.new ≡ self.old) }
     {
-        match self.handle(conn, text, now) {
-            Ok(replies) => Ok(replies),
-            Err(fault) => Err(fault),
-        }
+        let replies = self.handle(conn, text, now)?;
+        Ok(replies)
     }
 
     fn handle(

@@ -52,3 +52,17 @@ impl Live {
         }
     }
 }
+
+impl Hold {
+    ghost use Rattle.session_core.specs.Kept.{conn_of};
+
+    /// The connection of the session.
+    pub fn conn(self) -> Option<u32>
+        ensures { result ≡ conn_of self }
+    {
+        match self {
+            Hold::Attached(conn) => Some(conn),
+            Hold::Detached(_) => None,
+        }
+    }
+}

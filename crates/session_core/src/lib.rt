@@ -13,4 +13,4 @@ mod sessions;
 pub use bot::Bot;
 pub use fault::{SessionFault, Spent};
 pub use reply::{Mark, Reply};
-pub use sessions::Sessions;
+pub use sessions::{Pushed, Sessions};

@@ -1,9 +1,11 @@
-ghost use Rattle.std.specs.Prelude.{◌≡◌, ◌<◌, ◌^◌, ◌-◌, true, false, nat_lt, ◌∷◌, [], length, map, is_some, IfOk, OnOk, OnErr};
+ghost use Rattle.std.specs.Prelude.{◌≡◌, ◌<◌, ◌^◌, ◌==◌, ◌↔◌, position, slice_get, option_map, IsErr, Some, ◌-◌, true, false, nat_lt, ◌∷◌, [], length, map, is_some, IfOk, OnOk, OnErr};
 ghost use Rattle.session_core.specs.State.{no_sessions, live, has_session, gone, begun, Detached, has_link, with_link, opened, open_replies, heard};
+ghost use Rattle.std.specs.Option.{option_copied};
+ghost use Rattle.session_core.specs.Pushes.{pushed_of, counted_at};
 ghost use Rattle.session_core.specs.Identify.{identified, start_as};
 
 use crate::Bot;
-use crate::Reply;
+use crate::{Reply, Spent};
 use crate::close::{AUTHENTICATION_FAILED, UNKNOWN_ERROR};
 use crate::judge::{bot_of, judge};
 use crate::kept::{Hold, Line, Live};
@@ -41,6 +43,15 @@ impl Model for Sessions {
     ghost view = { λ s. record { worker = s.worker; bots = s.bots.items; made = s.made; links = map link_of s.links.entries; sessions = map session_of s.live.entries } };
 
     ghost invariant = { λ s. IsKept s.made s.links.entries s.live.entries };
+}
+
+/// A dispatch that a session has been given.
+#[derive(Clone, Copy, PartialEq, Eq, Debug)]
+pub struct Pushed {
+    /// Its number in the session, from 1.
+    pub number: u64,
+    /// The connection to which it goes at once.
+    pub conn: Option<u32>,
 }
 
 /// One reply alone.
@@ -202,5 +213,56 @@ impl Sessions {
         };
         line.session = Some(number);
         Ok(())
+    }
+
+    /// The place of a live session, in order of making.
+    pub fn place_of(&self, session: u32) -> Option<usize>
+        ensures { result ≡ position (λ x. x.number == session) self.now.sessions }
+    {
+        self.live.get_index_of(&session)
+    }
+
+    /// The number of the live session at a place.
+    pub fn number_at(&self, place: usize) -> Option<u32>
+        ensures { result ≡ option_map (λ x. x.number) (slice_get self.now.sessions place) }
+    {
+        let (number, _) = self.live.get_index(place)?;
+        Some(*number)
+    }
+
+    /// The name of the bot of the live session at a place.
+    pub fn name_at(&self, place: usize) -> Option<&str>
+        ensures { option_map (λ name. name.now) result ≡ option_map (λ x. x.name) (slice_get self.now.sessions place) }
+    {
+        let (_, session) = self.live.get_index(place)?;
+        Some(session.name.as_str())
+    }
+
+    /// Whom the dispatches of the live session at a place are for.
+    pub fn viewer_at(&self, place: usize) -> Option<&Viewer>
+        ensures { option_copied result ≡ option_map (λ x. x.viewer) (slice_get self.now.sessions place) }
+    {
+        let (_, session) = self.live.get_index(place)?;
+        Some(&session.viewer)
+    }
+
+    /// Counts the next dispatch of the live session at a place. `Spent` exactly where its last
+    /// number is 2^64 - 1, which changes nothing.
+    pub fn push_at(&mut self, place: usize) -> Result<Pushed, Spent>
+        requires { place < length self.old.sessions }
+        ensures pushed { IfOk result (λ pushed. option_map pushed_of (slice_get self.old.sessions place) ≡ Some pushed) }
+        ensures counted { OnOk result (self.new ≡ counted_at place self.old) }
+        ensures spent { IsErr result ↔ (option_map (λ x. x.sent) (slice_get self.old.sessions place) ≡ Some (2 ^ 64 - 1)) }
+        ensures err { OnErr result (self.new ≡ self.old) }
+    {
+        let (_, session) = self.live.pair_mut(place);
+        if session.sent == u64::MAX {
+            return Err(Spent);
+        }
+        session.sent += 1;
+        Ok(Pushed {
+            number: session.sent,
+            conn: session.hold.conn(),
+        })
     }
 }
