@@ -1,12 +1,13 @@
-ghost use Rattle.std.specs.Prelude.{◌≡◌, ℕ, [], OnOk, OnErr, None, slice_get, is_some, IfOk, IsSome, length};
+ghost use Rattle.std.specs.Prelude.{Some, ◌≡◌, ℕ, [], OnOk, OnErr, None, slice_get, is_some, IfOk, IsSome, length, map};
 ghost use Rattle.std.specs.Option.{option_copied};
 ghost use Rattle.std.specs.Fn.{CalledAt};
 ghost use Rattle.std.specs.List.Retain.{IsFiltered};
-ghost use Rattle.collections.specs.ById.{IsById, find_id, put_id, count_below, with_id, changed_id};
+ghost use Rattle.collections.specs.ById.{IsById, find_id, put_id, count_below, with_id, changed_id, without_id};
 
 use snowflake_id::Snowflake;
 use std::alloc::{AllocError, Global};
 use std::marker::Model;
+use std::mem;
 
 /// What has an id: a number by which a list may ascend.
 pub trait Keyed {
@@ -50,6 +51,40 @@ fn replace_at<T: Keyed + Drop>(items: &mut Vec<T>, item: T)
         return;
     }
     items[place] = item;
+}
+
+fn remove_at<T: Keyed + Drop>(items: &mut Vec<T>, id: u64)
+    requires { IsById T.key items.old.items }
+    ensures { items.new.items ≡ without_id T.key id items.old.items }
+{
+    let place = place_of(items.as_slice(), id);
+    if place >= items.len() {
+        return;
+    }
+    if items[place].key() == id {
+        items.remove(place);
+    }
+}
+
+fn change_each<T: Keyed, C: Change<T> + Copy>(items: &mut Vec<T>, change: C)
+    ensures { items.new.items ≡ map (C.changed change) items.old.items }
+{
+    for item in items.iter_mut() {
+        change.change(item);
+    }
+}
+
+fn exchange_at<T: Keyed + Drop>(items: &mut Vec<T>, item: T) -> T
+    requires ascending { IsById T.key items.old.items }
+    requires there { IsSome (find_id T.key (T.key item) items.old.items) }
+    ensures given { find_id T.key (T.key item) items.old.items ≡ Some result }
+    ensures set { items.new.items ≡ put_id T.key item items.old.items }
+{
+    let place = place_of(items.as_slice(), item.key());
+    if place >= items.len() {
+        return item;
+    }
+    mem::replace(&mut items[place], item)
 }
 
 /// A list of records, ascending by id.
@@ -167,12 +202,36 @@ impl<T: Keyed + Drop> ById<T> {
         replace_at(&mut self.items, item);
     }
 
+    /// Sets a record in the place of the one with its id, which is there, and hands that one out.
+    pub fn exchange(&mut self, item: T) -> T
+        requires { IsSome (find_id T.key (T.key item) self.old) }
+        ensures given { find_id T.key (T.key item) self.old ≡ Some result }
+        ensures set { self.new ≡ put_id T.key item self.old }
+    {
+        exchange_at(&mut self.items, item)
+    }
+
     /// Keeps the records at which a test is true.
     pub fn retain<F: FnMut(&T) -> bool>(&mut self, keep: F)
         requires { F.IsAlwaysCallable keep }
-        ensures { IsFiltered (CalledAt F.FnMut) keep self.old self.new }
+        ensures filtered { IsFiltered (CalledAt F.FnMut) keep self.old self.new }
+        ensures ascending { IsById T.key self.old }
     {
         self.items.retain(keep);
+    }
+
+    /// Takes away the record of an id, if there is one.
+    pub fn remove(&mut self, id: u64)
+        ensures { self.new ≡ without_id T.key id self.old }
+    {
+        remove_at(&mut self.items, id);
+    }
+
+    /// Changes every record.
+    pub fn change_all<C: Change<T> + Copy>(&mut self, change: C)
+        ensures { self.new ≡ map (C.changed change) self.old }
+    {
+        change_each(&mut self.items, change);
     }
 
     /// Changes the record of an id, if there is one.

@@ -1,5 +1,5 @@
 //! Reading in large pieces.
-ghost use Rattle.std.specs.Prelude.{◌≡◌, [], true, length, IfOk, OnOk, OnErr};
+ghost use Rattle.std.specs.Prelude.{◌≡◌, ◌≤◌, [], true, length, IfOk, OnOk, OnErr};
 ghost use Rattle.std.specs.Io.KnownBytes.{Keeps, Consumes, IsAtEnd};
 ghost use Rattle.gate_outside.specs.Causes.{HasCause};
 
@@ -19,13 +19,14 @@ pub struct Piece {
 }
 
 impl Model for Piece {
-    ghost use Rattle.std.specs.Prelude.{List, ℕ, ◌<◌, ◌≤◌, take, length};
+    ghost use Rattle.std.specs.Prelude.{List, ℕ, ◌≡◌, ◌≤◌, take, length};
+    ghost use Rattle.gate_outside.specs.declared.piece.TheConstants.{PIECE_BYTES};
 
     ghost Value = { List ℕ };
 
     ghost view = { λ p. take p.count p.room.items };
 
-    ghost invariant = { λ p. (0 < length p.room.items) × (p.count ≤ length p.room.items) };
+    ghost invariant = { λ p. (length p.room.items ≡ PIECE_BYTES) × (p.count ≤ length p.room.items) };
 }
 
 // Zeros, of which proofs see no more than the number.
@@ -59,6 +60,7 @@ impl Piece {
         ensures end { OnOk result (self.new ≡ [] → IsAtEnd (S.left source.new)) }
         ensures found { OnOk result (self.new ≡ [] → S.ended source.new ≡ true) }
         ensures stays { S.ended source.old ≡ true → self.new ≡ [] }
+        ensures room { length self.new ≤ PIECE_BYTES }
         ensures err { OnErr result (self.new ≡ []) }
         ensures keeps { OnErr result (Keeps (S.left source.old) (S.left source.new)) }
         ensures cause { HasCause (S.faults source.old) (S.faults source.new) result }

@@ -5,3 +5,5 @@ pub mod Permissions
 pub mod Sight
 pub mod Ascending
 pub mod Changes
+pub mod Verdict
+pub mod Tests

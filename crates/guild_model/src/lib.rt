@@ -2,19 +2,22 @@
 //! heads of its messages, as plain lists that ascend by id.
 #![tactic(auto)]
 
+pub mod changes;
 pub mod channel;
 pub mod guild;
+pub mod limits;
 pub mod member;
 pub mod message;
 pub mod moment;
 pub mod presence;
 pub mod role;
+pub mod rules;
 pub mod thread;
 pub mod user;
 pub mod verdict;
 pub mod voice;
 
-pub use channel::{Channel, ChannelKind, Overwrite, Overwrites};
+pub use channel::{Channel, ChannelKind, Overwrite, OverwriteKind, Overwrites};
 pub use guild::Guild;
 pub use member::Member;
 pub use message::{MessageHead, MessageHeads};

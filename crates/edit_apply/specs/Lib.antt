@@ -1,0 +1,2 @@
+pub mod Guilds
+pub mod Edits

@@ -1,0 +1,106 @@
+//! All edits of a guild: which are accepted, and what they make of its record.
+#![tactic(auto)]
+
+ghost use Rattle.std.specs.Prelude.{◌≡◌, ◌∷◌, [], None, IfOk, OnOk, OnErr};
+ghost use Rattle.guild_model.specs.Tests.{outcome, first_of};
+ghost use Rattle.edit_apply.specs.Edits.{verdict, applied, after, KeepsWell, StaysWell};
+ghost use Rattle.edit_apply.specs.Guilds.{out_of_service};
+ghost use Rattle.role_member_edit.specs.RoleMember.{role_member_verdict};
+
+pub mod guild;
+
+pub use guild::GuildEdit;
+pub use role_member_edit::RoleMemberEdit;
+
+use guild_model::{Guild, Verdict};
+use std::alloc::{AllocError, Global};
+
+/// An edit of a guild.
+#[derive(Drop)]
+pub enum Edit {
+    /// Of the guild itself.
+    Guild(GuildEdit),
+    /// Of its roles and members.
+    RoleMember(RoleMemberEdit),
+}
+
+impl Edit {
+    /// An edit that is equal to this.
+    pub fn copy(&self, alloc: Global) -> Result<Edit, AllocError>
+        ensures { IfOk result (λ copy. copy ≡ self.now) }
+    {
+        match self {
+            Edit::Guild(edit) => Ok(Edit::Guild(edit.copy(alloc)?)),
+            Edit::RoleMember(edit) => Ok(Edit::RoleMember(edit.copy(alloc)?)),
+        }
+    }
+}
+
+/// Refuses a guild that is not open, then one in an outage.
+pub fn in_service(guild: &Guild) -> Result<(), Verdict>
+    ensures { result ≡ outcome (out_of_service guild.now) }
+{
+    if !guild.opened {
+        return Err(Verdict::NotOpen);
+    }
+    if guild.outage {
+        return Err(Verdict::Unavailable);
+    }
+    Ok(())
+}
+
+fn judge_role_member(guild: &Guild, edit: &RoleMemberEdit) -> Result<(), Verdict>
+    ensures { result ≡ outcome (first_of (out_of_service guild.now ∷ role_member_verdict guild.now edit.now ∷ [])) }
+{
+    in_service(guild)?;
+    role_member_edit::check(guild, edit)
+}
+
+/// Why an edit is refused: the first of its tests that fails. Takes no memory.
+pub fn judge(guild: &Guild, edit: &Edit) -> Result<(), Verdict>
+    ensures { result ≡ outcome (verdict guild.now edit.now) }
+{
+    match edit {
+        Edit::Guild(edit) => guild::check(guild, edit),
+        Edit::RoleMember(edit) => judge_role_member(guild, edit),
+    }
+}
+
+fn make(alloc: Global, guild: &mut Guild, edit: Edit) -> Result<(), AllocError>
+    requires { verdict guild.old edit ≡ None }
+    ensures ok { OnOk result (guild.new ≡ applied guild.old edit) }
+    ensures err { OnErr result (guild.new ≡ guild.old) }
+{
+    match edit {
+        Edit::Guild(edit) => guild::apply(alloc, guild, edit),
+        Edit::RoleMember(edit) => role_member_edit::apply(alloc, guild, edit),
+    }
+}
+
+/// Judges an edit and, where it is accepted, makes it. A verdict changes nothing, and neither does
+/// want of memory.
+pub fn apply(
+    alloc: Global,
+    guild: &mut Guild,
+    edit: Edit,
+) -> Result<Result<(), Verdict>, AllocError>
+    ensures judged { IfOk result (λ answer. answer ≡ outcome (verdict guild.old edit)) }
+    ensures record { OnOk result (guild.new ≡ after guild.old edit) }
+    ensures memory { OnErr result (guild.new ≡ guild.old) }
+{
+    if let Err(verdict) = judge(guild, &edit) {
+        return Ok(Err(verdict));
+    }
+    make(alloc, guild, edit)?;
+    Ok(Ok(()))
+}
+
+/// An edit of a record in which the lists ascend and hold together leaves it so.
+pub fn keeps_well()
+    ensures { KeepsWell }
+{}
+
+/// Whatever edits come to a guild, the lists of its record ascend and hold together.
+pub fn stays_well()
+    ensures { StaysWell }
+{}

@@ -1,0 +1,116 @@
+//! The fields of a frame, any other kind of which is a bad shape.
+
+ghost use Rattle.std.specs.Prelude.{◌≡◌};
+ghost use Rattle.std.specs.Result.{result_map_both};
+ghost use Rattle.serde_json.specs.View.{view, items_view};
+ghost use Rattle.gateway_frames.specs.Shape.{text_at, whole_at, id_at, nullable_id_at, optional_whole, optional_flag, flag_or_false, optional_pair, pair_from};
+
+use crate::FrameFault;
+use json_view::{field_of, given_of, id_from, id_of, number_of, text_of};
+use serde_json::Value;
+use snowflake_id::Snowflake;
+
+pub fn text_at<'a>(object: &'a Value, name: &str) -> Result<&'a str, FrameFault>
+    ensures { result_map_both (λ s. s.now) (λ e. e) result ≡ text_at name.now (view object.now) }
+{
+    match text_of(object, name) {
+        Err(_) => Err(FrameFault::BadShape),
+        Ok(text) => Ok(text),
+    }
+}
+
+pub fn whole_at(object: &Value, name: &str) -> Result<u64, FrameFault>
+    ensures { result ≡ whole_at name.now (view object.now) }
+{
+    match number_of(object, name) {
+        Err(_) => Err(FrameFault::BadShape),
+        Ok(number) => Ok(number),
+    }
+}
+
+pub fn id_at(object: &Value, name: &str) -> Result<Snowflake, FrameFault>
+    ensures { result ≡ id_at name.now (view object.now) }
+{
+    match id_of(object, name) {
+        Err(_) => Err(FrameFault::BadShape),
+        Ok(id) => Ok(Snowflake(id)),
+    }
+}
+
+/// An id or null, which has to be there.
+pub fn nullable_id_at(object: &Value, name: &str) -> Result<Option<Snowflake>, FrameFault>
+    ensures { result ≡ nullable_id_at name.now (view object.now) }
+{
+    let Ok(value) = field_of(object, name) else {
+        return Err(FrameFault::BadShape);
+    };
+    if value.is_null() {
+        return Ok(None);
+    }
+    match id_from(value) {
+        Err(_) => Err(FrameFault::BadShape),
+        Ok(id) => Ok(Some(Snowflake(id))),
+    }
+}
+
+pub fn optional_whole(object: &Value, name: &str) -> Result<Option<u64>, FrameFault>
+    ensures { result ≡ optional_whole name.now (view object.now) }
+{
+    let Some(value) = given_of(object, name) else {
+        return Ok(None);
+    };
+    match value.as_u64() {
+        None => Err(FrameFault::BadShape),
+        Some(number) => Ok(Some(number)),
+    }
+}
+
+pub fn optional_flag(object: &Value, name: &str) -> Result<Option<bool>, FrameFault>
+    ensures { result ≡ optional_flag name.now (view object.now) }
+{
+    let Some(value) = given_of(object, name) else {
+        return Ok(None);
+    };
+    match value.as_bool() {
+        None => Err(FrameFault::BadShape),
+        Some(flag) => Ok(Some(flag)),
+    }
+}
+
+pub fn flag_or_false(object: &Value, name: &str) -> Result<bool, FrameFault>
+    ensures { result ≡ flag_or_false name.now (view object.now) }
+{
+    match optional_flag(object, name) {
+        Err(fault) => Err(fault),
+        Ok(None) => Ok(false),
+        Ok(Some(flag)) => Ok(flag),
+    }
+}
+
+fn pair_from(list: &[Value]) -> Result<(u64, u64), FrameFault>
+    ensures { result ≡ pair_from (items_view list.now) }
+{
+    if list.len() != 2 {
+        return Err(FrameFault::BadShape);
+    }
+    match (list[0].as_u64(), list[1].as_u64()) {
+        (Some(first), Some(second)) => Ok((first, second)),
+        _ => Err(FrameFault::BadShape),
+    }
+}
+
+/// A list of two whole numbers.
+pub fn optional_pair(object: &Value, name: &str) -> Result<Option<(u64, u64)>, FrameFault>
+    ensures { result ≡ optional_pair name.now (view object.now) }
+{
+    let Some(value) = given_of(object, name) else {
+        return Ok(None);
+    };
+    match value.as_array() {
+        None => Err(FrameFault::BadShape),
+        Some(list) => match pair_from(list.as_slice()) {
+            Err(fault) => Err(fault),
+            Ok(pair) => Ok(Some(pair)),
+        },
+    }
+}

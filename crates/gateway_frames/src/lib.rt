@@ -1,0 +1,18 @@
+//! What a client and the gateway send one another, beside dispatches (Gateway, Gateway Events).
+#![tactic(auto)]
+
+mod fault;
+mod fields;
+mod frame;
+mod out;
+mod out_text;
+mod read;
+mod shapes;
+#[cfg(test)]
+mod tests;
+mod text;
+mod values;
+
+pub use fault::FrameFault;
+pub use frame::{Ask, Find, Frame, Identify, Resume, Status, VoiceAsk};
+pub use out::Out;

@@ -1,0 +1,3 @@
+pub mod TierFacts
+pub mod Grants
+pub mod Granted

@@ -1,0 +1,3 @@
+pub mod FromBase
+pub mod Looks
+pub mod Tiers

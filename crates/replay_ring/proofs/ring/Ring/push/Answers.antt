@@ -1,0 +1,32 @@
+use Rattle.std.proofs.Common.{refl, arith}
+use Rattle.replay_ring.proofs.Suffixes.{longest_suffix-long, fits_back}
+use Rattle.replay_ring.proofs.ring.Ring.push.Goals as goal
+
+pub returns-then-self-len : goal.returns-then-self-len
+returns-then-self-len c =
+    let t = c.from_string-text.result in
+    let r = c.self.inside in
+    rw (← c.self.view_is, ← c.from_string-text.ensures, c.clear.ensures, longest_suffix-long r.texts.capacity r.limit t r.texts.items (omega arith))
+    refl
+
+pub invariant_of-self-2 : goal.invariant_of-self-2
+invariant_of-self-2 c =
+    let t = c.from_string-text.result in
+    let r = c.self.inside in
+    let left = fits_back r.texts.capacity r.limit t r.texts.items c.self.invariant.room (omega arith) in
+    let made = rw (c.make_room-left.ensures.kept, c.len-2.ensures) at c.make_room-left.ensures.counted in
+    rw (c.push_back.ensures.items, c.make_room-left.ensures.kept, c.len-2.ensures)
+    (record {
+      counted = omega (arith, made, left.counted);
+      within = omega (arith, made, left.counted, left.within);
+      room = c.self.invariant.room;
+      numbered = omega (arith, left.numbered);
+    })
+
+pub returns : goal.returns
+returns c =
+    let t = c.from_string-text.result in
+    let r = c.self.inside in
+    let left = fits_back r.texts.capacity r.limit t r.texts.items c.self.invariant.room (omega arith) in
+    rw (← c.self.view_is, ← c.from_string-text.ensures, c.push_back.ensures.items, c.make_room-left.ensures.kept, c.len-2.ensures, left.items)
+    refl

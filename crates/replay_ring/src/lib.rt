@@ -1,0 +1,12 @@
+//! The replay buffer of a session: the latest texts that were sent to it, within two limits.
+#![tactic(auto)]
+
+mod after;
+mod laws;
+mod ring;
+#[cfg(test)]
+mod tests;
+
+pub use after::After;
+pub use laws::{after_gives_all_later_texts, pushes_keep_the_longest_suffix};
+pub use ring::Ring;
