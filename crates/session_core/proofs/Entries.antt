@@ -62,10 +62,10 @@ pub heard-kept : (lines : List (ℕ × Line)) (c now : ℕ) (l : Line) → IsDis
 heard-kept [] c now l once there = refl
 heard-kept (e ∷ es) c now l once there =
     elim (cases_Bool (nat_eq c e.0)) [
-    | inl same ↦ grind (arith, nat_tests, same, heard-absent es c now (absent-same c e es once same))
-    | inr apart ↦
-        let later : lookup (nat_eq c) es ≡ Some l = rw apart at there in
-        grind (arith, nat_tests, apart, heard-kept es c now l (once-after e es once) later)
+      | inl same ↦ grind (arith, nat_tests, same, heard-absent es c now (absent-same c e es once same))
+      | inr apart ↦
+          let later : lookup (nat_eq c) es ≡ Some l = rw apart at there in
+          grind (arith, nat_tests, apart, heard-kept es c now l (once-after e es once) later)
     ]
 
 -- whose session it has is not seen
@@ -74,10 +74,10 @@ pub tied-kept : (lines : List (ℕ × Line)) (c : ℕ) (l : Line) (session : Opt
 tied-kept [] c l session there = refl
 tied-kept (e ∷ es) c l session there =
     elim (cases_Bool (nat_eq c e.0)) [
-    | inl same ↦ grind (arith, same, there)
-    | inr apart ↦
-        let later : lookup (nat_eq c) es ≡ Some l = rw apart at there in
-        grind (arith, apart, tied-kept es c l session later)
+      | inl same ↦ grind (arith, same, there)
+      | inr apart ↦
+          let later : lookup (nat_eq c) es ≡ Some l = rw apart at there in
+          grind (arith, apart, tied-kept es c l session later)
     ]
 
 without-absent : (lines : List (ℕ × Line)) (c : ℕ) → lookup (nat_eq c) lines ≡ None → filter (λ (l : Link). not (l.number == c)) (map link_of lines) ≡ map link_of lines
@@ -89,8 +89,8 @@ pub without-kept : (lines : List (ℕ × Line)) (c : ℕ) → IsDistinct nat_eq 
 without-kept [] c once = refl
 without-kept (e ∷ es) c once =
     elim (cases_Bool (nat_eq c e.0)) [
-    | inl same ↦ grind (arith, nat_tests, same, without-absent es c (absent-same c e es once same))
-    | inr apart ↦ grind (arith, nat_tests, apart, without-kept es c (once-after e es once))
+      | inl same ↦ grind (arith, nat_tests, same, without-absent es c (absent-same c e es once same))
+      | inr apart ↦ grind (arith, nat_tests, apart, without-kept es c (once-after e es once))
     ]
 
 -- ---- sessions
@@ -109,8 +109,8 @@ conn_at-here e es = grind (arith, nat_tests)
 pub conn_at-later : (e : ℕ × Live) (es : List (ℕ × Live)) (n c : ℕ) → IsDistinct nat_eq (keys_of (e ∷ es)) → conn_at es n ≡ Some c → conn_at (e ∷ es) n ≡ Some c
 conn_at-later e es n c once is =
     elim (cases_Bool (nat_eq n e.0)) [
-    | inl same ↦ absurd (grind (arith, absent-same n e es once same))
-    | inr apart ↦ rw apart is
+      | inl same ↦ absurd (grind (arith, absent-same n e es once same))
+      | inr apart ↦ rw apart is
     ]
 
 pub released-none : (es : List (ℕ × Live)) (c : ℕ) (next : Place) → IsDistinct nat_eq (keys_of es) → ((n : ℕ) → conn_at es n ≡ Some c → ⊥)
@@ -119,8 +119,8 @@ released-none [] c next once off = refl
 released-none (e ∷ es) c next once off =
     let rest : map (released c next) (map session_of es) ≡ map session_of es = released-none es c next (once-after e es once) (λ n is. off n (conn_at-later e es n c once is)) in
     elim (cases_Bool (is_on c (place_of e.1.hold))) [
-    | inl on ↦ absurd (off e.0 (conn_at-here e es ∙ on-conn e.1.hold c on))
-    | inr apart ↦ grind (arith, apart, rest)
+      | inl on ↦ absurd (off e.0 (conn_at-here e es ∙ on-conn e.1.hold c on))
+      | inr apart ↦ grind (arith, apart, rest)
     ]
 
 pub released-kept : (es : List (ℕ × Live)) (c n : ℕ) (h : Hold) (x : Live) → IsDistinct nat_eq (keys_of es) → ((m : ℕ) → conn_at es m ≡ Some c → m ≡ n)
@@ -129,20 +129,20 @@ pub released-kept : (es : List (ℕ × Live)) (c n : ℕ) (h : Hold) (x : Live) 
 released-kept [] c n h x once only there on = refl
 released-kept (e ∷ es) c n h x once only there on =
     elim (cases_Bool (nat_eq n e.0)) [
-    | inl same ↦
-        let first : e.1 ≡ x = grind (arith, same, there) in
-        let here : is_on c (place_of e.1.hold) ≡ true = rw first (conn-on x.hold c on) in
-        let none : (m : ℕ) → conn_at es m ≡ Some c → ⊥ =
-            λ m is. let is_n : m ≡ n = only m (conn_at-later e es m c once is) in
-            let absent : lookup (nat_eq n) es ≡ None = absent-same n e es once same in
-            grind (arith, absent, is, is_n) in
-        grind (arith, same, first, here, released-none es c (place_of h) (once-after e es once) none)
-    | inr apart ↦
-        let later : lookup (nat_eq n) es ≡ Some x = rw apart at there in
-        let off : is_on c (place_of e.1.hold) ≡ false =
-            false_from_ne_true (is_on c (place_of e.1.hold))
-                (λ on_c. let is_n : e.0 ≡ n = only e.0 (conn_at-here e es ∙ on-conn e.1.hold c on_c) in grind (arith, nat_tests, apart, is_n)) in
-        grind (arith, apart, off, released-kept es c n h x (once-after e es once) (λ m is. only m (conn_at-later e es m c once is)) later on)
+      | inl same ↦
+          let first : e.1 ≡ x = grind (arith, same, there) in
+          let here : is_on c (place_of e.1.hold) ≡ true = rw first (conn-on x.hold c on) in
+          let none : (m : ℕ) → conn_at es m ≡ Some c → ⊥ =
+          λ m is. let is_n : m ≡ n = only m (conn_at-later e es m c once is) in
+          let absent : lookup (nat_eq n) es ≡ None = absent-same n e es once same in
+          grind (arith, absent, is, is_n) in
+          grind (arith, same, first, here, released-none es c (place_of h) (once-after e es once) none)
+      | inr apart ↦
+          let later : lookup (nat_eq n) es ≡ Some x = rw apart at there in
+          let off : is_on c (place_of e.1.hold) ≡ false =
+          false_from_ne_true (is_on c (place_of e.1.hold))
+          (λ on_c. let is_n : e.0 ≡ n = only e.0 (conn_at-here e es ∙ on-conn e.1.hold c on_c) in grind (arith, nat_tests, apart, is_n)) in
+          grind (arith, apart, off, released-kept es c n h x (once-after e es once) (λ m is. only m (conn_at-later e es m c once is)) later on)
     ]
 
 pub on-none : (es : List (ℕ × Live)) (c : ℕ) → IsDistinct nat_eq (keys_of es) → ((n : ℕ) → conn_at es n ≡ Some c → ⊥)
@@ -151,20 +151,20 @@ on-none [] c once off = refl
 on-none (e ∷ es) c once off =
     let rest : find (λ (x : Session ℕ). is_on c x.place) (map session_of es) ≡ None = on-none es c (once-after e es once) (λ n is. off n (conn_at-later e es n c once is)) in
     elim (cases_Bool (is_on c (place_of e.1.hold))) [
-    | inl on ↦ absurd (off e.0 (conn_at-here e es ∙ on-conn e.1.hold c on))
-    | inr apart ↦ rw apart rest
+      | inl on ↦ absurd (off e.0 (conn_at-here e es ∙ on-conn e.1.hold c on))
+      | inr apart ↦ rw apart rest
     ]
 
 pub on-some : (es : List (ℕ × Live)) (c n : ℕ) → conn_at es n ≡ Some c → is_some (find (λ (x : Session ℕ). is_on c x.place) (map session_of es)) ≡ true
 on-some [] c n on = cc
 on-some (e ∷ es) c n on =
     elim (cases_Bool (nat_eq n e.0)) [
-    | inl same ↦
-        let here : conn_of e.1.hold ≡ Some c = rw same at on in
-        rw (conn-on e.1.hold c here) refl
-    | inr apart ↦
-        let later : conn_at es n ≡ Some c = rw apart at on in
-        grind (arith, on-some es c n later)
+      | inl same ↦
+          let here : conn_of e.1.hold ≡ Some c = rw same at on in
+          rw (conn-on e.1.hold c here) refl
+      | inr apart ↦
+          let later : conn_at es n ≡ Some c = rw apart at on in
+          grind (arith, on-some es c n later)
     ]
 
 is_live-place : (h : Hold) → is_live (place_of h) ≡ true

@@ -80,8 +80,10 @@ module _ {A : Type 0} where
   heard conn now s = record s { links = map (λ (l : Link). if l.number == conn then record l { heard = now } else l) s.links }
 
   abbrev pub begun : ℕ → Bot → Viewer → (ℕ → A) → State A → State A
-  begun conn bot viewer sent s = record s { made = s.made + 1;
-      sessions = s.sessions ++ record { number = s.made + 1; token = bot.token; name = bot.name; viewer = viewer; place = Attached conn; sent = sent (s.made + 1) } ∷ [] }
+  begun conn bot viewer sent s = record s {
+    made = s.made + 1;
+    sessions = s.sessions ++ record { number = s.made + 1; token = bot.token; name = bot.name; viewer = viewer; place = Attached conn; sent = sent (s.made + 1) } ∷ [];
+  }
 
 -- before the first connection
 abbrev pub no_sessions : {A : Type 0} → ℕ → List Bot → State A

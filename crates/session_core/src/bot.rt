@@ -1,10 +1,9 @@
 ghost use Rattle.std.specs.Prelude.{◌≡◌, IfOk};
 
-use std::alloc::{AllocError, Global};
-
 use collections::Text;
 use intent_set::Intents;
 use snowflake_id::Snowflake;
+use std::alloc::{AllocError, Global};
 
 /// A bot that may identify (Gateway Events, Identify).
 #[derive(Drop)]

@@ -6,9 +6,7 @@ ghost use Rattle.session_core.specs.State.{has_link, has_session};
 ghost use Rattle.session_core.specs.Frames.{Answers, Shuts, Begins, fault_code, later_move, first_move, move_of, moved, move_replies, is_spent, identify_move, Done, Refused};
 ghost use Rattle.session_core.specs.Identify.{identified};
 
-use crate::close::{
-    ALREADY_AUTHENTICATED, DECODE_ERROR, NOT_AUTHENTICATED, UNKNOWN_OPCODE,
-};
+use crate::close::{ALREADY_AUTHENTICATED, DECODE_ERROR, NOT_AUTHENTICATED, UNKNOWN_OPCODE};
 use crate::sessions::{Sessions, one};
 use crate::{Bot, Reply, SessionFault};
 use dispatch_types::Viewer;
@@ -41,12 +39,7 @@ impl Sessions {
         Ok(replies)
     }
 
-    fn begin(
-        &mut self,
-        conn: u32,
-        bot: Bot,
-        viewer: Viewer,
-    ) -> Result<Vec<Reply>, SessionFault>
+    fn begin(&mut self, conn: u32, bot: Bot, viewer: Viewer) -> Result<Vec<Reply>, SessionFault>
         requires linked { has_link conn self.old ≡ true }
         requires free { has_session conn self.old ≡ false }
         ensures { MatchResult result (λ replies. Done conn 0 (Begins bot viewer) self.old self.new replies.items) (Refused (Begins bot viewer) self.old self.new) }
@@ -112,12 +105,7 @@ impl Sessions {
     /// A text has come from a client: what it does, and what it is answered (Gateway, Sending
     /// Events; Opcodes and Status Codes). On a connection that is not open nothing comes of it. An
     /// `Err` changes nothing.
-    pub fn frame(
-        &mut self,
-        conn: u32,
-        text: &str,
-        now: u64,
-    ) -> Result<Vec<Reply>, SessionFault>
+    pub fn frame(&mut self, conn: u32, text: &str, now: u64) -> Result<Vec<Reply>, SessionFault>
         ensures replies { IfOk result (λ replies. replies.items ≡ move_replies conn (move_of self.old conn text.now) self.old) }
         ensures moved { OnOk result (self.new ≡ moved conn now (λ bot viewer n. 0) (move_of self.old conn text.now) self.old) }
         ensures counted { OnOk result (is_spent (move_of self.old conn text.now) self.old ≡ false) }
@@ -128,12 +116,7 @@ impl Sessions {
         Ok(replies)
     }
 
-    fn handle(
-        &mut self,
-        conn: u32,
-        text: &str,
-        now: u64,
-    ) -> Result<Vec<Reply>, SessionFault>
+    fn handle(&mut self, conn: u32, text: &str, now: u64) -> Result<Vec<Reply>, SessionFault>
         ensures { let move = move_of self.old conn text.now in
             MatchResult result (λ replies. Done conn now move self.old self.new replies.items) (Refused move self.old self.new) }
     {

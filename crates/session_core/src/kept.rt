@@ -1,6 +1,5 @@
 //! What is kept of connections and sessions, by their numbers.
 
-
 ghost use Rattle.std.specs.Prelude.{◌≡◌};
 
 use crate::Bot;

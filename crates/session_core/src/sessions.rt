@@ -4,11 +4,10 @@ ghost use Rattle.std.specs.Option.{option_copied};
 ghost use Rattle.session_core.specs.Pushes.{pushed_of, counted_at};
 ghost use Rattle.session_core.specs.Identify.{identified, start_as};
 
-use crate::Bot;
-use crate::{Reply, Spent};
 use crate::close::{AUTHENTICATION_FAILED, UNKNOWN_ERROR};
 use crate::judge::{bot_of, judge};
 use crate::kept::{Hold, Line, Live};
+use crate::{Bot, Reply, Spent};
 use dispatch_types::Viewer;
 use gateway_frames::{Identify, Out};
 use indexmap::IndexMap;
@@ -198,7 +197,12 @@ impl Sessions {
     }
 
     /// Adds a session on a connection that has none.
-    pub(crate) fn add_session(&mut self, conn: u32, bot: Bot, viewer: Viewer) -> Result<(), AllocError>
+    pub(crate) fn add_session(
+        &mut self,
+        conn: u32,
+        bot: Bot,
+        viewer: Viewer,
+    ) -> Result<(), AllocError>
         requires linked { has_link conn self.old ≡ true }
         requires free { has_session conn self.old ≡ false }
         requires counted { self.old.made < 2 ^ 32 - 1 }

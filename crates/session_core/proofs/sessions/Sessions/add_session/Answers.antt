@@ -23,9 +23,9 @@ invariant_of-self-2 c =
     let w = c.get_mut.follows.holds l in
     let h = c.in_ok-insert.ensures in
     let free : session_at c.self.inside.links.entries c.args.conn ≡ None =
-        free-kept c.self.inside.made c.self.inside.links.entries c.self.inside.live.entries c.self.invariant c.args.conn (rw (← c.self.view_is) at c.requires.free) in
+    free-kept c.self.inside.made c.self.inside.links.entries c.self.inside.live.entries c.self.invariant c.args.conn (rw (← c.self.view_is) at c.requires.free) in
     IsKept-tie c.self.inside.made c.self.inside.links.entries (c.get_mut.follows.lender l).entries c.self.inside.live.entries c.insert.new.self.entries
-        c.args.conn l c.new.result c.self.invariant free refl (rw c.new.ensures refl) w.4 (w.3 (rw there refl)).0 h.unique h.updates.0
+    c.args.conn l c.new.result c.self.invariant free refl (rw c.new.ensures refl) w.4 (w.3 (rw there refl)).0 h.unique h.updates.0
 
 pub returns-clause-ok : goal.returns-clause-ok
 returns-clause-ok c =
@@ -35,5 +35,5 @@ returns-clause-ok c =
     let h = c.in_ok-insert.ensures in
     let new : lookup (nat_eq (c.self.inside.made + 1)) c.self.inside.live.entries ≡ None = c.self.invariant.counted (c.self.inside.made + 1) (omega arith) in
     let sessions = added-kept session_of c.self.inside.live.entries c.insert.new.self.entries (c.self.inside.made + 1, c.new.result)
-        (h.entries ∙ insert_entry-new nat_eq c.self.inside.live (c.self.inside.made + 1) c.new.result new) in
+    (h.entries ∙ insert_entry-new nat_eq c.self.inside.live (c.self.inside.made + 1) c.new.result new) in
     rw (← c.self.view_is, w.0, tied-kept c.self.inside.links.entries c.args.conn c.in-Some.line.now (Some (c.self.inside.made + 1)) there, sessions, c.new.ensures) refl

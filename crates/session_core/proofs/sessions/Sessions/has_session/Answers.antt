@@ -7,7 +7,7 @@ pub returns-in-Some : goal.returns-in-Some
 returns-in-Some c =
     let there : lookup (nat_eq c.args.conn) c.self.inside.links.entries ≡ Some c.in-Some.line.now = sym c.in-Some.ensures.value in
     rw (← c.self.view_is)
-      (c.is_some.ensures ∙ has_session-kept _ _ _ c.self.invariant c.args.conn c.in-Some.line.now.session (session_at-is c.self.inside.links.entries c.args.conn c.in-Some.line.now there))
+    (c.is_some.ensures ∙ has_session-kept _ _ _ c.self.invariant c.args.conn c.in-Some.line.now.session (session_at-is c.self.inside.links.entries c.args.conn c.in-Some.line.now there))
 
 pub returns-in-None : goal.returns-in-None
 returns-in-None c =

@@ -9,7 +9,7 @@ pub invariant_of-self : goal.invariant_of-self
 invariant_of-self c =
     let x = c.pair_mut-session.result.1.now in
     IsKept-counted c.self.inside.made c.self.inside.links.entries c.self.inside.live c.args.place c.pair_mut-session.result.0.now x x
-        c.self.invariant c.pair_mut-session.ensures.value refl
+    c.self.invariant c.pair_mut-session.ensures.value refl
 
 pub returns-then-session-clause-spent : goal.returns-then-session-clause-spent
 returns-then-session-clause-spent c =
@@ -26,7 +26,7 @@ invariant_of-self-2 c =
     let x = c.pair_mut-session.result.1.now in
     let y : Live = record x { sent = x.sent + 1 } in
     IsKept-counted c.self.inside.made c.self.inside.links.entries c.self.inside.live c.args.place c.pair_mut-session.result.0.now x y
-        c.self.invariant c.pair_mut-session.ensures.value refl
+    c.self.invariant c.pair_mut-session.ensures.value refl
 
 pub returns-clause-pushed : goal.returns-clause-pushed
 returns-clause-pushed c =
