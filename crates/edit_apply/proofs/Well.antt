@@ -6,7 +6,6 @@ use Rattle.std.proofs.lemmas.List.Elements.{All-nil, All-cons}
 use Rattle.collections.specs.ById.{find_id, has_id, IsById}
 use Rattle.guild_model.specs.declared.role.Role.{Role}
 use Rattle.guild_model.specs.declared.member.Member.{Member}
-use Rattle.guild_model.specs.declared.channel.Channel.{Channel}
 use Rattle.guild_model.specs.declared.thread.Thread.{Thread}
 use Rattle.guild_model.specs.declared.message.MessageHead.{MessageHead}
 use Rattle.guild_model.specs.declared.verdict.Verdict.{Verdict}
@@ -18,10 +17,12 @@ use Rattle.guild_model.specs.Tests.{refused_if, first_of, too_long, unknown_memb
 use Rattle.guild_model.proofs.Tests.{first_passes, not_refused}
 use Rattle.guild_model.proofs.Kept.{renamed, in_outage, owned}
 use Rattle.role_member_edit.specs.Members.{new_member}
-use Rattle.role_member_edit.proofs.Well.{well}
+use Rattle.role_member_edit.proofs.Well.{well as role_member_well}
+use Rattle.channel_edit.specs.ChannelEdits.{channel_verdict}
+use Rattle.channel_edit.proofs.Well.{well as channel_well}
 use Rattle.role_member_edit.specs.RoleMember.{role_member_verdict}
 use Rattle.edit_apply.specs.declared.Edit.{Edit}
-use Rattle.edit_apply.specs.declared.Edit.TheVariants.{Guild, RoleMember}
+use Rattle.edit_apply.specs.declared.Edit.TheVariants.{Guild, RoleMember, Channel}
 use Rattle.edit_apply.specs.declared.guild.GuildEdit.{GuildEdit}
 use Rattle.edit_apply.specs.declared.guild.GuildEdit.TheVariants.{GuildOpen, GuildRename, GuildOwner, GuildOutage, GuildBack}
 use Rattle.edit_apply.specs.Guilds.{everyone, out_of_service, guild_opened, guild_open_verdict, guild_verdict, guild_applied}
@@ -41,22 +42,31 @@ module _ (guild : ℕ) (name : List ℕ) (owner : ℕ) (owner_name : List ℕ) (
 
   opened_consistent : IsConsistent (guild_opened (closed guild) name owner owner_name perms at)
   opened_consistent = record {
-      empty = λ e. absurd (cc);
-      everyone = λ _. grind (arith, nat_tests);
-      owner = λ _. grind (arith, nat_tests);
-      held = λ user role m found holds. absurd (holds_none (owner == user) m role found holds);
-      overwritten = λ channel role c found there. absurd (cc);
-      voices = λ user v found. absurd (cc);
-      presences = λ user there. absurd (cc);
-      parents = λ thread t found. absurd (cc);
-      joined = λ thread user t found there. absurd (cc);
-      apart = λ id there. refl;
-      places = All-nil _ }
+    empty = λ e. absurd (cc);
+    everyone = λ _. grind (arith, nat_tests);
+    owner = λ _. grind (arith, nat_tests);
+    held = λ user role m found holds. absurd (holds_none (owner == user) m role found holds);
+    overwritten = λ channel role c found there. absurd (cc);
+    voices = λ user v found. absurd (cc);
+    presences = λ user there. absurd (cc);
+    parents = λ thread t found. absurd (cc);
+    joined = λ thread user t found there. absurd (cc);
+    apart = λ id there. refl;
+    places = All-nil _;
+  }
 
   opened_ascending : IsAscending (guild_opened (closed guild) name owner owner_name perms at)
-  opened_ascending = record { roles = (tt, tt); members = (tt, tt); channels = tt; threads = tt; voices = tt; presences = tt;
-      held = All-cons (λ (m : Member). IsById own_id m.roles) first_member [] tt (All-nil _);
-      overwrites = All-nil HasOrderedOverwrites; joined = All-nil (λ (t : Thread). IsById thread_member_id t.members) }
+  opened_ascending = record {
+    roles = (tt, tt);
+    members = (tt, tt);
+    channels = tt;
+    threads = tt;
+    voices = tt;
+    presences = tt;
+    held = All-cons (λ (m : Member). IsById own_id m.roles) first_member [] tt (All-nil _);
+    overwrites = All-nil HasOrderedOverwrites;
+    joined = All-nil (λ (t : Thread). IsById thread_member_id t.members);
+  }
 
 opened_well : (g : Record) (name : List ℕ) (owner : ℕ) (owner_name : List ℕ) (perms at : ℕ) → g.opened ≡ false → IsWell g → IsWell (guild_opened g name owner owner_name perms at)
 opened_well g name owner owner_name perms at shut w =
@@ -74,8 +84,17 @@ in_service_open g tests e = is_true g.opened (not_refused _ NotOpen (first_passe
 
 -- the lists are the same
 same_lists : (g : Record) (opened outage : Bool) (name : List ℕ) (owner : ℕ) → IsAscending g → IsAscending (record g { opened = opened; outage = outage; name = name; owner = owner })
-same_lists g opened outage name owner a = record { roles = a.roles; members = a.members; channels = a.channels; threads = a.threads; voices = a.voices; presences = a.presences;
-    held = a.held; overwrites = a.overwrites; joined = a.joined }
+same_lists g opened outage name owner a = record {
+  roles = a.roles;
+  members = a.members;
+  channels = a.channels;
+  threads = a.threads;
+  voices = a.voices;
+  presences = a.presences;
+  held = a.held;
+  overwrites = a.overwrites;
+  joined = a.joined;
+}
 
 guild_well : (g : Record) (edit : GuildEdit) → IsWell g → guild_verdict g edit ≡ None → IsWell (guild_applied g edit)
 guild_well g (GuildOpen name owner owner_name perms at) w e =
@@ -101,7 +120,11 @@ accepted_well g (Guild edit) w e = guild_well g edit w e
 accepted_well g (RoleMember edit) w e =
     let tests = role_member_verdict g edit ∷ [] in
     let rest = first_passes (role_member_verdict g edit) [] (first_passes (out_of_service g) tests e).1 in
-    well g edit (in_service_open g tests e) w rest.0
+    role_member_well g edit (in_service_open g tests e) w rest.0
+accepted_well g (Channel edit) w e =
+    let tests = channel_verdict g edit ∷ [] in
+    let rest = first_passes (channel_verdict g edit) [] (first_passes (out_of_service g) tests e).1 in
+    channel_well g edit (in_service_open g tests e) w rest.0
 
 by_verdict : (g : Record) (edit : Edit) → IsWell g → (v : Option Verdict) → verdict g edit ≡ v → IsWell (after_verdict v g edit)
 by_verdict g edit w None e = accepted_well g edit w e
@@ -109,20 +132,31 @@ by_verdict g edit w (Some v) e = w
 
 closed_well : (guild : ℕ) → IsWell (closed guild)
 closed_well guild = record {
-    ascending = record { roles = tt; members = tt; channels = tt; threads = tt; voices = tt; presences = tt;
-        held = All-nil (λ (m : Member). IsById own_id m.roles); overwrites = All-nil HasOrderedOverwrites; joined = All-nil (λ (t : Thread). IsById thread_member_id t.members) };
-    consistent = record {
-        empty = λ _. refl;
-        everyone = λ e. absurd (cc);
-        owner = λ e. absurd (cc);
-        held = λ user role m found holds. absurd (cc);
-        overwritten = λ channel role c found there. absurd (cc);
-        voices = λ user v found. absurd (cc);
-        presences = λ user there. absurd (cc);
-        parents = λ thread t found. absurd (cc);
-        joined = λ thread user t found there. absurd (cc);
-        apart = λ id there. refl;
-        places = All-nil _ } }
+  ascending = record {
+    roles = tt;
+    members = tt;
+    channels = tt;
+    threads = tt;
+    voices = tt;
+    presences = tt;
+    held = All-nil (λ (m : Member). IsById own_id m.roles);
+    overwrites = All-nil HasOrderedOverwrites;
+    joined = All-nil (λ (t : Thread). IsById thread_member_id t.members);
+  };
+  consistent = record {
+    empty = λ _. refl;
+    everyone = λ e. absurd (cc);
+    owner = λ e. absurd (cc);
+    held = λ user role m found holds. absurd (cc);
+    overwritten = λ channel role c found there. absurd (cc);
+    voices = λ user v found. absurd (cc);
+    presences = λ user there. absurd (cc);
+    parents = λ thread t found. absurd (cc);
+    joined = λ thread user t found there. absurd (cc);
+    apart = λ id there. refl;
+    places = All-nil _;
+  };
+}
 
 pub keeps : KeepsWell
 keeps g edit w = by_verdict g edit w (verdict g edit) refl
