@@ -1,8 +1,8 @@
 -- The lists of a record still ascend after each edit of channels.
-use Rattle.std.proofs.Common.{◌≡◌, ℕ, Bool, true, false, not, List, [], ◌∷◌, map, Option, Some, None, refl}
-use Rattle.std.specs.Prelude.{◌==◌, filter, All}
+use Rattle.std.proofs.Common.{◌≡◌, ℕ, Bool, true, false, not, List, Option, Some, None, refl}
+use Rattle.std.specs.Prelude.{◌==◌, filter}
 use Rattle.std.proofs.lemmas.List.Elements.{All-filter, All-map, All-weaker}
-use Rattle.collections.specs.ById.{find_id, IsById, put_id, changed_id, without_id}
+use Rattle.collections.specs.ById.{find_id, IsById, without_id}
 use Rattle.collections.proofs.Ids.{IsById-put, IsById-changed}
 use Rattle.collections.proofs.Finds.{IsById-filter, IsById-map}
 use Rattle.collections.proofs.Has.{All-found, All-put, All-changed}
@@ -13,12 +13,11 @@ use Rattle.guild_model.specs.declared.channel.Overwrites.{Overwrites}
 use Rattle.guild_model.specs.declared.channel.OverwriteKind.{OverwriteKind}
 use Rattle.guild_model.specs.declared.channel.OverwriteKind.TheVariants.{Role, Member}
 use Rattle.guild_model.specs.declared.thread.Thread.{Thread}
-use Rattle.guild_model.specs.declared.voice.Voice.{Voice}
 use Rattle.guild_model.specs.Record.{Record, overwrite_id, channel_id, thread_id, thread_member_id, voice_id}
 use Rattle.guild_model.specs.Ascending.{IsAscending, HasOrderedOverwrites}
 use Rattle.channel_edit.specs.Channels.{first_overwrites, overwrites_there, new_channel, channel_created, with_settings, with_channel_changed, channel_updated}
 use Rattle.channel_edit.specs.ChannelEnd.{orphaned, is_outside, speaks_outside, channel_deleted}
-use Rattle.channel_edit.specs.OverwriteEdits.{put_overwrite, with_overwrite, overwrite_was_set, drop_overwrite, without_overwrite, overwrite_deleted}
+use Rattle.channel_edit.specs.OverwriteEdits.{with_overwrite, overwrite_was_set, without_overwrite, overwrite_deleted}
 
 -- overwrites in the order of their ids
 record InOrder (os : Overwrites) : Type 0 where
@@ -41,18 +40,30 @@ module _ (g : Record) (a : IsAscending g) where
       let n : Channel = new_channel g channel kind name parent position sync in
       let first : InOrder (first_overwrites g parent sync) = ordered_first parent sync in
       let ordered : HasOrderedOverwrites n = record { roles = first.roles; members = first.members } in
-      record { roles = a.roles; members = a.members;
+      record {
+        roles = a.roles;
+        members = a.members;
         channels = IsById-put channel_id n g.channels a.channels;
-        threads = a.threads; voices = a.voices; presences = a.presences; held = a.held;
+        threads = a.threads;
+        voices = a.voices;
+        presences = a.presences;
+        held = a.held;
         overwrites = All-put channel_id HasOrderedOverwrites n g.channels ordered a.overwrites;
-        joined = a.joined }
+        joined = a.joined;
+      }
 
   pub channel_changed : (at : ℕ) (f : Channel → Channel) → ((c : Channel) → channel_id (f c) ≡ channel_id c) → ((c : Channel) → HasOrderedOverwrites c → HasOrderedOverwrites (f c)) → IsAscending (with_channel_changed g at f)
-  channel_changed at f same keeps = record { roles = a.roles; members = a.members;
-      channels = IsById-changed channel_id at f g.channels same a.channels;
-      threads = a.threads; voices = a.voices; presences = a.presences; held = a.held;
-      overwrites = All-changed channel_id HasOrderedOverwrites at f g.channels keeps a.overwrites;
-      joined = a.joined }
+  channel_changed at f same keeps = record {
+    roles = a.roles;
+    members = a.members;
+    channels = IsById-changed channel_id at f g.channels same a.channels;
+    threads = a.threads;
+    voices = a.voices;
+    presences = a.presences;
+    held = a.held;
+    overwrites = All-changed channel_id HasOrderedOverwrites at f g.channels keeps a.overwrites;
+    joined = a.joined;
+  }
 
   pub updated : (channel : ℕ) (name : List ℕ) (parent : Option ℕ) (position : ℕ) → IsAscending (channel_updated g channel name parent position)
   updated channel name parent position =
@@ -78,12 +89,16 @@ module _ (g : Record) (a : IsAscending g) where
   pub channel_gone : (channel : ℕ) → IsAscending (channel_deleted g channel)
   channel_gone channel =
       let others : Channel → Bool = λ c. not (channel_id c == channel) in
-      record { roles = a.roles; members = a.members;
+      record {
+        roles = a.roles;
+        members = a.members;
         channels = IsById-map channel_id channel_id (orphaned channel) (λ c. refl) (filter others g.channels) (IsById-filter channel_id others g.channels a.channels);
         threads = IsById-filter thread_id (is_outside channel) g.threads a.threads;
         voices = IsById-filter voice_id (speaks_outside channel) g.voices a.voices;
-        presences = a.presences; held = a.held;
+        presences = a.presences;
+        held = a.held;
         overwrites = All-map HasOrderedOverwrites (orphaned channel) (filter others g.channels)
             (All-weaker HasOrderedOverwrites (λ c. HasOrderedOverwrites (orphaned channel c)) (λ c o. record { roles = o.roles; members = o.members }) (filter others g.channels)
-                (All-filter others HasOrderedOverwrites g.channels a.overwrites));
-        joined = All-filter (is_outside channel) (λ (t : Thread). IsById thread_member_id t.members) g.threads a.joined }
+            (All-filter others HasOrderedOverwrites g.channels a.overwrites));
+        joined = All-filter (is_outside channel) (λ (t : Thread). IsById thread_member_id t.members) g.threads a.joined;
+      }

@@ -1,6 +1,6 @@
 -- A record in which the lists hold together stays so under each edit of channels.
 use Rattle.std.proofs.Common.{◌≡◌, ℕ, Bool, true, false, not, ◌&&◌, ◌||◌, List, [], ◌∷◌, map, Option, Some, None, if◌then◌else◌, refl, sym, ap, ◌∙◌, subst, arith, length}
-use Rattle.std.specs.Prelude.{◌==◌, slice_index_or, is_some, option_map, filter, All}
+use Rattle.std.specs.Prelude.{◌==◌, slice_index_or, is_some, option_map, filter}
 use Rattle.std.proofs.lemmas.Bool.Decides.{nat_tests}
 use Rattle.std.proofs.lemmas.List.Elements.{All-weaker, All-filter, filter_passes}
 use Rattle.collections.specs.ById.{find_id, has_id, put_id, changed_id, without_id, keep_if, IsById}
@@ -18,11 +18,11 @@ use Rattle.guild_model.specs.declared.message.MessageHead.{MessageHead}
 use Rattle.guild_model.specs.declared.verdict.Verdict.TheVariants.{IdTaken, UnknownRole}
 use Rattle.guild_model.specs.Record.{Record, role_id, overwrite_id, channel_id, thread_id, voice_id}
 use Rattle.guild_model.specs.Consistent.{IsConsistent, has_threads, is_parent, is_place}
-use Rattle.guild_model.specs.Tests.{refused_if, first_of, too_long, too_many, unknown_channel}
+use Rattle.guild_model.specs.Tests.{refused_if, too_long, too_many, unknown_channel}
 use Rattle.guild_model.proofs.Tests.{first_passes, not_refused}
 use Rattle.guild_model.proofs.Kept.{channels_changed}
 use Rattle.channel_edit.specs.Channels.{unknown_parent, wrong_parent, first_overwrites, overwrites_there, new_channel, channel_create_verdict, channel_created, with_settings, with_channel_changed, channel_updated}
-use Rattle.channel_edit.specs.ChannelEnd.{orphaned, is_outside, speaks_outside, is_in_channel, is_within, stands_outside, channel_deleted}
+use Rattle.channel_edit.specs.ChannelEnd.{orphaned, is_outside, speaks_outside, is_in_channel, stands_outside, channel_deleted}
 use Rattle.channel_edit.specs.OverwriteEdits.{unknown_target, without_room, overwrite_set_verdict, put_overwrite, with_overwrite, overwrite_was_set, drop_overwrite, without_overwrite, overwrite_deleted, overwrites_with, with_overwrites}
 
 -- what the tests let through
@@ -41,7 +41,7 @@ pub set_as : (g : Record) (channel : ℕ) (kind : OverwriteKind) (o : Overwrite)
     → with_channel_changed g channel (with_overwrites os) ≡ overwrite_was_set g channel o.id kind o.allow o.deny
 set_as g channel kind o os e =
     let same : changed_id channel_id channel (with_overwrites os) g.channels ≡ changed_id channel_id channel (with_overwrite kind o) g.channels =
-        changed_alike channel_id channel _ _ g.channels (λ c found. rw (e, found) refl) in
+    changed_alike channel_id channel _ _ g.channels (λ c found. rw (e, found) refl) in
     ap (λ cs. record g { channels = cs }) same
 
 -- the parts of an answer
@@ -93,7 +93,7 @@ module _ (g : Record) (is_open : g.opened ≡ true) (h : IsConsistent g) where
       (λ id. has-changed channel_id at f same id g.channels)
       (λ id. ap is_parent (find-changed channel_id at f same id g.channels) ∙ same_kind (at == id) f (find_id channel_id id g.channels) kinds)
       (λ channel role c found there.
-          found_changed (at == channel) f c (find_id channel_id channel g.channels) keeps (λ c e role. h.overwritten channel role c e) (sym (find-changed channel_id at f same channel g.channels) ∙ found) role there)
+      found_changed (at == channel) f c (find_id channel_id channel g.channels) keeps (λ c e role. h.overwritten channel role c e) (sym (find-changed channel_id at f same channel g.channels) ∙ found) role there)
 
   pub updated : (channel : ℕ) (name : List ℕ) (parent : Option ℕ) (position : ℕ) → IsConsistent (channel_updated g channel name parent position)
   updated channel name parent position = channel_changed channel (with_settings name parent position) (λ c. refl) (λ c. refl) (λ c old. old)
@@ -166,7 +166,9 @@ module _ (g : Record) (is_open : g.opened ≡ true) (h : IsConsistent g) where
       let free = neither (has_id channel_id channel g.channels) (has_id thread_id channel g.threads) (place_free g channel kind name parent accepted) in
       record {
         empty = λ closed. absurd (cc (is_open, closed));
-        everyone = h.everyone; owner = h.owner; held = h.held;
+        everyone = h.everyone;
+        owner = h.owner;
+        held = h.held;
         overwritten = λ id role c found there.
             found_put (channel == id) c n (find_id channel_id id g.channels) (covered_first parent sync) (λ e role. h.overwritten id role c e) (sym (find-put channel_id n id g.channels) ∙ found) role there;
         voices = λ user v found. let old = h.voices user v found in (old.0, has-kept channel_id n v.channel g.channels old.1);
@@ -178,7 +180,8 @@ module _ (g : Record) (is_open : g.opened ≡ true) (h : IsConsistent g) where
         joined = h.joined;
         apart = λ id there. apart_from channel id free.1 (sym (has-put channel_id n id g.channels) ∙ there);
         places = All-weaker (λ (m : MessageHead). is_place g m.place ≡ true) (λ (m : MessageHead). is_place (channel_created g channel kind name parent position sync) m.place ≡ true)
-            (λ m there. still_place n m.place there) g.messages h.places }
+            (λ m there. still_place n m.place there) g.messages h.places;
+      }
     where
       apart_from : (channel id : ℕ) → has_id thread_id channel g.threads ≡ false → ((channel == id) || has_id channel_id id g.channels) ≡ true → has_id thread_id id g.threads ≡ false
       apart_from channel id free there = by_test (channel == id) refl there
@@ -244,27 +247,30 @@ module _ (g : Record) (is_open : g.opened ≡ true) (h : IsConsistent g) where
 
     pub channel_gone : IsConsistent (channel_deleted g channel)
     channel_gone = record {
-        empty = λ closed. absurd (cc (is_open, closed));
-        everyone = h.everyone; owner = h.owner; held = h.held;
-        overwritten = λ id role c found there.
-            let was = found-map (orphaned channel) (if channel == id then None else find_id channel_id id g.channels) c (sym (find_left id) ∙ found) in
-            let old = found_left (channel == id) (find_id channel_id id g.channels) was.0 was.1.0 in
-            h.overwritten id role was.0 old.1 (sym (ap (λ (c : Channel). has_id overwrite_id role c.overwrites.roles) was.1.1) ∙ there);
-        voices = λ user v found.
-            let was = voice_was user v found in
-            let old = h.voices user v was.0 in
-            (old.0, stays v.channel (two_sides v.channel channel was.1) old.1);
-        presences = h.presences;
-        parents = λ thread t found.
-            let was = thread_was thread t found in
-            ap is_parent (find_left t.parent) ∙ parent_left (channel == t.parent) (find_id channel_id t.parent g.channels) (two_sides t.parent channel was.1) (h.parents thread t was.0);
-        joined = λ thread user t found there. h.joined thread user t (thread_was thread t found).0 there;
-        apart = λ id there.
-            let had = both (channel == id) (has_id channel_id id g.channels) (sym (has_left id) ∙ there) in
-            ap is_some (find-filter thread_id (is_outside channel) id g.threads threads_ascend) ∙ keep_none (is_outside channel) (find_id thread_id id g.threads) (h.apart id had);
-        places = λ k d lt.
-            place_left (slice_index_or (filter (stands_outside g.threads channel) g.messages) k d) (All-filter (stands_outside g.threads channel) (λ (m : MessageHead). is_place g m.place ≡ true) g.messages h.places k d lt)
-            (filter_passes (stands_outside g.threads channel) g.messages k d lt) }
+      empty = λ closed. absurd (cc (is_open, closed));
+      everyone = h.everyone;
+      owner = h.owner;
+      held = h.held;
+      overwritten = λ id role c found there.
+          let was = found-map (orphaned channel) (if channel == id then None else find_id channel_id id g.channels) c (sym (find_left id) ∙ found) in
+          let old = found_left (channel == id) (find_id channel_id id g.channels) was.0 was.1.0 in
+          h.overwritten id role was.0 old.1 (sym (ap (λ (c : Channel). has_id overwrite_id role c.overwrites.roles) was.1.1) ∙ there);
+      voices = λ user v found.
+          let was = voice_was user v found in
+          let old = h.voices user v was.0 in
+          (old.0, stays v.channel (two_sides v.channel channel was.1) old.1);
+      presences = h.presences;
+      parents = λ thread t found.
+          let was = thread_was thread t found in
+          ap is_parent (find_left t.parent) ∙ parent_left (channel == t.parent) (find_id channel_id t.parent g.channels) (two_sides t.parent channel was.1) (h.parents thread t was.0);
+      joined = λ thread user t found there. h.joined thread user t (thread_was thread t found).0 there;
+      apart = λ id there.
+          let had = both (channel == id) (has_id channel_id id g.channels) (sym (has_left id) ∙ there) in
+          ap is_some (find-filter thread_id (is_outside channel) id g.threads threads_ascend) ∙ keep_none (is_outside channel) (find_id thread_id id g.threads) (h.apart id had);
+      places = λ k d lt.
+          place_left (slice_index_or (filter (stands_outside g.threads channel) g.messages) k d) (All-filter (stands_outside g.threads channel) (λ (m : MessageHead). is_place g m.place ≡ true) g.messages h.places k d lt)
+          (filter_passes (stands_outside g.threads channel) g.messages k d lt);
+    }
       where
         both : (b c : Bool) → (not b && c) ≡ true → c ≡ true
         both true c e = absurd (cc)

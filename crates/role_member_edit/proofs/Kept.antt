@@ -1,24 +1,22 @@
 -- A record in which the lists hold together stays so under each edit of roles and members.
 use Rattle.std.proofs.Common.{◌≡◌, ℕ, Bool, true, false, not, ◌&&◌, ◌||◌, List, [], ◌∷◌, map, Option, Some, None, if◌then◌else◌, refl, sym, ap, ◌∙◌, subst, arith}
-use Rattle.std.specs.Prelude.{◌==◌, is_some, option_map, All}
+use Rattle.std.specs.Prelude.{◌==◌, option_map}
 use Rattle.std.proofs.lemmas.Bool.Decides.{nat_tests}
 use Rattle.std.proofs.lemmas.List.Elements.{All-weaker}
 use Rattle.collections.specs.ById.{find_id, has_id, put_id, changed_id, without_id}
 use Rattle.collections.proofs.Finds.{find-put, find-changed, find-without, find-map}
 use Rattle.collections.proofs.Has.{has-put, has-kept, has-without, has-changed, has-map, changed_alike}
-use Rattle.guild_model.specs.declared.role.Role.{Role}
 use Rattle.guild_model.specs.declared.member.Member.{Member}
 use Rattle.guild_model.specs.declared.channel.Channel.{Channel}
 use Rattle.guild_model.specs.declared.thread.Thread.{Thread}
-use Rattle.guild_model.specs.declared.voice.Voice.{Voice}
 use Rattle.guild_model.specs.declared.message.MessageHead.{MessageHead}
 use Rattle.guild_model.specs.Record.{Record, own_id, role_id, member_id, overwrite_id, channel_id, thread_id, thread_member_id, voice_id, presence_id}
-use Rattle.guild_model.specs.Consistent.{IsConsistent, has_threads, is_parent, is_place}
+use Rattle.guild_model.specs.Consistent.{IsConsistent, is_parent, is_place}
 use Rattle.guild_model.specs.declared.verdict.Verdict.TheVariants.{UnknownRole, IdTaken, EveryoneRole, OwnerStays}
 use Rattle.guild_model.specs.Tests.{refused_if, unknown_role, unknown_member}
 use Rattle.guild_model.proofs.Tests.{first_passes, not_refused}
 use Rattle.guild_model.specs.Changes.{without_role, without_role_overwrite}
-use Rattle.guild_model.proofs.Kept.{role_set, members_changed}
+use Rattle.guild_model.proofs.Kept.{members_changed}
 use Rattle.role_member_edit.specs.Roles.{everyone_role, role_delete_verdict, role_deleted}
 use Rattle.role_member_edit.specs.Members.{owner_stays, member_remove_verdict, new_member, member_added, without_user, member_removed, with_member_changed, with_nick, with_timeout}
 use Rattle.role_member_edit.specs.HeldRoles.{holds, member_role_add_verdict, member_role_added, with_role, with_roles, held_with}
@@ -50,7 +48,7 @@ a_role g user role e =
 pub given_as : (g : Record) (user role : ℕ) (roles : List ℕ) → roles ≡ held_with g user role → with_member_changed g user (with_roles roles) ≡ member_role_added g user role
 given_as g user role roles e =
     let same : changed_id member_id user (with_roles roles) g.members ≡ changed_id member_id user (with_role role) g.members =
-        changed_alike member_id user _ _ g.members (λ m found. rw (e, found) refl) in
+    changed_alike member_id user _ _ g.members (λ m found. rw (e, found) refl) in
     ap (λ ms. record g { members = ms }) same
 
 module _ (g : Record) (is_open : g.opened ≡ true) (h : IsConsistent g) where
@@ -161,7 +159,8 @@ module _ (g : Record) (is_open : g.opened ≡ true) (h : IsConsistent g) where
         joined = λ thread user t found there. members user ∙ h.joined thread user t found there;
         apart = λ id there. h.apart id (sym (channels id) ∙ there);
         places = All-weaker (λ (m : MessageHead). is_place g m.place ≡ true) (λ (m : MessageHead). is_place (role_deleted g role) m.place ≡ true)
-            (λ m there. ap (λ b. b || has_id thread_id m.place g.threads) (channels m.place) ∙ there) g.messages h.places }
+            (λ m there. ap (λ b. b || has_id thread_id m.place g.threads) (channels m.place) ∙ there) g.messages h.places;
+      }
 
   -- a member goes
   still_member : (user other : ℕ) → (user == other) ≡ false → has_id member_id other g.members ≡ true → has_id member_id other (without_id member_id user g.members) ≡ true
@@ -182,7 +181,7 @@ module _ (g : Record) (is_open : g.opened ≡ true) (h : IsConsistent g) where
       let ne : (user == g.owner) ≡ false = remove_other g user accepted in
       let threads : (id : ℕ) → has_id thread_id id (map (without_user user) g.threads) ≡ has_id thread_id id g.threads = λ id. has-map thread_id (without_user user) (λ t. refl) id g.threads in
       let thread_was : (thread : ℕ) (t : Thread) → find_id thread_id thread (map (without_user user) g.threads) ≡ Some t → (x : Thread) × ((find_id thread_id thread g.threads ≡ Some x) × (t ≡ without_user user x)) =
-          λ thread t found. found-map (without_user user) (find_id thread_id thread g.threads) t (sym (find-map thread_id thread_id (without_user user) (λ t. refl) thread g.threads) ∙ found) in
+      λ thread t found. found-map (without_user user) (find_id thread_id thread g.threads) t (sym (find-map thread_id thread_id (without_user user) (λ t. refl) thread g.threads) ∙ found) in
       record {
         empty = λ closed. absurd (cc (is_open, closed));
         everyone = h.everyone;
@@ -206,4 +205,5 @@ module _ (g : Record) (is_open : g.opened ≡ true) (h : IsConsistent g) where
             joined_left user other t was.0 was.1.1 (h.joined thread other was.0 was.1.0) there;
         apart = λ id there. threads id ∙ h.apart id there;
         places = All-weaker (λ (m : MessageHead). is_place g m.place ≡ true) (λ (m : MessageHead). is_place (member_removed g user) m.place ≡ true)
-            (λ m there. ap (λ b. has_id channel_id m.place g.channels || b) (threads m.place) ∙ there) g.messages h.places }
+            (λ m there. ap (λ b. has_id channel_id m.place g.channels || b) (threads m.place) ∙ there) g.messages h.places;
+      }

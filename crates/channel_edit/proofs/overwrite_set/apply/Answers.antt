@@ -18,4 +18,4 @@ returns-clause-ok c =
     let overwrites = rw (← c.guild.view_is) at c.in_ok-overwrites.ensures in
     rw (c.change.ensures, c.channel.view_is)
     (set_as _ c.args.channel c.args.kind c.args.overwrite _ overwrites
-        ∙ ap (λ (g : Record). overwrite_was_set g c.args.channel c.args.overwrite.id c.args.kind c.args.overwrite.allow c.args.overwrite.deny) c.guild.view_is)
+    ∙ ap (λ (g : Record). overwrite_was_set g c.args.channel c.args.overwrite.id c.args.kind c.args.overwrite.allow c.args.overwrite.deny) c.guild.view_is)
