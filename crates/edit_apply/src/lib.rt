@@ -117,3 +117,6 @@ pub fn keeps_well()
 pub fn stays_well()
     ensures { StaysWell }
 {}
+
+#[cfg(test)]
+mod tests;
