@@ -1,5 +1,5 @@
 -- Look-ups and edits of lists that ascend by id.
-use Rattle.std.proofs.Common.{◌≡◌, ℕ, zero, suc, ◌<◌, ◌≤◌, Bool, true, false, List, [], ◌∷◌, length, get_or, set, None, IsSome, slice_get, if◌then◌else◌, refl, ap, subst, arith, inl, inr}
+use Rattle.std.proofs.Common.{◌≡◌, ℕ, zero, suc, ◌<◌, ◌≤◌, Bool, true, false, List, [], ◌∷◌, length, get_or, set, None, Some, IsSome, slice_get, if◌then◌else◌, refl, ap, subst, arith, inl, inr}
 use Rattle.std.specs.Prelude.{nat_lt, ◌==◌}
 use Rattle.std.specs.List.{insert}
 use Rattle.std.specs.List.Sorted.{IsPartitionedBy, IsNonDecreasingBy, IsPartitionPoint}
@@ -154,4 +154,18 @@ module _ {T : Type 0} (key : T → ℕ) where
   ]
     where
       skip : key y < key x → find_id key (key x) (y ∷ ys) ≡ find_id key (key x) ys
+      skip lt = grind (arith, nat_tests)
+
+  -- what is found lies behind those with a smaller id
+  pub found_at : (id : ℕ) (xs : List T) (d : T) → IsById key xs → IsSome (find_id key id xs) → find_id key id xs ≡ Some (get_or xs (count_below key id xs) d)
+  found_at id [] d h there = absurd (cc there)
+  found_at id (x ∷ xs) d h there = elim (cases_lt (key x) id) [
+    | inl lt ↦ (let found : IsSome (find_id key id xs) = subst IsSome (skip lt) there in let rest = found_at id xs d h.1 found in grind (arith, nat_tests, rest))
+    | inr ge ↦ elim (cases_lt id (key x)) [
+      | inl below ↦ (let none : find_id key id (x ∷ xs) ≡ None = find_above id id (x ∷ xs) (omega arith) (below, AllAbove-weaker id (key x) xs (omega arith) h.0) in absurd (cc (subst IsSome none there)))
+      | inr le ↦ (let same : key x ≡ id = omega arith in grind (arith, nat_tests, same))
+    ]
+  ]
+    where
+      skip : key x < id → find_id key id (x ∷ xs) ≡ find_id key id xs
       skip lt = grind (arith, nat_tests)

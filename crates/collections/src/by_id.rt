@@ -1,4 +1,4 @@
-ghost use Rattle.std.specs.Prelude.{◌≡◌, ℕ, [], OnOk, OnErr, None, slice_get, is_some, IfOk, IsSome, length, map};
+ghost use Rattle.std.specs.Prelude.{Some, ◌≡◌, ℕ, [], OnOk, OnErr, None, slice_get, is_some, IfOk, IsSome, length, map};
 ghost use Rattle.std.specs.Option.{option_copied};
 ghost use Rattle.std.specs.Fn.{CalledAt};
 ghost use Rattle.std.specs.List.Retain.{IsFiltered};
@@ -7,6 +7,7 @@ ghost use Rattle.collections.specs.ById.{IsById, find_id, put_id, count_below, w
 use snowflake_id::Snowflake;
 use std::alloc::{AllocError, Global};
 use std::marker::Model;
+use std::mem;
 
 /// What has an id: a number by which a list may ascend.
 pub trait Keyed {
@@ -71,6 +72,19 @@ fn change_each<T: Keyed, C: Change<T> + Copy>(items: &mut Vec<T>, change: C)
     for item in items.iter_mut() {
         change.change(item);
     }
+}
+
+fn exchange_at<T: Keyed + Drop>(items: &mut Vec<T>, item: T) -> T
+    requires ascending { IsById T.key items.old.items }
+    requires there { IsSome (find_id T.key (T.key item) items.old.items) }
+    ensures given { find_id T.key (T.key item) items.old.items ≡ Some result }
+    ensures set { items.new.items ≡ put_id T.key item items.old.items }
+{
+    let place = place_of(items.as_slice(), item.key());
+    if place >= items.len() {
+        return item;
+    }
+    mem::replace(&mut items[place], item)
 }
 
 /// A list of records, ascending by id.
@@ -186,6 +200,15 @@ impl<T: Keyed + Drop> ById<T> {
         ensures { self.new ≡ put_id T.key item self.old }
     {
         replace_at(&mut self.items, item);
+    }
+
+    /// Sets a record in the place of the one with its id, which is there, and hands that one out.
+    pub fn exchange(&mut self, item: T) -> T
+        requires { IsSome (find_id T.key (T.key item) self.old) }
+        ensures given { find_id T.key (T.key item) self.old ≡ Some result }
+        ensures set { self.new ≡ put_id T.key item self.old }
+    {
+        exchange_at(&mut self.items, item)
     }
 
     /// Keeps the records at which a test is true.

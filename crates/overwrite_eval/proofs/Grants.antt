@@ -11,6 +11,7 @@ use Rattle.guild_model.specs.declared.channel.Channel.{Channel}
 use Rattle.guild_model.specs.declared.channel.Overwrites.{Overwrites}
 use Rattle.guild_model.specs.Record.{Record, member_id, channel_id}
 use Rattle.guild_model.specs.Permissions.{named, roles_have, part_base, part_grants, base, base_of, grants, grants_of}
+use Rattle.overwrite_eval.specs.FromBase.{from_base}
 use Rattle.guild_model.specs.Sight.{Standing, standing, granted, granted_in}
 
 -- a base mask has ADMINISTRATOR exactly where its member may do all
@@ -22,7 +23,7 @@ lifts false false held base_admin base by_tiers e is = rw (e, is) refl
 
 pub grants_from_base : (guild owner : ℕ) (roles : List Role) (m : Member) (os : Overwrites) (base : ℕ)
     → ((b : ℕ) → b < 53 → has_bit base b ≡ part_base guild owner roles m b)
-    → (b : ℕ) → b < 53 → (has_bit base administrator || unwrap_or (named guild m os b) (has_bit base b)) ≡ part_grants guild owner roles m os b
+    → (b : ℕ) → b < 53 → from_base guild m os base b ≡ part_grants guild owner roles m os b
 unfolding part_base part_grants
 grants_from_base guild owner roles m os base is b below =
     lifts (owner == m.user.id) (roles_have guild roles m.roles administrator) (roles_have guild roles m.roles b) (has_bit base administrator) (has_bit base b)
@@ -38,7 +39,7 @@ granted_missing s channel b missing = ap (granted_in s b) missing
 
 pub granted_from_base : (s : Standing) (channel : ℕ) (c : Channel) (base : ℕ) → find_id channel_id channel s.channels ≡ Some c
     → ((b : ℕ) → b < 53 → has_bit base b ≡ part_base s.guild s.owner s.roles s.me b)
-    → (b : ℕ) → b < 53 → (has_bit base administrator || unwrap_or (named s.guild s.me c.overwrites b) (has_bit base b)) ≡ granted s channel b
+    → (b : ℕ) → b < 53 → from_base s.guild s.me c.overwrites base b ≡ granted s channel b
 granted_from_base s channel c base found is b below = grants_from_base s.guild s.owner s.roles s.me c.overwrites base is b below ∙ sym (granted_found s channel c b found)
 
 in_record : (g : Record) (m : Member) (c : Option Channel) (b : ℕ) → granted_in (standing g m) b c ≡ grants_of g (Some m) c b
@@ -60,7 +61,7 @@ granted_user g user channel b = sight_in_record g channel b (find_id member_id u
 
 pub grants_from : (g : Record) (user channel guild : ℕ) (m : Member) (c : Channel) (mask : ℕ) → g.id ≡ guild → find_id member_id user g.members ≡ Some m → find_id channel_id channel g.channels ≡ Some c
     → ((b : ℕ) → b < 53 → has_bit mask b ≡ base g user b)
-    → (b : ℕ) → b < 53 → (has_bit mask administrator || unwrap_or (named guild m c.overwrites b) (has_bit mask b)) ≡ grants g user channel b
+    → (b : ℕ) → b < 53 → from_base guild m c.overwrites mask b ≡ grants g user channel b
 grants_from g user channel guild m c mask same member found is b below =
     rw (← same)
     (granted_from_base (standing g m) channel c mask found (λ b below. is b below ∙ ap (λ o. base_of g o b) member) b below ∙ granted_member g user channel m b member)

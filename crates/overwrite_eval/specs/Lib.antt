@@ -1,2 +1,3 @@
+pub mod FromBase
 pub mod Looks
 pub mod Tiers

@@ -1,5 +1,5 @@
 -- How many roles and overwrites there are to look at.
-use Rattle.std.specs.Prelude.{ℕ, ◌+◌, length, Option, Some, None}
+use Rattle.std.specs.Prelude.{ℕ, ◌+◌, length}
 use Rattle.std.specs.Option.{option_map_or}
 use Rattle.collections.specs.ById.{find_id}
 use Rattle.guild_model.specs.declared.channel.Channel.{Channel}
@@ -17,8 +17,10 @@ looks_of os = length os.roles + length os.members
 
 -- the overwrites of a channel
 abbrev pub overwrite_looks : Record → ℕ → ℕ
-overwrite_looks g channel = option_map_or (λ (c : Channel). looks_of c.overwrites) (find_id channel_id channel g.channels) 0
+overwrite_looks g channel =
+    option_map_or (λ (c : Channel). looks_of c.overwrites) (find_id channel_id channel g.channels) 0
 
 -- the overwrites of the channel that a thread stands in
 abbrev pub parent_looks : Record → ℕ → ℕ
-parent_looks g thread = option_map_or (λ (t : Thread). overwrite_looks g t.parent) (find_id thread_id thread g.threads) 0
+parent_looks g thread =
+    option_map_or (λ (t : Thread). overwrite_looks g t.parent) (find_id thread_id thread g.threads) 0

@@ -24,7 +24,7 @@ fn item_at<T: Keyed>(items: &[T], place: usize, id: u64) -> Option<&T>
 }
 
 // The record of an id, and nothing exactly where there is none.
-pub fn find<T: Keyed>(items: &[T], id: u64) -> Option<&T>
+pub(crate) fn find<T: Keyed>(items: &[T], id: u64) -> Option<&T>
     requires { IsById T.key items.now }
     ensures { option_copied result ≡ find_id T.key id items.now }
 {

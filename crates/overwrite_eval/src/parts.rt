@@ -1,9 +1,10 @@
-ghost use Rattle.std.specs.Prelude.{◌≡◌, ◌+◌, ◌<◌, ◌≤◌, ℕ, ◌||◌, length, unwrap_or};
+ghost use Rattle.std.specs.Prelude.{◌≡◌, ◌+◌, ◌<◌, ◌≤◌, ℕ, length};
 ghost use Rattle.collections.specs.ById.{IsById};
 ghost use Rattle.perm_bits.specs.Bits.{has_bit};
 ghost use Rattle.perm_bits.specs.Permissions.{administrator};
 ghost use Rattle.guild_model.specs.Record.{role_id};
-ghost use Rattle.guild_model.specs.Permissions.{named, part_base, part_grants};
+ghost use Rattle.guild_model.specs.Permissions.{part_base, part_grants};
+ghost use Rattle.overwrite_eval.specs.FromBase.{from_base};
 ghost use Rattle.overwrite_eval.specs.Looks.{looks_of};
 
 use crate::roles::roles_mask;
@@ -24,7 +25,7 @@ fn is_administrator(mask: Perms) -> bool
 
 // The base mask of a member.
 #[tactic(auto, using(perm_bits::proofs::BitSets::bit_sets), unfolding(guild_model::specs::Permissions::part_base))]
-pub fn member_base<L: Ledger>(
+pub(crate) fn member_base<L: Ledger>(
     guild: Snowflake,
     owner: Snowflake,
     roles: &[Role],
@@ -32,7 +33,8 @@ pub fn member_base<L: Ledger>(
     steps: &mut Steps<L>,
 ) -> Perms
     requires { IsById role_id roles.now }
-    ensures bits { (b : ℕ) → b < 53 → has_bit result b ≡ part_base guild owner roles.now member.now b }
+    ensures bits { (b : ℕ) → b < 53
+        → has_bit result b ≡ part_base guild owner roles.now member.now b }
     ensures looks { steps.new ≡ steps.old + (length member.now.roles + 1) }
 {
     let mask = roles_mask(guild, roles, member.roles.as_slice(), steps);
@@ -45,7 +47,7 @@ pub fn member_base<L: Ledger>(
 
 // The mask in a channel, from the base mask, which has ADMINISTRATOR where the member may do all.
 #[tactic(auto, using(perm_bits::proofs::BitSets::bit_sets))]
-pub fn member_mask<L: Ledger>(
+pub(crate) fn member_mask<L: Ledger>(
     guild: Snowflake,
     member: &Member,
     channel: &Channel,
@@ -53,7 +55,7 @@ pub fn member_mask<L: Ledger>(
     steps: &mut Steps<L>,
 ) -> Perms
     ensures bits { (b : ℕ) → b < 53
-        → has_bit result b ≡ (has_bit base administrator || unwrap_or (named guild member.now channel.now.overwrites b) (has_bit base b)) }
+        → has_bit result b ≡ from_base guild member.now channel.now.overwrites base b }
     ensures at_least { steps.old ≤ steps.new }
     ensures at_most { steps.new ≤ steps.old + looks_of channel.now.overwrites }
 {
@@ -76,7 +78,8 @@ fn base_on<L: Ledger>(
     requires name { blank.name ≡ L.name }
     requires parts { blank.parts ≡ L.parts }
     requires shared { 0 < blank.parts }
-    ensures { (b : ℕ) → b < 53 → has_bit result b ≡ part_base guild owner roles.now member.now b }
+    ensures { (b : ℕ) → b < 53
+        → has_bit result b ≡ part_base guild owner roles.now member.now b }
 {
     member_base(guild, owner, roles, member, &mut Steps::<L>::new(blank))
 }
@@ -93,23 +96,34 @@ fn mask_on<L: Ledger>(
     requires parts { blank.parts ≡ L.parts }
     requires shared { 0 < blank.parts }
     ensures { (b : ℕ) → b < 53
-        → has_bit result b ≡ (has_bit base administrator || unwrap_or (named guild member.now channel.now.overwrites b) (has_bit base b)) }
+        → has_bit result b ≡ from_base guild member.now channel.now.overwrites base b }
 {
     member_mask(guild, member, channel, base, &mut Steps::<L>::new(blank))
 }
 
 // The base mask of a member, uncounted.
-pub fn part_base(guild: Snowflake, owner: Snowflake, roles: &[Role], member: &Member) -> Perms
+pub(crate) fn part_base(
+    guild: Snowflake,
+    owner: Snowflake,
+    roles: &[Role],
+    member: &Member,
+) -> Perms
     requires { IsById role_id roles.now }
-    ensures { (b : ℕ) → b < 53 → has_bit result b ≡ part_base guild owner roles.now member.now b }
+    ensures { (b : ℕ) → b < 53
+        → has_bit result b ≡ part_base guild owner roles.now member.now b }
 {
     base_on::<Brand>(guild, owner, roles, member, Blank::new(1))
 }
 
 // The mask in a channel from the base mask, uncounted.
-pub fn part_mask_from(guild: Snowflake, member: &Member, channel: &Channel, base: Perms) -> Perms
+pub(crate) fn part_mask_from(
+    guild: Snowflake,
+    member: &Member,
+    channel: &Channel,
+    base: Perms,
+) -> Perms
     ensures { (b : ℕ) → b < 53
-        → has_bit result b ≡ (has_bit base administrator || unwrap_or (named guild member.now channel.now.overwrites b) (has_bit base b)) }
+        → has_bit result b ≡ from_base guild member.now channel.now.overwrites base b }
 {
     mask_on::<Brand>(guild, member, channel, base, Blank::new(1))
 }

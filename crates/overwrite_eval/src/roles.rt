@@ -26,7 +26,7 @@ fn role_mask<L: Ledger>(roles: &[Role], id: Snowflake, steps: &mut Steps<L>) -> 
 }
 
 // The masks of @everyone, whose id is the guild's, and of the held roles, united.
-pub fn roles_mask<L: Ledger>(
+pub(crate) fn roles_mask<L: Ledger>(
     guild: Snowflake,
     roles: &[Role],
     held: &[Snowflake],

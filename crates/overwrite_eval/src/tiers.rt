@@ -16,7 +16,7 @@ use step_count::Steps;
 
 // What the overwrites of one tier allow and deny, united.
 #[derive(Clone, Copy)]
-pub struct Tier {
+struct Tier {
     allow: Perms,
     deny: Perms,
 }
@@ -38,9 +38,11 @@ impl Tier {
 
     fn add(&mut self, overwrite: &Overwrite, belongs: bool)
         ensures allow { (b : ℕ)
-            → has_bit self.new.allow b ≡ (has_bit self.old.allow b || (belongs && has_bit overwrite.now.allow b)) }
+            → has_bit self.new.allow b
+            ≡ (has_bit self.old.allow b || (belongs && has_bit overwrite.now.allow b)) }
         ensures deny { (b : ℕ)
-            → has_bit self.new.deny b ≡ (has_bit self.old.deny b || (belongs && has_bit overwrite.now.deny b)) }
+            → has_bit self.new.deny b
+            ≡ (has_bit self.old.deny b || (belongs && has_bit overwrite.now.deny b)) }
     {
         if belongs {
             self.allow = self.allow.union(overwrite.allow);
@@ -59,7 +61,7 @@ impl Tier {
 
 // The tiers of a channel's overwrites of roles.
 #[derive(Clone, Copy)]
-pub struct RoleTiers {
+struct RoleTiers {
     everyone: Tier,
     held: Tier,
 }
@@ -106,7 +108,7 @@ fn member_tier<L: Ledger>(user: Snowflake, overwrites: &[Overwrite], steps: &mut
 }
 
 // What a channel's overwrites make of a member's base mask.
-pub fn overwritten<L: Ledger>(
+pub(crate) fn overwritten<L: Ledger>(
     guild: Snowflake,
     member: &Member,
     overwrites: &Overwrites,

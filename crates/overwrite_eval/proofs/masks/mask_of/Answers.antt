@@ -1,4 +1,4 @@
-use Rattle.std.proofs.Common.{◌≡◌, ◌<◌, ℕ, Some, None, sym, ap, ◌∙◌}
+use Rattle.std.proofs.Common.{◌≡◌, ◌<◌, ℕ, Some, sym, ap, ◌∙◌}
 use Rattle.std.specs.Option.{option_copied}
 use Rattle.collections.specs.ById.{find_id}
 use Rattle.guild_model.specs.Record.{Record, channel_id}
@@ -17,7 +17,8 @@ returns-in-Some-clause-bits g c b below =
     ap (λ (r : Record). find_id channel_id c.args.channel r.channels) c.guild.view_is ∙ sym c.channel.ensures ∙ ap option_copied c.in-Some.is in
     let is : (b : ℕ) → b < 53 → has_bit c.member_base-base.result b ≡ part_base inside.id inside.owner inside.roles c.args.member.now b =
     λ b below. rw (← c.as_slice.ensures.items) (c.member_base-base.ensures.bits b below) in
-    rw (← c.guild.view_is) (c.member_mask.ensures.bits b below ∙ granted_from_base s c.args.channel c.in-Some.channel.now c.member_base-base.result found is b below)
+    let bits = c.member_mask.ensures.bits b below in
+    rw (← c.guild.view_is, bits) (granted_from_base s c.args.channel c.in-Some.channel.now c.member_base-base.result found is b below)
 
 pub returns-in-None-clause-bits : goal.returns-in-None-clause-bits
 returns-in-None-clause-bits g c b below =

@@ -1,5 +1,5 @@
 -- The record of the test is consistent: each id that one list names stands in the other.
-use Rattle.std.proofs.Common.{◌≡◌, ℕ, Bool, true, false, List, [], ◌∷◌, Option, Some, None, if◌then◌else◌, refl, subst, sym, eqb-true}
+use Rattle.std.proofs.Common.{◌≡◌, ℕ, Bool, true, false, List, [], ◌∷◌, Option, Some, None, if◌then◌else◌, refl, subst, eqb-true}
 use Rattle.std.specs.Prelude.{◌==◌, is_some}
 use Rattle.std.proofs.lemmas.List.Elements.{All-nil}
 use Rattle.collections.specs.ById.{find_id, has_id}
@@ -10,7 +10,7 @@ use Rattle.guild_model.specs.declared.channel.Overwrite.{Overwrite}
 use Rattle.guild_model.specs.declared.channel.ChannelKind.TheVariants as channel
 use Rattle.guild_model.specs.declared.thread.Thread.{Thread}
 use Rattle.guild_model.specs.declared.thread.ThreadKind.TheVariants as thread
-use Rattle.guild_model.specs.Record.{Record, own_id, role_id, member_id, overwrite_id, channel_id, thread_id, thread_member_id}
+use Rattle.guild_model.specs.Record.{own_id, role_id, member_id, overwrite_id, channel_id, thread_id}
 use Rattle.guild_model.specs.Consistent.{IsConsistent, is_parent}
 use Rattle.overwrite_eval.proofs.tests.den.Goals as goal
 
@@ -81,17 +81,30 @@ HasParent t = is_parent (find_id channel_id t.parent channels) ≡ true
 abbrev IsEmpty : Thread → Type 0
 IsEmpty t = t.members ≡ []
 
-consistent : (joined : ℕ) (name : List ℕ) → IsConsistent (record { id = 1; opened = true; outage = false; name = name; owner = 5;
-    roles = roles; members = members joined; channels = channels; threads = threads; voices = []; presences = []; messages = [] })
+consistent : (joined : ℕ) (name : List ℕ) → IsConsistent (record {
+  id = 1;
+  opened = true;
+  outage = false;
+  name = name;
+  owner = 5;
+  roles = roles;
+  members = members joined;
+  channels = channels;
+  threads = threads;
+  voices = [];
+  presences = [];
+  messages = [];
+})
 consistent joined name = record {
   empty = λ e. absurd (cc);
   everyone = λ _. refl;
   owner = λ _. refl;
   held = λ user role m found. found_each member_id HoldsThere (members joined)
       ((λ role has. absurd (cc)), ((λ role has. has_each own_id IsThere (11 ∷ 12 ∷ []) ((refl, refl), ((refl, refl), tt)) role has), tt)) user m found role;
-  overwritten = λ channel role c found. found_each channel_id NamesThere channels
-      ((λ role has. has_each overwrite_id IsRole (overwrite 1 1024 1024 ∷ []) (refl, tt) role has),
-      ((λ role has. has_each overwrite_id IsRole named (refl, (refl, tt)) role has), ((λ role has. has_each overwrite_id IsRole named (refl, (refl, tt)) role has), tt)))
+  overwritten = λ channel role c found. found_each channel_id NamesThere channels (
+    (λ role has. has_each overwrite_id IsRole (overwrite 1 1024 1024 ∷ []) (refl, tt) role has),
+    ((λ role has. has_each overwrite_id IsRole named (refl, (refl, tt)) role has), ((λ role has. has_each overwrite_id IsRole named (refl, (refl, tt)) role has), tt)),
+  )
       channel c found role;
   voices = λ user v found. absurd (cc);
   presences = λ user has. absurd (cc);
@@ -105,9 +118,25 @@ pub invariant_of-result : goal.invariant_of-result
 invariant_of-result c =
     let roles_are : c.in_ok-roles.roles ≡ roles = rw (c.in_ok-roles.ensures, c.role.ensures, c.role-2.ensures, c.role-3.ensures) refl in
     let members_are : c.in_ok-members.members ≡ members c.args.joined =
-        rw (c.in_ok-members.ensures, c.member-owner.ensures, c.member.ensures, c.in_ok-held.ensures, c.new.ensures) refl in
+    rw (c.in_ok-members.ensures, c.member-owner.ensures, c.member.ensures, c.in_ok-held.ensures, c.new.ensures) refl in
     let threads_are : c.in_ok-threads.threads ≡ threads = rw (c.in_ok-threads.ensures, c.thread.ensures) refl in
     let channels_are : c.in_ok-channels.channels ≡ channels =
-        rw (c.in_ok-channels.ensures, c.channel-first.ensures, c.channel-second.ensures, c.channel.ensures, c.in_ok-everyone.ensures, c.in_ok-of_roles.ensures, c.in_ok-with_own.ensures, c.in_ok-own.ensures,
-        c.new-2.ensures, c.new-3.ensures, c.overwrite.ensures, c.overwrite-2.ensures, c.overwrite-3.ensures, c.overwrite-4.ensures, c.overwrite-5.ensures, c.overwrite-6.ensures) refl in
+    rw (
+      c.in_ok-channels.ensures,
+      c.channel-first.ensures,
+      c.channel-second.ensures,
+      c.channel.ensures,
+      c.in_ok-everyone.ensures,
+      c.in_ok-of_roles.ensures,
+      c.in_ok-with_own.ensures,
+      c.in_ok-own.ensures,
+      c.new-2.ensures,
+      c.new-3.ensures,
+      c.overwrite.ensures,
+      c.overwrite-2.ensures,
+      c.overwrite-3.ensures,
+      c.overwrite-4.ensures,
+      c.overwrite-5.ensures,
+      c.overwrite-6.ensures,
+    ) refl in
     rw (roles_are, members_are, channels_are, threads_are, c.new-4.ensures, c.new-5.ensures, c.new-6.ensures) (consistent c.args.joined c.empty.result)

@@ -1,4 +1,4 @@
-use Rattle.std.proofs.Common.{◌≡◌, Some, None, sym, ap, ◌∙◌}
+use Rattle.std.proofs.Common.{sym, ap, ◌∙◌}
 use Rattle.std.specs.Option.{option_copied}
 use Rattle.overwrite_eval.proofs.TierFacts.{unites_found, unites_missing}
 use Rattle.overwrite_eval.proofs.tiers.member_tier.Goals as goal

@@ -1,0 +1,5 @@
+use Rattle.collections.proofs.Ids.{IsById-put}
+use Rattle.collections.proofs.by_id.ById.exchange.Goals as goal
+
+pub invariant_of-self : goal.invariant_of-self
+invariant_of-self g c = rw c.exchange_at.ensures.set (IsById-put g.T.Keyed.key c.args.item _ c.self.invariant)
