@@ -1,8 +1,8 @@
 -- The lists of a record still ascend after each edit of channels.
-use Rattle.std.proofs.Common.{◌≡◌, ℕ, Bool, true, false, not, List, [], ◌∷◌, map, Option, Some, None, refl}
-use Rattle.std.specs.Prelude.{◌==◌, filter, All}
+use Rattle.std.proofs.Common.{◌≡◌, ℕ, Bool, true, false, not, List, Option, Some, None, refl}
+use Rattle.std.specs.Prelude.{◌==◌, filter}
 use Rattle.std.proofs.lemmas.List.Elements.{All-filter, All-map, All-weaker}
-use Rattle.collections.specs.ById.{find_id, IsById, put_id, changed_id, without_id}
+use Rattle.collections.specs.ById.{find_id, IsById, without_id}
 use Rattle.collections.proofs.Ids.{IsById-put, IsById-changed}
 use Rattle.collections.proofs.Finds.{IsById-filter, IsById-map}
 use Rattle.collections.proofs.Has.{All-found, All-put, All-changed}
@@ -13,12 +13,11 @@ use Rattle.guild_model.specs.declared.channel.Overwrites.{Overwrites}
 use Rattle.guild_model.specs.declared.channel.OverwriteKind.{OverwriteKind}
 use Rattle.guild_model.specs.declared.channel.OverwriteKind.TheVariants.{Role, Member}
 use Rattle.guild_model.specs.declared.thread.Thread.{Thread}
-use Rattle.guild_model.specs.declared.voice.Voice.{Voice}
 use Rattle.guild_model.specs.Record.{Record, overwrite_id, channel_id, thread_id, thread_member_id, voice_id}
 use Rattle.guild_model.specs.Ascending.{IsAscending, HasOrderedOverwrites}
 use Rattle.channel_edit.specs.Channels.{first_overwrites, overwrites_there, new_channel, channel_created, with_settings, with_channel_changed, channel_updated}
 use Rattle.channel_edit.specs.ChannelEnd.{orphaned, is_outside, speaks_outside, channel_deleted}
-use Rattle.channel_edit.specs.OverwriteEdits.{put_overwrite, with_overwrite, overwrite_was_set, drop_overwrite, without_overwrite, overwrite_deleted}
+use Rattle.channel_edit.specs.OverwriteEdits.{with_overwrite, overwrite_was_set, without_overwrite, overwrite_deleted}
 
 -- overwrites in the order of their ids
 record InOrder (os : Overwrites) : Type 0 where

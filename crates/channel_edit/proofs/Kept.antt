@@ -1,6 +1,6 @@
 -- A record in which the lists hold together stays so under each edit of channels.
 use Rattle.std.proofs.Common.{◌≡◌, ℕ, Bool, true, false, not, ◌&&◌, ◌||◌, List, [], ◌∷◌, map, Option, Some, None, if◌then◌else◌, refl, sym, ap, ◌∙◌, subst, arith, length}
-use Rattle.std.specs.Prelude.{◌==◌, slice_index_or, is_some, option_map, filter, All}
+use Rattle.std.specs.Prelude.{◌==◌, slice_index_or, is_some, option_map, filter}
 use Rattle.std.proofs.lemmas.Bool.Decides.{nat_tests}
 use Rattle.std.proofs.lemmas.List.Elements.{All-weaker, All-filter, filter_passes}
 use Rattle.collections.specs.ById.{find_id, has_id, put_id, changed_id, without_id, keep_if, IsById}
@@ -18,11 +18,11 @@ use Rattle.guild_model.specs.declared.message.MessageHead.{MessageHead}
 use Rattle.guild_model.specs.declared.verdict.Verdict.TheVariants.{IdTaken, UnknownRole}
 use Rattle.guild_model.specs.Record.{Record, role_id, overwrite_id, channel_id, thread_id, voice_id}
 use Rattle.guild_model.specs.Consistent.{IsConsistent, has_threads, is_parent, is_place}
-use Rattle.guild_model.specs.Tests.{refused_if, first_of, too_long, too_many, unknown_channel}
+use Rattle.guild_model.specs.Tests.{refused_if, too_long, too_many, unknown_channel}
 use Rattle.guild_model.proofs.Tests.{first_passes, not_refused}
 use Rattle.guild_model.proofs.Kept.{channels_changed}
 use Rattle.channel_edit.specs.Channels.{unknown_parent, wrong_parent, first_overwrites, overwrites_there, new_channel, channel_create_verdict, channel_created, with_settings, with_channel_changed, channel_updated}
-use Rattle.channel_edit.specs.ChannelEnd.{orphaned, is_outside, speaks_outside, is_in_channel, is_within, stands_outside, channel_deleted}
+use Rattle.channel_edit.specs.ChannelEnd.{orphaned, is_outside, speaks_outside, is_in_channel, stands_outside, channel_deleted}
 use Rattle.channel_edit.specs.OverwriteEdits.{unknown_target, without_room, overwrite_set_verdict, put_overwrite, with_overwrite, overwrite_was_set, drop_overwrite, without_overwrite, overwrite_deleted, overwrites_with, with_overwrites}
 
 -- what the tests let through

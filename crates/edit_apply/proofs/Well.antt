@@ -1,31 +1,30 @@
 -- Every record that edits make is well.
-use Rattle.std.proofs.Common.{◌≡◌, ℕ, Bool, true, false, not, List, [], ◌∷◌, Option, Some, None, if◌then◌else◌, refl, sym, ap, ◌∙◌, subst, arith}
-use Rattle.std.specs.Prelude.{◌==◌, All}
+use Rattle.std.proofs.Common.{◌≡◌, ℕ, Bool, true, false, not, List, [], ◌∷◌, Option, Some, None, if◌then◌else◌, refl, sym, subst, arith}
+use Rattle.std.specs.Prelude.{◌==◌}
 use Rattle.std.proofs.lemmas.Bool.Decides.{nat_tests}
 use Rattle.std.proofs.lemmas.List.Elements.{All-nil, All-cons}
-use Rattle.collections.specs.ById.{find_id, has_id, IsById}
-use Rattle.guild_model.specs.declared.role.Role.{Role}
+use Rattle.collections.specs.ById.{has_id, IsById}
 use Rattle.guild_model.specs.declared.member.Member.{Member}
-use Rattle.guild_model.specs.declared.channel.Channel.{Channel}
 use Rattle.guild_model.specs.declared.thread.Thread.{Thread}
-use Rattle.guild_model.specs.declared.message.MessageHead.{MessageHead}
 use Rattle.guild_model.specs.declared.verdict.Verdict.{Verdict}
 use Rattle.guild_model.specs.declared.verdict.Verdict.TheVariants.{NotOpen, AlreadyOpen, Unavailable, UnknownMember}
-use Rattle.guild_model.specs.Record.{Record, closed, own_id, role_id, member_id, thread_member_id}
-use Rattle.guild_model.specs.Consistent.{IsConsistent, is_place}
+use Rattle.guild_model.specs.Record.{Record, closed, own_id, member_id, thread_member_id}
+use Rattle.guild_model.specs.Consistent.{IsConsistent}
 use Rattle.guild_model.specs.Ascending.{IsAscending, HasOrderedOverwrites, IsWell}
 use Rattle.guild_model.specs.Tests.{refused_if, first_of, too_long, unknown_member}
 use Rattle.guild_model.proofs.Tests.{first_passes, not_refused}
 use Rattle.guild_model.proofs.Kept.{renamed, in_outage, owned}
 use Rattle.role_member_edit.specs.Members.{new_member}
-use Rattle.role_member_edit.proofs.Well.{well}
+use Rattle.role_member_edit.proofs.Well.{well as role_member_well}
+use Rattle.channel_edit.specs.ChannelEdits.{channel_verdict}
+use Rattle.channel_edit.proofs.Well.{well as channel_well}
 use Rattle.role_member_edit.specs.RoleMember.{role_member_verdict}
 use Rattle.edit_apply.specs.declared.Edit.{Edit}
-use Rattle.edit_apply.specs.declared.Edit.TheVariants.{Guild, RoleMember}
+use Rattle.edit_apply.specs.declared.Edit.TheVariants.{Guild, RoleMember, Channel}
 use Rattle.edit_apply.specs.declared.guild.GuildEdit.{GuildEdit}
 use Rattle.edit_apply.specs.declared.guild.GuildEdit.TheVariants.{GuildOpen, GuildRename, GuildOwner, GuildOutage, GuildBack}
-use Rattle.edit_apply.specs.Guilds.{everyone, out_of_service, guild_opened, guild_open_verdict, guild_verdict, guild_applied}
-use Rattle.edit_apply.specs.Edits.{verdict, applied, after, after_verdict, state_from, state, KeepsWell, StaysWell}
+use Rattle.edit_apply.specs.Guilds.{out_of_service, guild_opened, guild_verdict, guild_applied}
+use Rattle.edit_apply.specs.Edits.{verdict, applied, after, after_verdict, state_from, KeepsWell, StaysWell}
 
 -- a guild that has just opened
 module _ (guild : ℕ) (name : List ℕ) (owner : ℕ) (owner_name : List ℕ) (perms at : ℕ) where
@@ -119,7 +118,11 @@ accepted_well g (Guild edit) w e = guild_well g edit w e
 accepted_well g (RoleMember edit) w e =
     let tests = role_member_verdict g edit ∷ [] in
     let rest = first_passes (role_member_verdict g edit) [] (first_passes (out_of_service g) tests e).1 in
-    well g edit (in_service_open g tests e) w rest.0
+    role_member_well g edit (in_service_open g tests e) w rest.0
+accepted_well g (Channel edit) w e =
+    let tests = channel_verdict g edit ∷ [] in
+    let rest = first_passes (channel_verdict g edit) [] (first_passes (out_of_service g) tests e).1 in
+    channel_well g edit (in_service_open g tests e) w rest.0
 
 by_verdict : (g : Record) (edit : Edit) → IsWell g → (v : Option Verdict) → verdict g edit ≡ v → IsWell (after_verdict v g edit)
 by_verdict g edit w None e = accepted_well g edit w e

@@ -1,5 +1,5 @@
 -- The edits of a guild itself (Gateway Events, Guild Create, Update and Delete).
-use Rattle.std.specs.Prelude.{ℕ, List, [], ◌∷◌, Bool, true, false, not, Option, None, codes}
+use Rattle.std.specs.Prelude.{ℕ, List, [], ◌∷◌, true, false, not, Option, codes}
 use Rattle.guild_model.specs.declared.role.Role.{Role}
 use Rattle.guild_model.specs.declared.verdict.Verdict.{Verdict}
 use Rattle.guild_model.specs.declared.verdict.Verdict.TheVariants.{NotOpen, AlreadyOpen, Unavailable}

@@ -6,9 +6,11 @@ ghost use Rattle.guild_model.specs.Tests.{outcome, first_of};
 ghost use Rattle.edit_apply.specs.Edits.{verdict, applied, after, KeepsWell, StaysWell};
 ghost use Rattle.edit_apply.specs.Guilds.{out_of_service};
 ghost use Rattle.role_member_edit.specs.RoleMember.{role_member_verdict};
+ghost use Rattle.channel_edit.specs.ChannelEdits.{channel_verdict};
 
 pub mod guild;
 
+pub use channel_edit::ChannelEdit;
 pub use guild::GuildEdit;
 use guild_model::{Guild, Verdict};
 pub use role_member_edit::RoleMemberEdit;
@@ -21,6 +23,8 @@ pub enum Edit {
     Guild(GuildEdit),
     /// Of its roles and members.
     RoleMember(RoleMemberEdit),
+    /// Of its channels and their overwrites.
+    Channel(ChannelEdit),
 }
 
 impl Edit {
@@ -31,6 +35,7 @@ impl Edit {
         match self {
             Edit::Guild(edit) => Ok(Edit::Guild(edit.copy(alloc)?)),
             Edit::RoleMember(edit) => Ok(Edit::RoleMember(edit.copy(alloc)?)),
+            Edit::Channel(edit) => Ok(Edit::Channel(edit.copy(alloc)?)),
         }
     }
 }
@@ -55,6 +60,13 @@ fn judge_role_member(guild: &Guild, edit: &RoleMemberEdit) -> Result<(), Verdict
     role_member_edit::check(guild, edit)
 }
 
+fn judge_channel(guild: &Guild, edit: &ChannelEdit) -> Result<(), Verdict>
+    ensures { result ≡ outcome (first_of (out_of_service guild.now ∷ channel_verdict guild.now edit.now ∷ [])) }
+{
+    in_service(guild)?;
+    channel_edit::check(guild, edit)
+}
+
 /// Why an edit is refused: the first of its tests that fails. Takes no memory.
 pub fn judge(guild: &Guild, edit: &Edit) -> Result<(), Verdict>
     ensures { result ≡ outcome (verdict guild.now edit.now) }
@@ -62,6 +74,7 @@ pub fn judge(guild: &Guild, edit: &Edit) -> Result<(), Verdict>
     match edit {
         Edit::Guild(edit) => guild::check(guild, edit),
         Edit::RoleMember(edit) => judge_role_member(guild, edit),
+        Edit::Channel(edit) => judge_channel(guild, edit),
     }
 }
 
@@ -73,6 +86,7 @@ fn make(alloc: Global, guild: &mut Guild, edit: Edit) -> Result<(), AllocError>
     match edit {
         Edit::Guild(edit) => guild::apply(alloc, guild, edit),
         Edit::RoleMember(edit) => role_member_edit::apply(alloc, guild, edit),
+        Edit::Channel(edit) => channel_edit::apply(alloc, guild, edit),
     }
 }
 
@@ -103,3 +117,6 @@ pub fn keeps_well()
 pub fn stays_well()
     ensures { StaysWell }
 {}
+
+#[cfg(test)]
+mod tests;

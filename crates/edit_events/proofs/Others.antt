@@ -12,6 +12,7 @@ use Rattle.dispatch_types.specs.Kinds.{kind_of}
 use Rattle.dispatch_types.specs.Serves.{served, serves}
 use Rattle.dispatch_types.proofs.Views.{purge-stays}
 use Rattle.dispatch_types.proofs.Folds.{guild_of, folded-elsewhere, fold-elsewhere}
+use Rattle.channel_edit.specs.declared.ChannelEdit.TheVariants.{ChannelCreate, ChannelUpdate, ChannelDelete, OverwriteSet, OverwriteDelete}
 use Rattle.role_member_edit.specs.declared.RoleMemberEdit.TheVariants.{RoleCreate, RoleUpdate, RoleDelete, MemberAdd, MemberRemove, MemberNick, MemberTimeout, MemberRoleAdd, MemberRoleRemove}
 use Rattle.edit_apply.specs.declared.guild.GuildEdit.TheVariants.{GuildOpen, GuildRename, GuildOwner, GuildOutage, GuildBack}
 use Rattle.edit_apply.specs.declared.Edit.{Edit}
@@ -41,6 +42,11 @@ id-kept s (edit.RoleMember (MemberNick user nick)) = refl
 id-kept s (edit.RoleMember (MemberTimeout user until)) = refl
 id-kept s (edit.RoleMember (MemberRoleAdd user role)) = refl
 id-kept s (edit.RoleMember (MemberRoleRemove user role)) = refl
+id-kept s (edit.Channel (ChannelCreate channel kind name parent position sync)) = refl
+id-kept s (edit.Channel (ChannelUpdate channel name parent position)) = refl
+id-kept s (edit.Channel (ChannelDelete channel)) = refl
+id-kept s (edit.Channel (OverwriteSet channel id kind allow deny)) = refl
+id-kept s (edit.Channel (OverwriteDelete channel id kind)) = refl
 
 -- each dispatch that is owed is of the guild
 abbrev pub IsOf : ℕ → Dispatch → Type 0

@@ -1,6 +1,6 @@
 -- What holds between the lists of a record still holds where one list of it has changed.
-use Rattle.std.proofs.Common.{◌≡◌, ℕ, Bool, true, false, ◌||◌, List, Option, Some, None, refl, sym, ap, ◌∙◌, arith}
-use Rattle.std.specs.Prelude.{◌==◌, All}
+use Rattle.std.proofs.Common.{◌≡◌, ℕ, Bool, true, false, ◌||◌, List, Some, sym, ap, ◌∙◌}
+use Rattle.std.specs.Prelude.{◌==◌}
 use Rattle.std.proofs.lemmas.List.Elements.{All-weaker}
 use Rattle.collections.specs.ById.{find_id, has_id, put_id}
 use Rattle.collections.proofs.Has.{has-kept}

@@ -1,9 +1,8 @@
 -- Changes of parts that several edits and several dispatches make.
-use Rattle.std.specs.Prelude.{ℕ, Bool, not, ◌==◌}
+use Rattle.std.specs.Prelude.{ℕ}
 use Rattle.collections.specs.ById.{without_id}
 use Rattle.guild_model.specs.declared.member.Member.{Member}
 use Rattle.guild_model.specs.declared.channel.Channel.{Channel}
-use Rattle.guild_model.specs.declared.channel.Overwrites.{Overwrites}
 use Rattle.guild_model.specs.Record.{own_id, overwrite_id}
 
 -- a member that holds a role no longer

@@ -1,5 +1,5 @@
 -- What holds between the lists of a record.
-use Rattle.std.specs.Prelude.{◌≡◌, ℕ, ◌==◌, List, [], Bool, true, false, ◌||◌, Option, Some, None, All}
+use Rattle.std.specs.Prelude.{◌≡◌, ℕ, ◌==◌, Bool, true, false, ◌||◌, Option, Some, None, All}
 use Rattle.collections.specs.ById.{find_id, has_id}
 use Rattle.guild_model.specs.declared.member.Member.{Member}
 use Rattle.guild_model.specs.declared.channel.Channel.{Channel}

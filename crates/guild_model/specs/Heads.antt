@@ -1,5 +1,5 @@
 -- The kept messages of a guild.
-use Rattle.std.specs.Prelude.{ℕ, ◌==◌, List, Bool, Option}
+use Rattle.std.specs.Prelude.{ℕ, ◌==◌, List, Option}
 use Rattle.std.specs.List.{find}
 use Rattle.guild_model.specs.declared.message.MessageHead.{MessageHead}
 

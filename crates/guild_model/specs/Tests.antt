@@ -1,5 +1,5 @@
 -- The tests of edits: each gives the verdict of an edit where it fails.
-use Rattle.std.specs.Prelude.{ℕ, ◌==◌, nat_lt, length, List, [], ◌∷◌, Bool, not, Option, Some, None, Result, Ok, Err, if◌then◌else◌}
+use Rattle.std.specs.Prelude.{ℕ, nat_lt, length, List, [], ◌∷◌, Bool, not, Option, Some, None, Result, Ok, Err, if◌then◌else◌}
 use Rattle.std.specs.Option.{option_or}
 use Rattle.collections.specs.ById.{has_id}
 use Rattle.guild_model.specs.declared.verdict.Verdict.{Verdict}

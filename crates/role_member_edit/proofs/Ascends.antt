@@ -1,8 +1,8 @@
 -- The lists of a record still ascend after each edit of roles and members.
-use Rattle.std.proofs.Common.{◌≡◌, ℕ, Bool, not, List, [], ◌∷◌, map, Option, refl}
-use Rattle.std.specs.Prelude.{◌==◌, All}
+use Rattle.std.proofs.Common.{◌≡◌, ℕ, Bool, not, List, Option, refl}
+use Rattle.std.specs.Prelude.{◌==◌}
 use Rattle.std.proofs.lemmas.List.Elements.{All-filter, All-map, All-weaker}
-use Rattle.collections.specs.ById.{IsById, put_id, changed_id, without_id}
+use Rattle.collections.specs.ById.{IsById, without_id}
 use Rattle.collections.proofs.Ids.{IsById-put, IsById-changed}
 use Rattle.collections.proofs.Finds.{IsById-filter, IsById-map}
 use Rattle.collections.proofs.Has.{All-put, All-changed}

@@ -1,24 +1,22 @@
 -- A record in which the lists hold together stays so under each edit of roles and members.
 use Rattle.std.proofs.Common.{◌≡◌, ℕ, Bool, true, false, not, ◌&&◌, ◌||◌, List, [], ◌∷◌, map, Option, Some, None, if◌then◌else◌, refl, sym, ap, ◌∙◌, subst, arith}
-use Rattle.std.specs.Prelude.{◌==◌, is_some, option_map, All}
+use Rattle.std.specs.Prelude.{◌==◌, option_map}
 use Rattle.std.proofs.lemmas.Bool.Decides.{nat_tests}
 use Rattle.std.proofs.lemmas.List.Elements.{All-weaker}
 use Rattle.collections.specs.ById.{find_id, has_id, put_id, changed_id, without_id}
 use Rattle.collections.proofs.Finds.{find-put, find-changed, find-without, find-map}
 use Rattle.collections.proofs.Has.{has-put, has-kept, has-without, has-changed, has-map, changed_alike}
-use Rattle.guild_model.specs.declared.role.Role.{Role}
 use Rattle.guild_model.specs.declared.member.Member.{Member}
 use Rattle.guild_model.specs.declared.channel.Channel.{Channel}
 use Rattle.guild_model.specs.declared.thread.Thread.{Thread}
-use Rattle.guild_model.specs.declared.voice.Voice.{Voice}
 use Rattle.guild_model.specs.declared.message.MessageHead.{MessageHead}
 use Rattle.guild_model.specs.Record.{Record, own_id, role_id, member_id, overwrite_id, channel_id, thread_id, thread_member_id, voice_id, presence_id}
-use Rattle.guild_model.specs.Consistent.{IsConsistent, has_threads, is_parent, is_place}
+use Rattle.guild_model.specs.Consistent.{IsConsistent, is_parent, is_place}
 use Rattle.guild_model.specs.declared.verdict.Verdict.TheVariants.{UnknownRole, IdTaken, EveryoneRole, OwnerStays}
 use Rattle.guild_model.specs.Tests.{refused_if, unknown_role, unknown_member}
 use Rattle.guild_model.proofs.Tests.{first_passes, not_refused}
 use Rattle.guild_model.specs.Changes.{without_role, without_role_overwrite}
-use Rattle.guild_model.proofs.Kept.{role_set, members_changed}
+use Rattle.guild_model.proofs.Kept.{members_changed}
 use Rattle.role_member_edit.specs.Roles.{everyone_role, role_delete_verdict, role_deleted}
 use Rattle.role_member_edit.specs.Members.{owner_stays, member_remove_verdict, new_member, member_added, without_user, member_removed, with_member_changed, with_nick, with_timeout}
 use Rattle.role_member_edit.specs.HeldRoles.{holds, member_role_add_verdict, member_role_added, with_role, with_roles, held_with}

@@ -1,5 +1,5 @@
 -- Roles that a member is given and loses (Guild Resource, Add and Remove Guild Member Role).
-use Rattle.std.specs.Prelude.{ℕ, List, [], ◌∷◌, Bool, false, not, Option, Some, None}
+use Rattle.std.specs.Prelude.{ℕ, List, [], ◌∷◌, Bool, false, not, Option}
 use Rattle.std.specs.Option.{option_map_or}
 use Rattle.collections.specs.ById.{find_id, put_id, has_id}
 use Rattle.guild_model.specs.declared.member.Member.{Member}

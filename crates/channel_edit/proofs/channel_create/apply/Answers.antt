@@ -1,4 +1,4 @@
-use Rattle.std.proofs.Common.{◌≡◌, true, ap, sym, subst, ◌∙◌}
+use Rattle.std.proofs.Common.{◌≡◌, true}
 use Rattle.channel_edit.proofs.Kept.{channel_came}
 use Rattle.channel_edit.proofs.channel_create.apply.Goals as goal
 

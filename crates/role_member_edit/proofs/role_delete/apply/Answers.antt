@@ -1,4 +1,4 @@
-use Rattle.std.proofs.Common.{◌≡◌, true, ap}
+use Rattle.std.proofs.Common.{◌≡◌, true}
 use Rattle.role_member_edit.proofs.Kept.{role_gone}
 use Rattle.role_member_edit.proofs.role_delete.apply.Goals as goal
 
