@@ -1,8 +1,7 @@
 -- Which ids a list has after an edit of it, and what holds of all its records.
-use Rattle.std.proofs.Common.{◌≡◌, ℕ, Bool, true, false, not, ◌&&◌, ◌||◌, List, [], ◌∷◌, map, Option, Some, None, if◌then◌else◌, refl, ap, ◌∙◌, subst, arith}
+use Rattle.std.proofs.Common.{◌≡◌, ℕ, Bool, true, false, not, ◌&&◌, ◌||◌, List, [], ◌∷◌, map, Option, Some, None, if◌then◌else◌, refl, ap, subst, arith}
 use Rattle.std.specs.Prelude.{◌==◌, nat_lt, is_some, option_map, All}
-use Rattle.std.proofs.lemmas.Bool.Decides.{nat_tests}
-use Rattle.std.proofs.lemmas.List.Elements.{All-nil, All-cons, All-head, All-tail}
+use Rattle.std.proofs.lemmas.List.Elements.{All-cons, All-head, All-tail}
 use Rattle.collections.specs.ById.{find_id, has_id, put_id, changed_id, without_id}
 use Rattle.collections.proofs.Finds.{find-put, find-changed, find-without, find-map}
 

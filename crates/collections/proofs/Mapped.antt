@@ -1,8 +1,8 @@
 -- Lists that are mapped, filtered and put together again.
-use Rattle.std.proofs.Common.{◌≡◌, ℕ, Bool, true, false, List, [], ◌∷◌, ◌++◌, map, Option, Some, None, if◌then◌else◌, refl, sym, ap, subst, ◌∙◌, arith}
+use Rattle.std.proofs.Common.{◌≡◌, ℕ, Bool, true, false, List, [], ◌∷◌, map, Option, Some, None, if◌then◌else◌, refl, sym, ap, subst, ◌∙◌}
 use Rattle.std.specs.Prelude.{◌==◌, nat_lt, filter, option_map, All, cond}
 use Rattle.std.specs.List.{find, filter_map, cons_option}
-use Rattle.std.proofs.lemmas.List.Elements.{All-nil, All-cons, All-head, All-tail}
+use Rattle.std.proofs.lemmas.List.Elements.{All-cons, All-head, All-tail}
 use Rattle.collections.specs.ById.{find_id, put_id, put_all, IsById, or_else, keep_if}
 use Rattle.collections.proofs.Finds.{same_by_id, find-put_all, find-filter, IsById-put_all, IsById-filter}
 

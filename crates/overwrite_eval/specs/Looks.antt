@@ -17,8 +17,10 @@ looks_of os = length os.roles + length os.members
 
 -- the overwrites of a channel
 abbrev pub overwrite_looks : Record → ℕ → ℕ
-overwrite_looks g channel = option_map_or (λ (c : Channel). looks_of c.overwrites) (find_id channel_id channel g.channels) 0
+overwrite_looks g channel =
+    option_map_or (λ (c : Channel). looks_of c.overwrites) (find_id channel_id channel g.channels) 0
 
 -- the overwrites of the channel that a thread stands in
 abbrev pub parent_looks : Record → ℕ → ℕ
-parent_looks g thread = option_map_or (λ (t : Thread). overwrite_looks g t.parent) (find_id thread_id thread g.threads) 0
+parent_looks g thread =
+    option_map_or (λ (t : Thread). overwrite_looks g t.parent) (find_id thread_id thread g.threads) 0

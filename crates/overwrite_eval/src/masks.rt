@@ -53,9 +53,11 @@ pub(crate) fn mask_of<L: Ledger>(
     channel: Snowflake,
     steps: &mut Steps<L>,
 ) -> Perms
-    ensures bits { (b : ℕ) → b < 53 → has_bit result b ≡ granted (standing guild.now member.now) channel b }
+    ensures bits { (b : ℕ) → b < 53
+        → has_bit result b ≡ granted (standing guild.now member.now) channel b }
     ensures at_least { steps.old + (length member.now.roles + 1) ≤ steps.new }
-    ensures at_most { steps.new ≤ steps.old + (length member.now.roles + 1) + overwrite_looks guild.now channel }
+    ensures at_most { steps.new
+        ≤ steps.old + (length member.now.roles + 1) + overwrite_looks guild.now channel }
 {
     let base = member_base(guild.id, guild.owner, guild.roles.as_slice(), member, steps);
     match guild.channel(channel) {
@@ -75,7 +77,8 @@ pub fn channel_mask<L: Ledger>(
 ) -> Perms
     ensures bits { (b : ℕ) → b < 53 → has_bit result b ≡ grants guild.now user channel b }
     ensures at_least { steps.old + role_looks guild.now user ≤ steps.new }
-    ensures at_most { steps.new ≤ steps.old + role_looks guild.now user + overwrite_looks guild.now channel }
+    ensures at_most { steps.new
+        ≤ steps.old + role_looks guild.now user + overwrite_looks guild.now channel }
 {
     match guild.member(user) {
         Some(member) => mask_of(guild, member, channel, steps),

@@ -33,7 +33,8 @@ pub(crate) fn member_base<L: Ledger>(
     steps: &mut Steps<L>,
 ) -> Perms
     requires { IsById role_id roles.now }
-    ensures bits { (b : ℕ) → b < 53 → has_bit result b ≡ part_base guild owner roles.now member.now b }
+    ensures bits { (b : ℕ) → b < 53
+        → has_bit result b ≡ part_base guild owner roles.now member.now b }
     ensures looks { steps.new ≡ steps.old + (length member.now.roles + 1) }
 {
     let mask = roles_mask(guild, roles, member.roles.as_slice(), steps);
@@ -53,7 +54,8 @@ pub(crate) fn member_mask<L: Ledger>(
     base: Perms,
     steps: &mut Steps<L>,
 ) -> Perms
-    ensures bits { (b : ℕ) → b < 53 → has_bit result b ≡ from_base guild member.now channel.now.overwrites base b }
+    ensures bits { (b : ℕ) → b < 53
+        → has_bit result b ≡ from_base guild member.now channel.now.overwrites base b }
     ensures at_least { steps.old ≤ steps.new }
     ensures at_most { steps.new ≤ steps.old + looks_of channel.now.overwrites }
 {
@@ -76,7 +78,8 @@ fn base_on<L: Ledger>(
     requires name { blank.name ≡ L.name }
     requires parts { blank.parts ≡ L.parts }
     requires shared { 0 < blank.parts }
-    ensures { (b : ℕ) → b < 53 → has_bit result b ≡ part_base guild owner roles.now member.now b }
+    ensures { (b : ℕ) → b < 53
+        → has_bit result b ≡ part_base guild owner roles.now member.now b }
 {
     member_base(guild, owner, roles, member, &mut Steps::<L>::new(blank))
 }
@@ -92,7 +95,8 @@ fn mask_on<L: Ledger>(
     requires name { blank.name ≡ L.name }
     requires parts { blank.parts ≡ L.parts }
     requires shared { 0 < blank.parts }
-    ensures { (b : ℕ) → b < 53 → has_bit result b ≡ from_base guild member.now channel.now.overwrites base b }
+    ensures { (b : ℕ) → b < 53
+        → has_bit result b ≡ from_base guild member.now channel.now.overwrites base b }
 {
     member_mask(guild, member, channel, base, &mut Steps::<L>::new(blank))
 }
@@ -105,7 +109,8 @@ pub(crate) fn part_base(
     member: &Member,
 ) -> Perms
     requires { IsById role_id roles.now }
-    ensures { (b : ℕ) → b < 53 → has_bit result b ≡ part_base guild owner roles.now member.now b }
+    ensures { (b : ℕ) → b < 53
+        → has_bit result b ≡ part_base guild owner roles.now member.now b }
 {
     base_on::<Brand>(guild, owner, roles, member, Blank::new(1))
 }
@@ -117,7 +122,8 @@ pub(crate) fn part_mask_from(
     channel: &Channel,
     base: Perms,
 ) -> Perms
-    ensures { (b : ℕ) → b < 53 → has_bit result b ≡ from_base guild member.now channel.now.overwrites base b }
+    ensures { (b : ℕ) → b < 53
+        → has_bit result b ≡ from_base guild member.now channel.now.overwrites base b }
 {
     mask_on::<Brand>(guild, member, channel, base, Blank::new(1))
 }

@@ -36,7 +36,8 @@ fn is_private(kind: ThreadKind) -> bool
 
 // Whether a thread is seen by one that has this mask in its parent, and is in it or not.
 pub(crate) fn shows_thread(mask: Perms, kind: ThreadKind, joined: bool) -> bool
-    ensures { result ≡ (has_bit mask view_channel && (not (is_private kind) || joined || has_bit mask manage_threads)) }
+    ensures { result ≡ (has_bit mask view_channel
+        && (not (is_private kind) || joined || has_bit mask manage_threads)) }
 {
     may_view(mask) && (!is_private(kind) || joined || may_manage_threads(mask))
 }
@@ -51,7 +52,8 @@ pub fn sees_channel<L: Ledger>(
 ) -> bool
     ensures seen { result ≡ sees_channel guild.now user channel }
     ensures at_least { steps.old + role_looks guild.now user ≤ steps.new }
-    ensures at_most { steps.new ≤ steps.old + role_looks guild.now user + overwrite_looks guild.now channel }
+    ensures at_most { steps.new
+        ≤ steps.old + role_looks guild.now user + overwrite_looks guild.now channel }
 {
     may_view(channel_mask(guild, user, channel, steps))
 }
@@ -65,7 +67,8 @@ fn member_sees<L: Ledger>(
 ) -> bool
     ensures seen { result ≡ member_sees guild.now member.now thread.now }
     ensures at_least { steps.old ≤ steps.new }
-    ensures at_most { steps.new ≤ steps.old + (length member.now.roles + 1) + overwrite_looks guild.now thread.now.parent }
+    ensures at_most { steps.new
+        ≤ steps.old + (length member.now.roles + 1) + overwrite_looks guild.now thread.now.parent }
 {
     let mask = mask_of(guild, member, thread.parent, steps);
     shows_thread(mask, thread.kind, thread.members.contains(member.user.id.0))
@@ -81,7 +84,8 @@ pub fn sees_thread<L: Ledger>(
 ) -> bool
     ensures seen { result ≡ sees_thread guild.now user thread }
     ensures at_least { steps.old ≤ steps.new }
-    ensures at_most { steps.new ≤ steps.old + role_looks guild.now user + parent_looks guild.now thread }
+    ensures at_most { steps.new
+        ≤ steps.old + role_looks guild.now user + parent_looks guild.now thread }
 {
     match (guild.member(user), guild.thread(thread)) {
         (Some(member), Some(thread)) => member_sees(guild, member, thread, steps),

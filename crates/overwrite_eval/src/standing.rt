@@ -30,9 +30,16 @@ impl<'a> Model for StandingRef<'a> {
 
     ghost Value = { Standing };
 
-    ghost view = { λ s. record { guild = s.guild; owner = s.owner; roles = s.roles.now; channels = s.channels.now; me = s.me.now } };
+    ghost view = { λ s. record {
+      guild = s.guild;
+      owner = s.owner;
+      roles = s.roles.now;
+      channels = s.channels.now;
+      me = s.me.now;
+    } };
 
-    ghost invariant = { λ s. (b : ℕ) → b < 53 → has_bit s.base b ≡ part_base s.guild s.owner s.roles.now s.me.now b };
+    ghost invariant = { λ s. (b : ℕ) → b < 53
+        → has_bit s.base b ≡ part_base s.guild s.owner s.roles.now s.me.now b };
 }
 
 impl<'a> StandingRef<'a> {
@@ -44,7 +51,13 @@ impl<'a> StandingRef<'a> {
         channels: &'a ById<Channel>,
         me: &'a Member,
     ) -> StandingRef<'a>
-        ensures { result ≡ record { guild = guild; owner = owner; roles = roles.now; channels = channels.now; me = me.now } }
+        ensures { result ≡ record {
+          guild = guild;
+          owner = owner;
+          roles = roles.now;
+          channels = channels.now;
+          me = me.now;
+        } }
     {
         let base = part_base(guild, owner, roles.as_slice(), me);
         StandingRef {
@@ -80,7 +93,8 @@ impl StandingRef<'_> {
     /// Whether the member has every one of these permissions in a channel. For a named one that is its
     /// bit.
     pub fn granted(&self, channel: Snowflake, permissions: Perms) -> bool
-        ensures every { IsTrue result ↔ ((b : ℕ) → IsTrue (has_bit permissions b) → IsTrue (granted self.now channel b)) }
+        ensures every { IsTrue result
+            ↔ ((b : ℕ) → IsTrue (has_bit permissions b) → IsTrue (granted self.now channel b)) }
         ensures one { (b : ℕ) → permissions ≡ 2 ^ b → result ≡ granted self.now channel b }
     {
         // The number shows that no bit from 53 on is asked for.
@@ -105,7 +119,8 @@ impl StandingRef<'_> {
 
     /// Whether the member sees a thread, archived or not (Threads, Private Threads).
     pub fn sees_thread(&self, thread: &Thread) -> bool
-        ensures { result ≡ sees_in self.now thread.now.parent thread.now.kind (is_in self.now.me.user.id thread.now) }
+        ensures { result ≡ sees_in self.now thread.now.parent thread.now.kind
+            (is_in self.now.me.user.id thread.now) }
     {
         let me = self.me;
         let joined = thread.members.contains(me.user.id.0);

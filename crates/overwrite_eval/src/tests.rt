@@ -40,7 +40,8 @@ fn triple<T: Keyed + Drop>(
     second: T,
     third: T,
 ) -> Result<ById<T>, AllocError>
-    ensures { IfOk result (λ list. list ≡ put_id T.key third (put_id T.key second (put_id T.key first []))) }
+    ensures { IfOk result (λ list.
+        list ≡ put_id T.key third (put_id T.key second (put_id T.key first []))) }
 {
     let mut list = pair(alloc, first, second)?;
     list.put(third)?;
@@ -59,7 +60,13 @@ fn role(alloc: Global, id: u64, permissions: Perms) -> Role
 }
 
 fn member(alloc: Global, id: u64, roles: ById<Snowflake>, joined: Moment) -> Member
-    ensures { result ≡ record { user = record { id = id; name = []; bot = false }; nick = None; roles = roles; joined = joined; timeout = None } }
+    ensures { result ≡ record {
+      user = record { id = id; name = []; bot = false };
+      nick = None;
+      roles = roles;
+      joined = joined;
+      timeout = None;
+    } }
 {
     Member {
         user: User {
@@ -85,7 +92,14 @@ fn overwrite(id: u64, allow: Perms, deny: Perms) -> Overwrite
 }
 
 fn channel(alloc: Global, id: u64, roles: ById<Overwrite>, members: ById<Overwrite>) -> Channel
-    ensures { result ≡ record { id = id; kind = channel.Text; name = []; parent = None; position = 0; overwrites = record { roles = roles; members = members } } }
+    ensures { result ≡ record {
+      id = id;
+      kind = channel.Text;
+      name = [];
+      parent = None;
+      position = 0;
+      overwrites = record { roles = roles; members = members };
+    } }
 {
     Channel {
         id: Snowflake(id),
@@ -98,7 +112,15 @@ fn channel(alloc: Global, id: u64, roles: ById<Overwrite>, members: ById<Overwri
 }
 
 fn thread(alloc: Global, id: u64) -> Thread
-    ensures { result ≡ record { id = id; kind = thread.Private; name = []; parent = 7; owner = 5; archived = true; members = [] } }
+    ensures { result ≡ record {
+      id = id;
+      kind = thread.Private;
+      name = [];
+      parent = 7;
+      owner = 5;
+      archived = true;
+      members = [];
+    } }
 {
     Thread {
         id: Snowflake(id),
@@ -111,8 +133,9 @@ fn thread(alloc: Global, id: u64) -> Thread
     }
 }
 
-// The bot holds two roles without permissions; channel 7 is of the first worked case, 8 and 10 are of
-// the second.
+// Of the bot, user 9, which holds two roles without permissions: channel 7 allows it to everyone and
+// denies it alike, 8 denies it to one of its roles and allows it to the other, and 10 denies it to the
+// bot besides.
 fn den(alloc: Global, joined: Moment) -> Result<Guild, AllocError> {
     let view = Perms::VIEW_CHANNEL;
     let none = Perms::NONE;

@@ -38,9 +38,11 @@ impl Tier {
 
     fn add(&mut self, overwrite: &Overwrite, belongs: bool)
         ensures allow { (b : ℕ)
-            → has_bit self.new.allow b ≡ (has_bit self.old.allow b || (belongs && has_bit overwrite.now.allow b)) }
+            → has_bit self.new.allow b
+            ≡ (has_bit self.old.allow b || (belongs && has_bit overwrite.now.allow b)) }
         ensures deny { (b : ℕ)
-            → has_bit self.new.deny b ≡ (has_bit self.old.deny b || (belongs && has_bit overwrite.now.deny b)) }
+            → has_bit self.new.deny b
+            ≡ (has_bit self.old.deny b || (belongs && has_bit overwrite.now.deny b)) }
     {
         if belongs {
             self.allow = self.allow.union(overwrite.allow);

@@ -1,0 +1,135 @@
+-- Every record that edits make is well.
+use Rattle.std.proofs.Common.{◌≡◌, ℕ, Bool, true, false, not, List, [], ◌∷◌, Option, Some, None, if◌then◌else◌, refl, sym, ap, ◌∙◌, subst, arith}
+use Rattle.std.specs.Prelude.{◌==◌, All}
+use Rattle.std.proofs.lemmas.Bool.Decides.{nat_tests}
+use Rattle.std.proofs.lemmas.List.Elements.{All-nil, All-cons}
+use Rattle.collections.specs.ById.{find_id, has_id, IsById}
+use Rattle.guild_model.specs.declared.role.Role.{Role}
+use Rattle.guild_model.specs.declared.member.Member.{Member}
+use Rattle.guild_model.specs.declared.channel.Channel.{Channel}
+use Rattle.guild_model.specs.declared.thread.Thread.{Thread}
+use Rattle.guild_model.specs.declared.message.MessageHead.{MessageHead}
+use Rattle.guild_model.specs.declared.verdict.Verdict.{Verdict}
+use Rattle.guild_model.specs.declared.verdict.Verdict.TheVariants.{NotOpen, AlreadyOpen, Unavailable, UnknownMember}
+use Rattle.guild_model.specs.Record.{Record, closed, own_id, role_id, member_id, thread_member_id}
+use Rattle.guild_model.specs.Consistent.{IsConsistent, is_place}
+use Rattle.guild_model.specs.Ascending.{IsAscending, HasOrderedOverwrites, IsWell}
+use Rattle.guild_model.specs.Tests.{refused_if, first_of, too_long, unknown_member}
+use Rattle.guild_model.proofs.Tests.{first_passes, not_refused}
+use Rattle.guild_model.proofs.Kept.{renamed, in_outage, owned}
+use Rattle.role_member_edit.specs.Members.{new_member}
+use Rattle.role_member_edit.proofs.Well.{well}
+use Rattle.role_member_edit.specs.RoleMember.{role_member_verdict}
+use Rattle.edit_apply.specs.declared.Edit.{Edit}
+use Rattle.edit_apply.specs.declared.Edit.TheVariants.{Guild, RoleMember}
+use Rattle.edit_apply.specs.declared.guild.GuildEdit.{GuildEdit}
+use Rattle.edit_apply.specs.declared.guild.GuildEdit.TheVariants.{GuildOpen, GuildRename, GuildOwner, GuildOutage, GuildBack}
+use Rattle.edit_apply.specs.Guilds.{everyone, out_of_service, guild_opened, guild_open_verdict, guild_verdict, guild_applied}
+use Rattle.edit_apply.specs.Edits.{verdict, applied, after, after_verdict, state_from, state, KeepsWell, StaysWell}
+
+-- a guild that has just opened
+module _ (guild : ℕ) (name : List ℕ) (owner : ℕ) (owner_name : List ℕ) (perms at : ℕ) where
+  abbrev first_member : Member
+  first_member = new_member owner owner_name false at
+
+  holds_none : (b : Bool) (m : Member) (role : ℕ) → (if b then Some first_member else None) ≡ Some m → has_id own_id role m.roles ≡ true → ⊥
+  holds_none true m role e holds =
+      let same : first_member ≡ m = cc in
+      let none : has_id own_id role first_member.roles ≡ true = subst (λ (m : Member). has_id own_id role m.roles ≡ true) (sym same) holds in
+      absurd (cc none)
+  holds_none false m role e holds = absurd (cc)
+
+  opened_consistent : IsConsistent (guild_opened (closed guild) name owner owner_name perms at)
+  opened_consistent = record {
+      empty = λ e. absurd (cc);
+      everyone = λ _. grind (arith, nat_tests);
+      owner = λ _. grind (arith, nat_tests);
+      held = λ user role m found holds. absurd (holds_none (owner == user) m role found holds);
+      overwritten = λ channel role c found there. absurd (cc);
+      voices = λ user v found. absurd (cc);
+      presences = λ user there. absurd (cc);
+      parents = λ thread t found. absurd (cc);
+      joined = λ thread user t found there. absurd (cc);
+      apart = λ id there. refl;
+      places = All-nil _ }
+
+  opened_ascending : IsAscending (guild_opened (closed guild) name owner owner_name perms at)
+  opened_ascending = record { roles = (tt, tt); members = (tt, tt); channels = tt; threads = tt; voices = tt; presences = tt;
+      held = All-cons (λ (m : Member). IsById own_id m.roles) first_member [] tt (All-nil _);
+      overwrites = All-nil HasOrderedOverwrites; joined = All-nil (λ (t : Thread). IsById thread_member_id t.members) }
+
+opened_well : (g : Record) (name : List ℕ) (owner : ℕ) (owner_name : List ℕ) (perms at : ℕ) → g.opened ≡ false → IsWell g → IsWell (guild_opened g name owner owner_name perms at)
+opened_well g name owner owner_name perms at shut w =
+    let same : closed g.id ≡ g = sym (w.consistent.empty shut) in
+    subst (λ (g : Record). IsWell (guild_opened g name owner owner_name perms at)) same
+    (record { ascending = opened_ascending g.id name owner owner_name perms at; consistent = opened_consistent g.id name owner owner_name perms at })
+
+-- an edit that only a guild in service accepts
+is_true : (b : Bool) → not b ≡ false → b ≡ true
+is_true true e = refl
+is_true false e = absurd (cc)
+
+in_service_open : (g : Record) (tests : List (Option Verdict)) → first_of (out_of_service g ∷ tests) ≡ None → g.opened ≡ true
+in_service_open g tests e = is_true g.opened (not_refused _ NotOpen (first_passes (refused_if (not g.opened) NotOpen) (refused_if g.outage Unavailable ∷ []) (first_passes (out_of_service g) tests e).0).0)
+
+-- the lists are the same
+same_lists : (g : Record) (opened outage : Bool) (name : List ℕ) (owner : ℕ) → IsAscending g → IsAscending (record g { opened = opened; outage = outage; name = name; owner = owner })
+same_lists g opened outage name owner a = record { roles = a.roles; members = a.members; channels = a.channels; threads = a.threads; voices = a.voices; presences = a.presences;
+    held = a.held; overwrites = a.overwrites; joined = a.joined }
+
+guild_well : (g : Record) (edit : GuildEdit) → IsWell g → guild_verdict g edit ≡ None → IsWell (guild_applied g edit)
+guild_well g (GuildOpen name owner owner_name perms at) w e =
+    opened_well g name owner owner_name perms at (not_refused g.opened AlreadyOpen (first_passes (refused_if g.opened AlreadyOpen) (too_long 100 name ∷ too_long 100 owner_name ∷ []) e).0) w
+guild_well g (GuildRename name) w e =
+    let is_open = in_service_open g (too_long 100 name ∷ []) e in
+    record { ascending = same_lists g g.opened g.outage name g.owner w.ascending; consistent = renamed g is_open w.consistent name }
+guild_well g (GuildOwner user) w e =
+    let is_open = in_service_open g (unknown_member g user ∷ []) e in
+    let rest = first_passes (unknown_member g user) [] (first_passes (out_of_service g) (unknown_member g user ∷ []) e).1 in
+    let there = is_true (has_id member_id user g.members) (not_refused _ UnknownMember rest.0) in
+    record { ascending = same_lists g g.opened g.outage g.name user w.ascending; consistent = owned g is_open w.consistent user there }
+guild_well g GuildOutage w e =
+    let is_open = is_true g.opened (not_refused _ NotOpen (first_passes (refused_if (not g.opened) NotOpen) (refused_if g.outage Unavailable ∷ []) e).0) in
+    record { ascending = same_lists g g.opened true g.name g.owner w.ascending; consistent = in_outage g is_open w.consistent true }
+guild_well g GuildBack w e =
+    let is_open = is_true g.opened (not_refused _ NotOpen (first_passes (refused_if (not g.opened) NotOpen) (refused_if (not g.outage) AlreadyOpen ∷ []) e).0) in
+    record { ascending = same_lists g g.opened false g.name g.owner w.ascending; consistent = in_outage g is_open w.consistent false }
+
+-- an edit that is not refused
+accepted_well : (g : Record) (edit : Edit) → IsWell g → verdict g edit ≡ None → IsWell (applied g edit)
+accepted_well g (Guild edit) w e = guild_well g edit w e
+accepted_well g (RoleMember edit) w e =
+    let tests = role_member_verdict g edit ∷ [] in
+    let rest = first_passes (role_member_verdict g edit) [] (first_passes (out_of_service g) tests e).1 in
+    well g edit (in_service_open g tests e) w rest.0
+
+by_verdict : (g : Record) (edit : Edit) → IsWell g → (v : Option Verdict) → verdict g edit ≡ v → IsWell (after_verdict v g edit)
+by_verdict g edit w None e = accepted_well g edit w e
+by_verdict g edit w (Some v) e = w
+
+closed_well : (guild : ℕ) → IsWell (closed guild)
+closed_well guild = record {
+    ascending = record { roles = tt; members = tt; channels = tt; threads = tt; voices = tt; presences = tt;
+        held = All-nil (λ (m : Member). IsById own_id m.roles); overwrites = All-nil HasOrderedOverwrites; joined = All-nil (λ (t : Thread). IsById thread_member_id t.members) };
+    consistent = record {
+        empty = λ _. refl;
+        everyone = λ e. absurd (cc);
+        owner = λ e. absurd (cc);
+        held = λ user role m found holds. absurd (cc);
+        overwritten = λ channel role c found there. absurd (cc);
+        voices = λ user v found. absurd (cc);
+        presences = λ user there. absurd (cc);
+        parents = λ thread t found. absurd (cc);
+        joined = λ thread user t found there. absurd (cc);
+        apart = λ id there. refl;
+        places = All-nil _ } }
+
+pub keeps : KeepsWell
+keeps g edit w = by_verdict g edit w (verdict g edit) refl
+
+stays_from : (g : Record) (edits : List Edit) → IsWell g → IsWell (state_from g edits)
+stays_from g [] w = w
+stays_from g (edit ∷ edits) w = stays_from (after g edit) edits (keeps g edit w)
+
+pub stays : StaysWell
+stays guild edits = stays_from (closed guild) edits (closed_well guild)
