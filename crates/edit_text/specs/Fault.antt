@@ -10,8 +10,11 @@ abbrev pub UnlessMemory : {A : Type 0} → Result A LineFault → Result A LineF
 UnlessMemory result answer = (result ≡ Err Memory) ⊎ (result ≡ answer)
 
 -- a field that is missing is told apart from one that is of another kind
+abbrev pub fault_of : ViewFault → LineFault
+fault_of view.Missing = Missing
+fault_of view.WrongType = WrongType
+fault_of (view.BadId bad) = WrongType
+
 abbrev pub faulted : {A : Type 0} → Result A ViewFault → Result A LineFault
 faulted (Ok a) = Ok a
-faulted (Err view.Missing) = Err Missing
-faulted (Err view.WrongType) = Err WrongType
-faulted (Err (view.BadId bad)) = Err WrongType
+faulted (Err fault) = Err (fault_of fault)

@@ -6,7 +6,7 @@ use Rattle.edit_apply.specs.declared.guild.GuildEdit.{GuildEdit}
 use Rattle.edit_apply.specs.declared.guild.GuildEdit.TheVariants.{GuildOpen, GuildRename, GuildOwner, GuildOutage, GuildBack}
 use Rattle.edit_text.specs.declared.fault.LineFault.{LineFault}
 use Rattle.edit_text.specs.declared.names.GuildEditName.{GuildEditName}
-use Rattle.edit_text.specs.declared.names.GuildEditName.TheVariants as name
+use Rattle.edit_text.specs.declared.names.GuildEditName.TheVariants as named
 use Rattle.edit_text.specs.Fields.{text_at, id_at, mask_at, moment_at}
 use Rattle.edit_text.specs.Members.{count, id_data}
 
@@ -32,20 +32,20 @@ guild_owner_from d =
     Ok (GuildOwner user))
 
 abbrev pub guild_edit_from : GuildEditName → Data → Result GuildEdit LineFault
-guild_edit_from name.GuildOpen d = guild_open_from d
-guild_edit_from name.GuildRename d = guild_rename_from d
-guild_edit_from name.GuildOwner d = guild_owner_from d
-guild_edit_from name.GuildOutage d = Ok GuildOutage
-guild_edit_from name.GuildBack d = Ok GuildBack
+guild_edit_from named.GuildOpen d = guild_open_from d
+guild_edit_from named.GuildRename d = guild_rename_from d
+guild_edit_from named.GuildOwner d = guild_owner_from d
+guild_edit_from named.GuildOutage d = Ok GuildOutage
+guild_edit_from named.GuildBack d = Ok GuildBack
 
 -- ---- writing
 
 abbrev pub guild_edit_name : GuildEdit → GuildEditName
-guild_edit_name (GuildOpen name owner owner_name perms at) = name.GuildOpen
-guild_edit_name (GuildRename name) = name.GuildRename
-guild_edit_name (GuildOwner user) = name.GuildOwner
-guild_edit_name GuildOutage = name.GuildOutage
-guild_edit_name GuildBack = name.GuildBack
+guild_edit_name (GuildOpen name owner owner_name perms at) = named.GuildOpen
+guild_edit_name (GuildRename name) = named.GuildRename
+guild_edit_name (GuildOwner user) = named.GuildOwner
+guild_edit_name GuildOutage = named.GuildOutage
+guild_edit_name GuildBack = named.GuildBack
 
 abbrev pub guild_edit_fields : GuildEdit → List (List ℕ × Data)
 guild_edit_fields (GuildOpen name owner owner_name perms at) =

@@ -5,3 +5,6 @@ pub mod Names
 pub mod GuildEdits
 pub mod RoleMemberEdits
 pub mod Edits
+pub mod Lines
+pub mod Written
+pub mod Fits

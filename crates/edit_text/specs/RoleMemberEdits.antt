@@ -6,7 +6,7 @@ use Rattle.role_member_edit.specs.declared.RoleMemberEdit.{RoleMemberEdit}
 use Rattle.role_member_edit.specs.declared.RoleMemberEdit.TheVariants.{RoleCreate, RoleUpdate, RoleDelete, MemberAdd, MemberRemove, MemberNick, MemberTimeout, MemberRoleAdd, MemberRoleRemove}
 use Rattle.edit_text.specs.declared.fault.LineFault.{LineFault}
 use Rattle.edit_text.specs.declared.names.RoleMemberEditName.{RoleMemberEditName}
-use Rattle.edit_text.specs.declared.names.RoleMemberEditName.TheVariants as name
+use Rattle.edit_text.specs.declared.names.RoleMemberEditName.TheVariants as named
 use Rattle.edit_text.specs.Fields.{text_at, id_at, flag_at, mask_at, moment_at, position_at, nullable_text_at, nullable_moment_at}
 use Rattle.edit_text.specs.Members.{count, id_data, nullable}
 
@@ -71,28 +71,28 @@ member_role_remove_from d =
     Ok (MemberRoleRemove user role)))
 
 abbrev pub role_member_edit_from : RoleMemberEditName → Data → Result RoleMemberEdit LineFault
-role_member_edit_from name.RoleCreate d = role_create_from d
-role_member_edit_from name.RoleUpdate d = role_update_from d
-role_member_edit_from name.RoleDelete d = role_delete_from d
-role_member_edit_from name.MemberAdd d = member_add_from d
-role_member_edit_from name.MemberRemove d = member_remove_from d
-role_member_edit_from name.MemberNick d = member_nick_from d
-role_member_edit_from name.MemberTimeout d = member_timeout_from d
-role_member_edit_from name.MemberRoleAdd d = member_role_add_from d
-role_member_edit_from name.MemberRoleRemove d = member_role_remove_from d
+role_member_edit_from named.RoleCreate d = role_create_from d
+role_member_edit_from named.RoleUpdate d = role_update_from d
+role_member_edit_from named.RoleDelete d = role_delete_from d
+role_member_edit_from named.MemberAdd d = member_add_from d
+role_member_edit_from named.MemberRemove d = member_remove_from d
+role_member_edit_from named.MemberNick d = member_nick_from d
+role_member_edit_from named.MemberTimeout d = member_timeout_from d
+role_member_edit_from named.MemberRoleAdd d = member_role_add_from d
+role_member_edit_from named.MemberRoleRemove d = member_role_remove_from d
 
 -- ---- writing
 
 abbrev pub role_member_edit_name : RoleMemberEdit → RoleMemberEditName
-role_member_edit_name (RoleCreate role name perms position) = name.RoleCreate
-role_member_edit_name (RoleUpdate role name perms position) = name.RoleUpdate
-role_member_edit_name (RoleDelete role) = name.RoleDelete
-role_member_edit_name (MemberAdd user name bot at) = name.MemberAdd
-role_member_edit_name (MemberRemove user) = name.MemberRemove
-role_member_edit_name (MemberNick user nick) = name.MemberNick
-role_member_edit_name (MemberTimeout user until) = name.MemberTimeout
-role_member_edit_name (MemberRoleAdd user role) = name.MemberRoleAdd
-role_member_edit_name (MemberRoleRemove user role) = name.MemberRoleRemove
+role_member_edit_name (RoleCreate role name perms position) = named.RoleCreate
+role_member_edit_name (RoleUpdate role name perms position) = named.RoleUpdate
+role_member_edit_name (RoleDelete role) = named.RoleDelete
+role_member_edit_name (MemberAdd user name bot at) = named.MemberAdd
+role_member_edit_name (MemberRemove user) = named.MemberRemove
+role_member_edit_name (MemberNick user nick) = named.MemberNick
+role_member_edit_name (MemberTimeout user until) = named.MemberTimeout
+role_member_edit_name (MemberRoleAdd user role) = named.MemberRoleAdd
+role_member_edit_name (MemberRoleRemove user role) = named.MemberRoleRemove
 
 abbrev pub role_fields : ℕ → List ℕ → ℕ → ℕ → List (List ℕ × Data)
 role_fields role name perms position =

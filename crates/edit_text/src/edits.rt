@@ -3,6 +3,7 @@
 ghost use Rattle.std.specs.Prelude.{◌≡◌, OnOk};
 ghost use Rattle.serde_json.specs.View.{view, members_view};
 ghost use Rattle.edit_text.specs.Fault.{UnlessMemory};
+ghost use Rattle.edit_text.specs.Fits.{EditFits};
 ghost use Rattle.edit_text.specs.Members.{put_all};
 ghost use Rattle.edit_text.specs.Edits.{edit_from, edit_name, edit_fields};
 
@@ -43,10 +44,17 @@ pub fn put(
     members: &mut Map<String, Value>,
     edit: &Edit,
 ) -> Result<(), AllocError>
-    ensures { OnOk result (members_view members.new.entries ≡ put_all (members_view members.old.entries) (edit_fields edit.now)) }
+    ensures put { OnOk result (members_view members.new.entries ≡ put_all (members_view members.old.entries) (edit_fields edit.now)) }
+    ensures fits { OnOk result (EditFits edit.now) }
 {
     match edit {
-        Edit::Guild(edit) => guild::put(alloc, members, edit),
-        Edit::RoleMember(edit) => role_member::put(alloc, members, edit),
+        Edit::Guild(edit) => {
+            guild::put(alloc, members, edit)?;
+            Ok(())
+        }
+        Edit::RoleMember(edit) => {
+            role_member::put(alloc, members, edit)?;
+            Ok(())
+        }
     }
 }

@@ -8,7 +8,7 @@ ghost use Rattle.json_view.specs.Fields.{and_then};
 ghost use Rattle.guild_model.specs.declared.moment.TheConstants.{END_OF_TIME};
 ghost use Rattle.edit_text.specs.declared.fault.LineFault.TheVariants.{WrongType};
 ghost use Rattle.serde_json.specs.View.{view};
-ghost use Rattle.edit_text.specs.Fault.{UnlessMemory, faulted};
+ghost use Rattle.edit_text.specs.Fault.{UnlessMemory, fault_of};
 ghost use Rattle.edit_text.specs.Fields.{text_at, id_at, flag_at, number_below, within, mask_at, moment_at, position_at, nullable_text_at, nullable_moment_at, intents_at};
 
 use crate::LineFault;
@@ -21,8 +21,8 @@ use serde_json::Value;
 use snowflake_id::Snowflake;
 use std::alloc::Global;
 
-fn faulted(fault: ViewFault) -> LineFault
-    ensures { Err result ≡ faulted (Err fault) }
+fn fault_of(fault: ViewFault) -> LineFault
+    ensures { result ≡ fault_of fault }
 {
     match fault {
         ViewFault::Missing => LineFault::Missing,
@@ -35,7 +35,7 @@ pub fn text_at<'a>(object: &'a Value, name: &str) -> Result<&'a str, LineFault>
     ensures { result_map_both (λ s. s.now) (λ e. e) result ≡ text_at name.now (view object.now) }
 {
     match text_of(object, name) {
-        Err(fault) => Err(faulted(fault)),
+        Err(fault) => Err(fault_of(fault)),
         Ok(text) => Ok(text),
     }
 }
@@ -44,7 +44,7 @@ pub fn id_at(object: &Value, name: &str) -> Result<Snowflake, LineFault>
     ensures { result ≡ id_at name.now (view object.now) }
 {
     match id_of(object, name) {
-        Err(fault) => Err(faulted(fault)),
+        Err(fault) => Err(fault_of(fault)),
         Ok(id) => Ok(Snowflake(id)),
     }
 }
@@ -53,7 +53,7 @@ pub fn flag_at(object: &Value, name: &str) -> Result<bool, LineFault>
     ensures { result ≡ flag_at name.now (view object.now) }
 {
     match flag_of(object, name) {
-        Err(fault) => Err(faulted(fault)),
+        Err(fault) => Err(fault_of(fault)),
         Ok(flag) => Ok(flag),
     }
 }
@@ -63,7 +63,7 @@ pub fn number_below(object: &Value, name: &str, limit: u64) -> Result<u64, LineF
     ensures { result ≡ number_below limit name.now (view object.now) }
 {
     match number_of(object, name) {
-        Err(fault) => Err(faulted(fault)),
+        Err(fault) => Err(fault_of(fault)),
         Ok(number) => {
             if number < limit {
                 Ok(number)
@@ -79,7 +79,7 @@ pub fn mask_at(object: &Value, name: &str) -> Result<Perms, LineFault>
     ensures { result ≡ mask_at name.now (view object.now) }
 {
     match id_of(object, name) {
-        Err(fault) => Err(faulted(fault)),
+        Err(fault) => Err(fault_of(fault)),
         Ok(mask) => match Perms::of_mask(mask) {
             Err(_) => Err(LineFault::WrongType),
             Ok(perms) => Ok(perms),
@@ -92,7 +92,7 @@ pub fn moment_at(object: &Value, name: &str) -> Result<Moment, LineFault>
     ensures { result ≡ moment_at name.now (view object.now) }
 {
     match number_of(object, name) {
-        Err(fault) => Err(faulted(fault)),
+        Err(fault) => Err(fault_of(fault)),
         Ok(millis) => match Moment::of_millis(millis) {
             Err(_) => Err(LineFault::WrongType),
             Ok(moment) => Ok(moment),
@@ -105,7 +105,7 @@ pub fn position_at(object: &Value, name: &str) -> Result<u32, LineFault>
     ensures { result ≡ position_at name.now (view object.now) }
 {
     match number_of(object, name) {
-        Err(fault) => Err(faulted(fault)),
+        Err(fault) => Err(fault_of(fault)),
         Ok(number) => {
             if number < 1 << 31 {
                 Ok(number as u32)
@@ -125,7 +125,7 @@ pub fn nullable_text_at(
     ensures { UnlessMemory result (nullable_text_at name.now (view object.now)) }
 {
     match field_of(object, name) {
-        Err(fault) => Err(faulted(fault)),
+        Err(fault) => Err(fault_of(fault)),
         Ok(Value::Null) => Ok(None),
         Ok(value) => match value.as_str() {
             None => Err(LineFault::WrongType),
@@ -154,7 +154,7 @@ pub fn nullable_moment_at(object: &Value, name: &str) -> Result<Option<Moment>, 
     ensures { result ≡ nullable_moment_at name.now (view object.now) }
 {
     match field_of(object, name) {
-        Err(fault) => Err(faulted(fault)),
+        Err(fault) => Err(fault_of(fault)),
         Ok(Value::Null) => Ok(None),
         Ok(value) => match moment_from(value.as_u64()) {
             Err(fault) => Err(fault),
@@ -168,7 +168,7 @@ pub fn intents_at(object: &Value, name: &str) -> Result<Intents, LineFault>
     ensures { result ≡ intents_at name.now (view object.now) }
 {
     match number_of(object, name) {
-        Err(fault) => Err(faulted(fault)),
+        Err(fault) => Err(fault_of(fault)),
         Ok(bits) => match Intents::of_bits(bits) {
             Err(_) => Err(LineFault::WrongType),
             Ok(intents) => Ok(intents),

@@ -4,7 +4,14 @@
 mod edits;
 mod fault;
 mod fields;
+mod line;
 mod members;
 mod names;
+mod reader;
+mod steps;
+mod text;
 
 pub use fault::LineFault;
+pub use line::{FileKind, Line};
+pub use names::{EditName, GuildEditName, RoleMemberEditName};
+pub use reader::{MAX_LINE_BYTES, MAX_LINES, StepReader};

@@ -1,12 +1,15 @@
 //! The members of a line, put in byte order of their keys.
 
-ghost use Rattle.std.specs.Prelude.{◌≡◌, ◌<◌, ◌^◌, OnOk};
+ghost use Rattle.std.specs.Prelude.{◌≡◌, true, OnOk};
+ghost use Rattle.edit_text.specs.Fields.{are_intents};
 ghost use Rattle.serde_json.specs.Data.{boolean, string, put};
 ghost use Rattle.serde_json.specs.View.{members_view};
+ghost use Rattle.edit_text.specs.Fits.{IdFits, MaskFits, MomentFits, NullableMomentFits};
 ghost use Rattle.edit_text.specs.Members.{count, id_data, nullable};
 
 use collections::Text;
 use guild_model::Moment;
+use intent_set::Intents;
 use perm_bits::Perms;
 use serde_json::{Map, Value};
 use snowflake_id::Snowflake;
@@ -21,7 +24,8 @@ pub fn put_str(
     ensures { OnOk result (members_view members.new.entries ≡ put name.now (string text.now) (members_view members.old.entries)) }
 {
     let text = String::from_str(alloc, text)?;
-    serde_json::put(members, alloc, name, Value::String(text))
+    serde_json::put(members, alloc, name, Value::String(text))?;
+    Ok(())
 }
 
 pub fn put_text(
@@ -41,10 +45,12 @@ pub fn put_id(
     name: &str,
     id: Snowflake,
 ) -> Result<(), AllocError>
-    ensures { OnOk result (members_view members.new.entries ≡ put name.now (id_data id) (members_view members.old.entries)) }
+    ensures put { OnOk result (members_view members.new.entries ≡ put name.now (id_data id) (members_view members.old.entries)) }
+    ensures fits { OnOk result (IdFits id) }
 {
     let text = id.text(alloc)?;
-    serde_json::put(members, alloc, name, Value::String(text))
+    serde_json::put(members, alloc, name, Value::String(text))?;
+    Ok(())
 }
 
 pub fn put_mask(
@@ -53,10 +59,12 @@ pub fn put_mask(
     name: &str,
     perms: Perms,
 ) -> Result<(), AllocError>
-    ensures { OnOk result (members_view members.new.entries ≡ put name.now (id_data perms) (members_view members.old.entries)) }
+    ensures put { OnOk result (members_view members.new.entries ≡ put name.now (id_data perms) (members_view members.old.entries)) }
+    ensures fits { OnOk result (MaskFits perms) }
 {
     let text = perms.mask().to_string(alloc)?;
-    serde_json::put(members, alloc, name, Value::String(text))
+    serde_json::put(members, alloc, name, Value::String(text))?;
+    Ok(())
 }
 
 pub fn put_number(
@@ -67,7 +75,8 @@ pub fn put_number(
 ) -> Result<(), AllocError>
     ensures { OnOk result (members_view members.new.entries ≡ put name.now (count number) (members_view members.old.entries)) }
 {
-    serde_json::put(members, alloc, name, Value::from(number))
+    serde_json::put(members, alloc, name, Value::from(number))?;
+    Ok(())
 }
 
 pub fn put_moment(
@@ -76,9 +85,24 @@ pub fn put_moment(
     name: &str,
     moment: Moment,
 ) -> Result<(), AllocError>
-    ensures { OnOk result (members_view members.new.entries ≡ put name.now (count moment) (members_view members.old.entries)) }
+    ensures put { OnOk result (members_view members.new.entries ≡ put name.now (count moment) (members_view members.old.entries)) }
+    ensures fits { OnOk result (MomentFits moment) }
 {
-    put_number(alloc, members, name, moment.millis())
+    put_number(alloc, members, name, moment.millis())?;
+    Ok(())
+}
+
+pub fn put_intents(
+    alloc: Global,
+    members: &mut Map<String, Value>,
+    name: &str,
+    intents: Intents,
+) -> Result<(), AllocError>
+    ensures put { OnOk result (members_view members.new.entries ≡ put name.now (count intents) (members_view members.old.entries)) }
+    ensures fits { OnOk result (are_intents intents ≡ true) }
+{
+    put_number(alloc, members, name, intents.bits())?;
+    Ok(())
 }
 
 pub fn put_flag(
@@ -89,7 +113,8 @@ pub fn put_flag(
 ) -> Result<(), AllocError>
     ensures { OnOk result (members_view members.new.entries ≡ put name.now (boolean flag) (members_view members.old.entries)) }
 {
-    serde_json::put(members, alloc, name, Value::Bool(flag))
+    serde_json::put(members, alloc, name, Value::Bool(flag))?;
+    Ok(())
 }
 
 pub fn put_nullable_text(
@@ -112,7 +137,8 @@ pub fn put_nullable_moment(
     name: &str,
     moment: Option<Moment>,
 ) -> Result<(), AllocError>
-    ensures { OnOk result (members_view members.new.entries ≡ put name.now (nullable count moment) (members_view members.old.entries)) }
+    ensures put { OnOk result (members_view members.new.entries ≡ put name.now (nullable count moment) (members_view members.old.entries)) }
+    ensures fits { OnOk result (NullableMomentFits moment) }
 {
     match moment {
         None => serde_json::put(members, alloc, name, Value::Null),

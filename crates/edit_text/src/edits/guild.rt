@@ -3,6 +3,7 @@
 ghost use Rattle.std.specs.Prelude.{◌≡◌, OnOk};
 ghost use Rattle.serde_json.specs.View.{view, members_view};
 ghost use Rattle.edit_text.specs.Fault.{UnlessMemory};
+ghost use Rattle.edit_text.specs.Fits.{GuildEditFits};
 ghost use Rattle.edit_text.specs.Members.{put_all};
 ghost use Rattle.edit_text.specs.GuildEdits.{guild_open_from, guild_rename_from, guild_owner_from, guild_edit_from, guild_edit_name, guild_edit_fields};
 
@@ -81,7 +82,8 @@ pub fn put(
     members: &mut Map<String, Value>,
     edit: &GuildEdit,
 ) -> Result<(), AllocError>
-    ensures { OnOk result (members_view members.new.entries ≡ put_all (members_view members.old.entries) (guild_edit_fields edit.now)) }
+    ensures put { OnOk result (members_view members.new.entries ≡ put_all (members_view members.old.entries) (guild_edit_fields edit.now)) }
+    ensures fits { OnOk result (GuildEditFits edit.now) }
 {
     match edit {
         GuildEdit::GuildOpen {
@@ -95,10 +97,17 @@ pub fn put(
             put_id(alloc, members, "owner", *owner)?;
             put_text(alloc, members, "owner_name", owner_name)?;
             put_mask(alloc, members, "perms", *perms)?;
-            put_moment(alloc, members, "at", *at)
+            put_moment(alloc, members, "at", *at)?;
+            Ok(())
         }
-        GuildEdit::GuildRename { name } => put_text(alloc, members, "name", name),
-        GuildEdit::GuildOwner { user } => put_id(alloc, members, "user", *user),
+        GuildEdit::GuildRename { name } => {
+            put_text(alloc, members, "name", name)?;
+            Ok(())
+        }
+        GuildEdit::GuildOwner { user } => {
+            put_id(alloc, members, "user", *user)?;
+            Ok(())
+        }
         GuildEdit::GuildOutage | GuildEdit::GuildBack => Ok(()),
     }
 }

@@ -3,6 +3,7 @@
 ghost use Rattle.std.specs.Prelude.{◌≡◌, OnOk};
 ghost use Rattle.serde_json.specs.View.{view, members_view};
 ghost use Rattle.edit_text.specs.Fault.{UnlessMemory};
+ghost use Rattle.edit_text.specs.Fits.{IdFits, MaskFits, RoleMemberEditFits};
 ghost use Rattle.edit_text.specs.Members.{put_all};
 ghost use Rattle.edit_text.specs.RoleMemberEdits.{role_create_from, role_update_from, role_delete_from, member_add_from, member_remove_from, member_nick_from, member_timeout_from, member_role_add_from, member_role_remove_from, role_member_edit_from, role_member_edit_name, role_fields, user_role_fields, role_member_edit_fields};
 
@@ -162,12 +163,14 @@ fn put_role(
     perms: Perms,
     position: u32,
 ) -> Result<(), AllocError>
-    ensures { OnOk result (members_view members.new.entries ≡ put_all (members_view members.old.entries) (role_fields role name.now perms position)) }
+    ensures put { OnOk result (members_view members.new.entries ≡ put_all (members_view members.old.entries) (role_fields role name.now perms position)) }
+    ensures fits { OnOk result (IdFits role × MaskFits perms) }
 {
     put_id(alloc, members, "role", role)?;
     put_text(alloc, members, "name", name)?;
     put_mask(alloc, members, "perms", perms)?;
-    put_number(alloc, members, "position", u64::from(position))
+    put_number(alloc, members, "position", u64::from(position))?;
+    Ok(())
 }
 
 fn put_user_role(
@@ -176,10 +179,12 @@ fn put_user_role(
     user: Snowflake,
     role: Snowflake,
 ) -> Result<(), AllocError>
-    ensures { OnOk result (members_view members.new.entries ≡ put_all (members_view members.old.entries) (user_role_fields user role)) }
+    ensures put { OnOk result (members_view members.new.entries ≡ put_all (members_view members.old.entries) (user_role_fields user role)) }
+    ensures fits { OnOk result (IdFits user × IdFits role) }
 {
     put_id(alloc, members, "user", user)?;
-    put_id(alloc, members, "role", role)
+    put_id(alloc, members, "role", role)?;
+    Ok(())
 }
 
 /// Puts the fields of an edit into an object.
@@ -188,7 +193,8 @@ pub fn put(
     members: &mut Map<String, Value>,
     edit: &RoleMemberEdit,
 ) -> Result<(), AllocError>
-    ensures { OnOk result (members_view members.new.entries ≡ put_all (members_view members.old.entries) (role_member_edit_fields edit.now)) }
+    ensures put { OnOk result (members_view members.new.entries ≡ put_all (members_view members.old.entries) (role_member_edit_fields edit.now)) }
+    ensures fits { OnOk result (RoleMemberEditFits edit.now) }
 {
     match edit {
         RoleMemberEdit::RoleCreate {
@@ -196,14 +202,23 @@ pub fn put(
             name,
             perms,
             position,
-        } => put_role(alloc, members, *role, name, *perms, *position),
+        } => {
+            put_role(alloc, members, *role, name, *perms, *position)?;
+            Ok(())
+        }
         RoleMemberEdit::RoleUpdate {
             role,
             name,
             perms,
             position,
-        } => put_role(alloc, members, *role, name, *perms, *position),
-        RoleMemberEdit::RoleDelete { role } => put_id(alloc, members, "role", *role),
+        } => {
+            put_role(alloc, members, *role, name, *perms, *position)?;
+            Ok(())
+        }
+        RoleMemberEdit::RoleDelete { role } => {
+            put_id(alloc, members, "role", *role)?;
+            Ok(())
+        }
         RoleMemberEdit::MemberAdd {
             user,
             name,
@@ -213,22 +228,30 @@ pub fn put(
             put_id(alloc, members, "user", *user)?;
             put_text(alloc, members, "name", name)?;
             put_flag(alloc, members, "bot", *bot)?;
-            put_moment(alloc, members, "at", *at)
+            put_moment(alloc, members, "at", *at)?;
+            Ok(())
         }
-        RoleMemberEdit::MemberRemove { user } => put_id(alloc, members, "user", *user),
+        RoleMemberEdit::MemberRemove { user } => {
+            put_id(alloc, members, "user", *user)?;
+            Ok(())
+        }
         RoleMemberEdit::MemberNick { user, nick } => {
             put_id(alloc, members, "user", *user)?;
-            put_nullable_text(alloc, members, "nick", nick)
+            put_nullable_text(alloc, members, "nick", nick)?;
+            Ok(())
         }
         RoleMemberEdit::MemberTimeout { user, until } => {
             put_id(alloc, members, "user", *user)?;
-            put_nullable_moment(alloc, members, "until", *until)
+            put_nullable_moment(alloc, members, "until", *until)?;
+            Ok(())
         }
         RoleMemberEdit::MemberRoleAdd { user, role } => {
-            put_user_role(alloc, members, *user, *role)
+            put_user_role(alloc, members, *user, *role)?;
+            Ok(())
         }
         RoleMemberEdit::MemberRoleRemove { user, role } => {
-            put_user_role(alloc, members, *user, *role)
+            put_user_role(alloc, members, *user, *role)?;
+            Ok(())
         }
     }
 }
