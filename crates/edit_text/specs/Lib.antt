@@ -8,3 +8,4 @@ pub mod Edits
 pub mod Lines
 pub mod Written
 pub mod Fits
+pub mod Built

@@ -9,7 +9,7 @@ ghost use Rattle.guild_model.specs.declared.moment.TheConstants.{END_OF_TIME};
 ghost use Rattle.edit_text.specs.declared.fault.LineFault.TheVariants.{WrongType};
 ghost use Rattle.serde_json.specs.View.{view};
 ghost use Rattle.edit_text.specs.Fault.{UnlessMemory, fault_of};
-ghost use Rattle.edit_text.specs.Fields.{text_at, id_at, flag_at, number_below, within, mask_at, moment_at, position_at, nullable_text_at, nullable_moment_at, intents_at};
+ghost use Rattle.edit_text.specs.Fields.{text_at, id_at, flag_at, number_below, within, are_intents, mask_at, moment_at, position_at, nullable_text_at, nullable_moment_at, intents_at};
 
 use crate::LineFault;
 use collections::Text;
@@ -163,15 +163,21 @@ pub fn nullable_moment_at(object: &Value, name: &str) -> Result<Option<Moment>, 
     }
 }
 
+fn intents_from(bits: u64) -> Result<Intents, LineFault>
+    ensures { result ≡ within (are_intents bits) bits }
+{
+    match Intents::of_bits(bits) {
+        Err(_) => Err(LineFault::WrongType),
+        Ok(intents) => Ok(intents),
+    }
+}
+
 /// A set of intents.
 pub fn intents_at(object: &Value, name: &str) -> Result<Intents, LineFault>
     ensures { result ≡ intents_at name.now (view object.now) }
 {
     match number_of(object, name) {
         Err(fault) => Err(fault_of(fault)),
-        Ok(bits) => match Intents::of_bits(bits) {
-            Err(_) => Err(LineFault::WrongType),
-            Ok(intents) => Ok(intents),
-        },
+        Ok(bits) => intents_from(bits),
     }
 }
