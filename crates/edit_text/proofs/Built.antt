@@ -180,7 +180,7 @@ line_built : (r : StepReader) (bytes : List ℕ) → IfOk (line_of r bytes) IsBu
 unfolding line_of
 line_built r bytes =
     let read : IfOk (some_line (json_line r bytes)) IsBuiltIf =
-        each_of IsBuilt IsBuiltIf (json_line r bytes) (λ line. Ok (Some line)) (each IsBuilt (ok_or (reading bytes) NotJson) (object_line_from r) (object_built r)) (λ line h. h) in
+    each_of IsBuilt IsBuiltIf (json_line r bytes) (λ line. Ok (Some line)) (each IsBuilt (ok_or (reading bytes) NotJson) (object_line_from r) (object_built r)) (λ line h. h) in
     either IsBuiltIf (is_too_long r bytes) (Err TooLong) (if is_blank bytes then Ok None else some_line (json_line r bytes)) tt
     (either IsBuiltIf (is_blank bytes) (Ok None) (some_line (json_line r bytes)) tt read)
 

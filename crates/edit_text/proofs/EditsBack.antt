@@ -40,9 +40,12 @@ moment_below at h = grind (arith, nat_tests, h)
 guild_open_back : (guild : ℕ) (name : List ℕ) (owner : ℕ) (owner_name : List ℕ) (perms at : ℕ)
     → IdFits guild → IdFits owner → MaskFits perms → MomentFits at → Back guild (edit.Guild (GuildOpen name owner owner_name perms at))
 unfolding serde_json_on_literals
-guild_open_back guild name owner owner_name perms at h k m t =
-    (refl, rw (id_of_decimal guild h) refl, refl,
-    rw (id_of_decimal owner k, id_of_decimal perms (mask_as_id perms m), mask_below perms m, moment_below at t) refl)
+guild_open_back guild name owner owner_name perms at h k m t = (
+  refl,
+  rw (id_of_decimal guild h) refl,
+  refl,
+  rw (id_of_decimal owner k, id_of_decimal perms (mask_as_id perms m), mask_below perms m, moment_below at t) refl,
+)
 
 guild_back : (guild : ℕ) (e : GuildEdit) → IdFits guild → GuildEditFits e → Back guild (edit.Guild e)
 unfolding serde_json_on_literals

@@ -39,11 +39,7 @@ pub fn name_of(edit: &Edit) -> EditName
 }
 
 /// Puts the fields of an edit into an object.
-pub fn put(
-    alloc: Global,
-    members: &mut Map<String, Value>,
-    edit: &Edit,
-) -> Result<(), AllocError>
+pub fn put(alloc: Global, members: &mut Map<String, Value>, edit: &Edit) -> Result<(), AllocError>
     ensures put { OnOk result (members_view members.new.entries ≡ put_all (members_view members.old.entries) (edit_fields edit.now)) }
     ensures fits { OnOk result (EditFits edit.now) }
 {

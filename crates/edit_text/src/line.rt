@@ -23,19 +23,41 @@ pub enum Line {
         privileged: Intents,
     },
     /// A guild with an empty log.
-    Guild { id: Snowflake },
+    Guild {
+        id: Snowflake,
+    },
     /// An edit comes to a guild's log.
-    Edit { guild: Snowflake, edit: Edit },
+    Edit {
+        guild: Snowflake,
+        edit: Edit,
+    },
     /// A worker reads what has come to a guild's log.
-    Look { worker: u8, guild: Snowflake },
+    Look {
+        worker: u8,
+        guild: Snowflake,
+    },
     /// A client connects to a worker.
-    Open { worker: u8, conn: u32 },
+    Open {
+        worker: u8,
+        conn: u32,
+    },
     /// A client sends a text.
-    Frame { conn: u32, text: Text },
+    Frame {
+        conn: u32,
+        text: Text,
+    },
     /// A connection breaks.
-    Lost { conn: u32 },
+    Lost {
+        conn: u32,
+    },
     /// A client closes its connection with a code (Gateway Opcodes and Status Codes).
-    Closed { conn: u32, code: u16 },
+    Closed {
+        conn: u32,
+        code: u16,
+    },
     /// A worker's clock reaches a moment, in milliseconds.
-    Tick { worker: u8, now: u64 },
+    Tick {
+        worker: u8,
+        now: u64,
+    },
 }

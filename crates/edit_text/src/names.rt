@@ -275,13 +275,7 @@ impl EditName {
     {
         match EditName::of(name) {
             None => None,
-            Some(edit) => {
-                if edit.is_built() {
-                    Some(edit)
-                } else {
-                    None
-                }
-            }
+            Some(edit) => { if edit.is_built() { Some(edit) } else { None } }
         }
     }
 }

@@ -6,10 +6,9 @@ ghost use Rattle.edit_text.specs.Fault.{UnlessMemory};
 ghost use Rattle.edit_text.specs.Fields.{number_below};
 ghost use Rattle.edit_text.specs.Lines.{bot_from, has_id, has_room, guild_from, worker_at, connection_at, edit_line_from, look_from, open_from, frame_from, lost_from, closed_from, tick_from, fields_from};
 
-use crate::edits;
 use crate::fields::{id_at, intents_at, number_below, text_at};
 use crate::names::{EditName, StepName};
-use crate::{Line, LineFault};
+use crate::{Line, LineFault, edits};
 use collections::Text;
 use serde_json::Value;
 use snowflake_id::Snowflake;

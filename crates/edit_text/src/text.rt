@@ -7,10 +7,9 @@ ghost use Rattle.edit_text.specs.Members.{put_all};
 ghost use Rattle.edit_text.specs.Lines.{line_of};
 ghost use Rattle.edit_text.specs.Written.{step_name, line_fields, line_data, allows};
 
-use crate::Line;
-use crate::edits;
 use crate::members::{put_id, put_intents, put_number, put_str, put_text};
 use crate::names::StepName;
+use crate::{Line, edits};
 use edit_apply::Edit;
 use serde_json::{Map, Value};
 use snowflake_id::Snowflake;
