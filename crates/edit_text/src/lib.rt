@@ -11,6 +11,8 @@ mod members;
 mod names;
 mod reader;
 mod steps;
+#[cfg(test)]
+mod tests;
 mod text;
 
 pub use fault::LineFault;
