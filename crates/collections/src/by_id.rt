@@ -214,7 +214,8 @@ impl<T: Keyed + Drop> ById<T> {
     /// Keeps the records at which a test is true.
     pub fn retain<F: FnMut(&T) -> bool>(&mut self, keep: F)
         requires { F.IsAlwaysCallable keep }
-        ensures { IsFiltered (CalledAt F.FnMut) keep self.old self.new }
+        ensures filtered { IsFiltered (CalledAt F.FnMut) keep self.old self.new }
+        ensures ascending { IsById T.key self.old }
     {
         self.items.retain(keep);
     }

@@ -3,6 +3,8 @@
 
 pub mod by_id;
 pub mod seq;
+#[cfg(test)]
+mod tests;
 pub mod text;
 
 pub use by_id::{ById, Change, Duplicate, Keyed};

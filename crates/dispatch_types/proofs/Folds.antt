@@ -1,21 +1,15 @@
--- What a client makes of dispatches of another guild, and of any without GUILDS.
-use Rattle.std.proofs.Common.{◌≡◌, ℕ, Bool, true, false, List, [], ◌∷◌, map, Option, Some, None, if◌then◌else◌, refl, sym, ap, subst, ◌∙◌}
-use Rattle.std.specs.Prelude.{◌==◌, All, option_and_then}
+-- What a client makes of dispatches of another guild, and of its own.
+use Rattle.std.proofs.Common.{◌≡◌, ℕ, Bool, true, false, List, [], ◌∷◌, map, Option, Some, None, if◌then◌else◌, refl, sym, ap, subst, ◌∙◌, eq-eqb}
+use Rattle.std.specs.Prelude.{◌==◌, All}
 use Rattle.std.proofs.lemmas.List.Elements.{All-head, All-tail}
 use Rattle.collections.specs.ById.{put_id, put_all, without_id}
-use Rattle.perm_bits.specs.Bits.{has_bit}
-use Rattle.intent_set.specs.Intents.{guilds}
-use Rattle.guild_model.specs.declared.member.Member.{Member}
-use Rattle.guild_model.specs.Record.{Record, own_id}
-use Rattle.dispatch_types.specs.declared.viewer.Viewer.{Viewer}
+use Rattle.guild_model.specs.Record.{own_id}
 use Rattle.dispatch_types.specs.declared.view.GuildView.{GuildView}
 use Rattle.dispatch_types.specs.declared.view.GuildView.TheVariants.{Unavailable, Open}
 use Rattle.dispatch_types.specs.declared.view.OpenView.{OpenView}
 use Rattle.dispatch_types.specs.declared.dispatch.Dispatch.{Dispatch}
 use Rattle.dispatch_types.specs.declared.dispatch.Dispatch.TheVariants.{Ready, Resumed, GuildCreate, GuildUpdate, GuildDelete, GuildRoleCreate, GuildRoleUpdate, GuildRoleDelete, ChannelCreate, ChannelUpdate, ChannelDelete, ThreadCreate, ThreadUpdate, ThreadDelete, ThreadListSync, ThreadMembersUpdate, GuildMemberAdd, GuildMemberUpdate, GuildMemberRemove, GuildMembersChunk, VoiceStateUpdate, PresenceUpdate, MessageCreate, MessageUpdate, MessageDelete, MessageReactionAdd, MessageReactionRemove, TypingStart}
-use Rattle.dispatch_types.specs.Projection.{projection}
 use Rattle.dispatch_types.specs.Fold.{Held, user_id, on_open, seen_by, knows, begun, if_unavailable, created, created_view, changed, purge, purged_after, folded, fold_from}
-use Rattle.dispatch_types.proofs.Views.{purge-stays}
 
 -- the guild that a dispatch is of
 abbrev pub guild_of : Dispatch → Option ℕ
@@ -47,7 +41,6 @@ guild_of (MessageDelete guild channel id) = Some guild
 guild_of (MessageReactionAdd reaction) = Some reaction.guild
 guild_of (MessageReactionRemove reaction) = Some reaction.guild
 guild_of (TypingStart guild channel user seconds) = Some guild
-
 
 unseen : (here : Bool) (f : OpenView → OpenView) → here ≡ false → (h : Held) → seen_by here f h ≡ h
 unseen here f other h = ap (λ b. seen_by b f h) other
@@ -97,14 +90,17 @@ module _ (intents g : ℕ) where
   purged_after-stays (ThreadUpdate thread) h stays = refl
   purged_after-stays _ h stays = stays
 
--- dispatches of another guild leave what agrees with a record
-pub folded-elsewhere : (t : Record) (v : Viewer) (h : Held) (a : ℕ) (d : Dispatch) → guild_of d ≡ Some a → (a == t.id) ≡ false → h.view ≡ projection t v h.known → folded v.intents t.id h d ≡ h
-unfolding folded
-folded-elsewhere t v h a d same other agrees =
-    ap (purged_after v.intents t.id d) (elsewhere v.intents t.id a h d same other) ∙ purged_after-stays v.intents t.id d h (purge-stays t v h agrees)
+  -- dispatches of another guild leave what the purge leaves
+  pub folded-elsewhere : (h : Held) (a : ℕ) (d : Dispatch) → guild_of d ≡ Some a → (a == g) ≡ false → purge intents g h ≡ h → folded intents g h d ≡ h
+  unfolding folded
+  folded-elsewhere h a d same other stays = ap (purged_after intents g d) (elsewhere a h d same other) ∙ purged_after-stays d h stays
 
-pub fold-elsewhere : (t : Record) (v : Viewer) (h : Held) (a : ℕ) (ds : List Dispatch) → All (λ d. guild_of d ≡ Some a) ds → (a == t.id) ≡ false → h.view ≡ projection t v h.known → fold_from v.intents t.id h ds ≡ h
-fold-elsewhere t v h a [] of other agrees = refl
-fold-elsewhere t v h a (d ∷ ds) of other agrees =
-    let head : folded v.intents t.id h d ≡ h = folded-elsewhere t v h a d (All-head (λ d. guild_of d ≡ Some a) d ds of) other agrees in
-    ap (λ (k : Held). fold_from v.intents t.id k ds) head ∙ fold-elsewhere t v h a ds (All-tail (λ d. guild_of d ≡ Some a) d ds of) other agrees
+  pub fold-elsewhere : (h : Held) (a : ℕ) (ds : List Dispatch) → All (λ d. guild_of d ≡ Some a) ds → (a == g) ≡ false → purge intents g h ≡ h → fold_from intents g h ds ≡ h
+  fold-elsewhere h a [] of other stays = refl
+  fold-elsewhere h a (d ∷ ds) of other stays =
+      let head : folded intents g h d ≡ h = folded-elsewhere h a d (All-head (λ d. guild_of d ≡ Some a) d ds of) other stays in
+      ap (λ (k : Held). fold_from intents g k ds) head ∙ fold-elsewhere h a ds (All-tail (λ d. guild_of d ≡ Some a) d ds of) other stays
+
+  -- a dispatch of the guild itself changes its open view
+  pub seen_here : (guild : ℕ) (f : OpenView → OpenView) (h : Held) → guild ≡ g → seen_by (guild == g) f h ≡ record h { view = on_open f h.view }
+  seen_here guild f h here = ap (λ b. seen_by b f h) (eq-eqb guild g here)

@@ -50,3 +50,26 @@ pub purge-stays : (s : Record) (v : Viewer) (h : Held) → h.view ≡ projection
 purge-stays s v h agrees =
     let stays : on_open (purged v.intents s.id) h.view ≡ h.view = ap (on_open (purged v.intents s.id)) agrees ∙ (purged-projection s v h.known ∙ sym agrees) in
     ap (λ (view : Option GuildView). record h { view = view }) stays
+
+-- a viewer without GUILDS, or that is not served, holds nothing; one that is served an available guild holds it
+module _ (s : Record) (v : Viewer) (known : List ℕ) where
+  pub projection-blind : has_bit v.intents guilds ≡ false → projection s v known ≡ None
+  unfolding projection
+  projection-blind blind = ap (λ b. if b then view_as s v.intents known (served v s) else None) blind
+
+  pub projection-unserved : served v s ≡ None → projection s v known ≡ None
+  unfolding projection
+  projection-unserved none = ap (λ me. if has_bit v.intents guilds then view_as s v.intents known me else None) none ∙ either (has_bit v.intents guilds)
+    where
+      nothing : Option GuildView
+      nothing = None
+
+      either : (b : Bool) → (if b then nothing else nothing) ≡ nothing
+      either true = refl
+      either false = refl
+
+  pub projection-open : (me : Member) → has_bit v.intents guilds ≡ true → served v s ≡ Some me → s.outage ≡ false → projection s v known ≡ Some (Open (open_view s v.intents known me))
+  unfolding projection
+  projection-open me asks is_served available =
+      ap (λ b. if b then view_as s v.intents known (served v s) else None) asks
+      ∙ (ap (view_as s v.intents known) is_served ∙ ap (λ b. Some (if b then Unavailable else Open (open_view s v.intents known me))) available)

@@ -63,14 +63,18 @@ abbrev pub joined_thread : ℕ → ℕ → JoinedThread → ThreadView
 joined_thread intents bot t = thread_of intents (option_map (λ joined. record { user = bot; joined = joined }) t.joined) t.thread
 
 abbrev pub created : ℕ → ℕ → Create → Member → OpenView
-created intents bot c me = record { name = c.name; owner = c.owner; me = me;
-    roles = put_all role_id [] c.roles;
-    channels = put_all channel_id [] (map channel_of c.channels);
-    members = listed intents guild_members (put_all member_id [] (map member_of c.members));
-    member_count = told intents guild_members c.member_count;
-    threads = put_all thread_view_id [] (map (joined_thread intents bot) c.threads);
-    voices = put_all voice_id [] (filter_map voice_of c.voices);
-    presences = listed intents guild_presences (put_all presence_id [] (filter_map presence_of c.presences)) }
+created intents bot c me = record {
+  name = c.name;
+  owner = c.owner;
+  me = me;
+  roles = put_all role_id [] c.roles;
+  channels = put_all channel_id [] (map channel_of c.channels);
+  members = listed intents guild_members (put_all member_id [] (map member_of c.members));
+  member_count = told intents guild_members c.member_count;
+  threads = put_all thread_view_id [] (map (joined_thread intents bot) c.threads);
+  voices = put_all voice_id [] (filter_map voice_of c.voices);
+  presences = listed intents guild_presences (put_all presence_id [] (filter_map presence_of c.presences));
+}
 
 -- a client without GUILDS holds no view; nor does one that is not told its own member
 abbrev pub created_view : ℕ → ℕ → Create → Option GuildView

@@ -25,8 +25,15 @@ abbrev pub is_active : Thread → Bool
 is_active t = not t.archived
 
 abbrev pub thread_view : ℕ → ℕ → Thread → ThreadView
-thread_view intents user t = record { id = t.id; kind = t.kind; name = t.name; owner = t.owner; parent = t.parent;
-    mine = find_id thread_member_id user t.members; count = told intents guild_members (min 50 (length t.members)) }
+thread_view intents user t = record {
+  id = t.id;
+  kind = t.kind;
+  name = t.name;
+  owner = t.owner;
+  parent = t.parent;
+  mine = find_id thread_member_id user t.members;
+  count = told intents guild_members (min 50 (length t.members));
+}
 
 -- the active threads that the viewer's member sees
 abbrev pub seen_threads : Record → Member → List Thread
@@ -36,12 +43,18 @@ abbrev pub is_known : List ℕ → Member → Bool
 is_known known m = has_id own_id m.user.id known
 
 abbrev pub open_view : Record → ℕ → List ℕ → Member → OpenView
-open_view s intents known me = record { name = s.name; owner = s.owner; roles = s.roles; channels = s.channels; me = me;
-    members = listed intents guild_members (filter (is_known known) s.members);
-    member_count = told intents guild_members (length s.members);
-    threads = map (thread_view intents me.user.id) (seen_threads s me);
-    voices = listed intents guild_voice_states s.voices;
-    presences = listed intents guild_presences s.presences }
+open_view s intents known me = record {
+  name = s.name;
+  owner = s.owner;
+  roles = s.roles;
+  channels = s.channels;
+  me = me;
+  members = listed intents guild_members (filter (is_known known) s.members);
+  member_count = told intents guild_members (length s.members);
+  threads = map (thread_view intents me.user.id) (seen_threads s me);
+  voices = listed intents guild_voice_states s.voices;
+  presences = listed intents guild_presences s.presences;
+}
 
 abbrev pub view_as : Record → ℕ → List ℕ → Option Member → Option GuildView
 view_as s intents known None = None

@@ -1,7 +1,12 @@
+ghost use Rattle.std.specs.Prelude.{◌≡◌, IfOk};
+ghost use Rattle.dispatch_types.specs.Objects.{overwrite_object, overwrite_objects, channel_object};
+
 use collections::{Seq, Text};
-use guild_model::ChannelKind;
+use guild_model::channel::{Overwrite, Overwrites};
+use guild_model::{Channel, ChannelKind};
 use perm_bits::Perms;
 use snowflake_id::Snowflake;
+use std::alloc::{AllocError, Global};
 
 /// Whom an overwrite is of; as a number, 0 and 1.
 #[derive(Clone, Copy, PartialEq, Eq, Debug)]
@@ -29,4 +34,51 @@ pub struct ChannelObject {
     pub parent: Option<Snowflake>,
     pub position: u32,
     pub overwrites: Seq<OverwriteObject>,
+}
+
+impl OverwriteObject {
+    /// An overwrite of a role or of a member as it is sent.
+    pub fn of(kind: OverwriteKind, overwrite: &Overwrite) -> OverwriteObject
+        ensures { result ≡ overwrite_object kind overwrite.now }
+    {
+        OverwriteObject {
+            kind,
+            id: overwrite.id,
+            allow: overwrite.allow,
+            deny: overwrite.deny,
+        }
+    }
+}
+
+// Those of roles, then those of members.
+fn overwrites(alloc: Global, from: &Overwrites) -> Result<Vec<OverwriteObject>, AllocError>
+    ensures { IfOk result (λ objects. objects.items ≡ overwrite_objects from.now) }
+{
+    let roles = from.roles.as_slice().iter();
+    let members = from.members.as_slice().iter();
+    roles
+        .map(|overwrite| OverwriteObject::of(OverwriteKind::Role, overwrite))
+        .chain(members.map(|overwrite| OverwriteObject::of(OverwriteKind::Member, overwrite)))
+        .collect(alloc)
+}
+
+impl ChannelObject {
+    /// A channel of a guild as it is sent.
+    pub fn of(
+        alloc: Global,
+        guild: Snowflake,
+        channel: &Channel,
+    ) -> Result<ChannelObject, AllocError>
+        ensures { IfOk result (λ object. object ≡ channel_object guild channel.now) }
+    {
+        Ok(ChannelObject {
+            guild,
+            id: channel.id,
+            kind: channel.kind,
+            name: channel.name.copy(alloc)?,
+            parent: channel.parent,
+            position: channel.position,
+            overwrites: Seq::from_vec(overwrites(alloc, &channel.overwrites)?),
+        })
+    }
 }

@@ -1,4 +1,7 @@
-use guild_model::Activity;
+ghost use Rattle.std.specs.Prelude.{◌≡◌};
+ghost use Rattle.dispatch_types.specs.Objects.{voice_object, presence_object};
+
+use guild_model::{Activity, Presence, Voice};
 use snowflake_id::Snowflake;
 
 /// A voice state as it is sent (Voice Resource, Voice State Object). Without a channel the user is
@@ -18,4 +21,31 @@ pub struct PresenceObject {
     pub guild: Snowflake,
     pub user: Snowflake,
     pub status: Option<Activity>,
+}
+
+impl VoiceObject {
+    /// A voice state as it is sent.
+    pub fn of(voice: &Voice) -> VoiceObject
+        ensures { result ≡ voice_object voice.now }
+    {
+        VoiceObject {
+            user: voice.user,
+            channel: Some(voice.channel),
+            self_mute: voice.self_mute,
+            self_deaf: voice.self_deaf,
+        }
+    }
+}
+
+impl PresenceObject {
+    /// A presence in a guild as it is sent.
+    pub fn of(guild: Snowflake, presence: &Presence) -> PresenceObject
+        ensures { result ≡ presence_object guild presence.now }
+    {
+        PresenceObject {
+            guild,
+            user: presence.user,
+            status: Some(presence.status),
+        }
+    }
 }

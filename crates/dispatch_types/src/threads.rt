@@ -1,8 +1,9 @@
 ghost use Rattle.std.specs.Prelude.{◌≡◌, ◌↔◌, ◌≤◌, min, IfOk, IsErr};
 
 use collections::Text;
-use guild_model::{Moment, ThreadKind};
+use guild_model::{Moment, Thread, ThreadKind};
 use snowflake_id::Snowflake;
+use std::alloc::{AllocError, Global};
 use std::marker::Model;
 
 /// How many users are in a thread, cut at 50 (Channels Resource, `member_count`).
@@ -75,6 +76,26 @@ pub struct ThreadObject {
     pub parent: Snowflake,
     pub archived: bool,
     pub count: ThreadCount,
+}
+
+impl ThreadObject {
+    ghost use Rattle.dispatch_types.specs.Objects.{thread_object};
+
+    /// A thread of a guild as it is sent.
+    pub fn of(alloc: Global, guild: Snowflake, thread: &Thread) -> Result<ThreadObject, AllocError>
+        ensures { IfOk result (λ object. object ≡ thread_object guild thread.now) }
+    {
+        Ok(ThreadObject {
+            guild,
+            id: thread.id,
+            kind: thread.kind,
+            name: thread.name.copy(alloc)?,
+            owner: thread.owner,
+            parent: thread.parent,
+            archived: thread.archived,
+            count: ThreadCount::of(thread.members.len()),
+        })
+    }
 }
 
 /// A thread of GUILD_CREATE, with the moment at which the bot joined it, where it is in it.

@@ -41,22 +41,31 @@ module _ (guild : ℕ) (name : List ℕ) (owner : ℕ) (owner_name : List ℕ) (
 
   opened_consistent : IsConsistent (guild_opened (closed guild) name owner owner_name perms at)
   opened_consistent = record {
-      empty = λ e. absurd (cc);
-      everyone = λ _. grind (arith, nat_tests);
-      owner = λ _. grind (arith, nat_tests);
-      held = λ user role m found holds. absurd (holds_none (owner == user) m role found holds);
-      overwritten = λ channel role c found there. absurd (cc);
-      voices = λ user v found. absurd (cc);
-      presences = λ user there. absurd (cc);
-      parents = λ thread t found. absurd (cc);
-      joined = λ thread user t found there. absurd (cc);
-      apart = λ id there. refl;
-      places = All-nil _ }
+    empty = λ e. absurd (cc);
+    everyone = λ _. grind (arith, nat_tests);
+    owner = λ _. grind (arith, nat_tests);
+    held = λ user role m found holds. absurd (holds_none (owner == user) m role found holds);
+    overwritten = λ channel role c found there. absurd (cc);
+    voices = λ user v found. absurd (cc);
+    presences = λ user there. absurd (cc);
+    parents = λ thread t found. absurd (cc);
+    joined = λ thread user t found there. absurd (cc);
+    apart = λ id there. refl;
+    places = All-nil _;
+  }
 
   opened_ascending : IsAscending (guild_opened (closed guild) name owner owner_name perms at)
-  opened_ascending = record { roles = (tt, tt); members = (tt, tt); channels = tt; threads = tt; voices = tt; presences = tt;
-      held = All-cons (λ (m : Member). IsById own_id m.roles) first_member [] tt (All-nil _);
-      overwrites = All-nil HasOrderedOverwrites; joined = All-nil (λ (t : Thread). IsById thread_member_id t.members) }
+  opened_ascending = record {
+    roles = (tt, tt);
+    members = (tt, tt);
+    channels = tt;
+    threads = tt;
+    voices = tt;
+    presences = tt;
+    held = All-cons (λ (m : Member). IsById own_id m.roles) first_member [] tt (All-nil _);
+    overwrites = All-nil HasOrderedOverwrites;
+    joined = All-nil (λ (t : Thread). IsById thread_member_id t.members);
+  }
 
 opened_well : (g : Record) (name : List ℕ) (owner : ℕ) (owner_name : List ℕ) (perms at : ℕ) → g.opened ≡ false → IsWell g → IsWell (guild_opened g name owner owner_name perms at)
 opened_well g name owner owner_name perms at shut w =
@@ -74,8 +83,17 @@ in_service_open g tests e = is_true g.opened (not_refused _ NotOpen (first_passe
 
 -- the lists are the same
 same_lists : (g : Record) (opened outage : Bool) (name : List ℕ) (owner : ℕ) → IsAscending g → IsAscending (record g { opened = opened; outage = outage; name = name; owner = owner })
-same_lists g opened outage name owner a = record { roles = a.roles; members = a.members; channels = a.channels; threads = a.threads; voices = a.voices; presences = a.presences;
-    held = a.held; overwrites = a.overwrites; joined = a.joined }
+same_lists g opened outage name owner a = record {
+  roles = a.roles;
+  members = a.members;
+  channels = a.channels;
+  threads = a.threads;
+  voices = a.voices;
+  presences = a.presences;
+  held = a.held;
+  overwrites = a.overwrites;
+  joined = a.joined;
+}
 
 guild_well : (g : Record) (edit : GuildEdit) → IsWell g → guild_verdict g edit ≡ None → IsWell (guild_applied g edit)
 guild_well g (GuildOpen name owner owner_name perms at) w e =
@@ -109,20 +127,31 @@ by_verdict g edit w (Some v) e = w
 
 closed_well : (guild : ℕ) → IsWell (closed guild)
 closed_well guild = record {
-    ascending = record { roles = tt; members = tt; channels = tt; threads = tt; voices = tt; presences = tt;
-        held = All-nil (λ (m : Member). IsById own_id m.roles); overwrites = All-nil HasOrderedOverwrites; joined = All-nil (λ (t : Thread). IsById thread_member_id t.members) };
-    consistent = record {
-        empty = λ _. refl;
-        everyone = λ e. absurd (cc);
-        owner = λ e. absurd (cc);
-        held = λ user role m found holds. absurd (cc);
-        overwritten = λ channel role c found there. absurd (cc);
-        voices = λ user v found. absurd (cc);
-        presences = λ user there. absurd (cc);
-        parents = λ thread t found. absurd (cc);
-        joined = λ thread user t found there. absurd (cc);
-        apart = λ id there. refl;
-        places = All-nil _ } }
+  ascending = record {
+    roles = tt;
+    members = tt;
+    channels = tt;
+    threads = tt;
+    voices = tt;
+    presences = tt;
+    held = All-nil (λ (m : Member). IsById own_id m.roles);
+    overwrites = All-nil HasOrderedOverwrites;
+    joined = All-nil (λ (t : Thread). IsById thread_member_id t.members);
+  };
+  consistent = record {
+    empty = λ _. refl;
+    everyone = λ e. absurd (cc);
+    owner = λ e. absurd (cc);
+    held = λ user role m found holds. absurd (cc);
+    overwritten = λ channel role c found there. absurd (cc);
+    voices = λ user v found. absurd (cc);
+    presences = λ user there. absurd (cc);
+    parents = λ thread t found. absurd (cc);
+    joined = λ thread user t found there. absurd (cc);
+    apart = λ id there. refl;
+    places = All-nil _;
+  };
+}
 
 pub keeps : KeepsWell
 keeps g edit w = by_verdict g edit w (verdict g edit) refl

@@ -22,8 +22,13 @@ everyone guild perms = record { id = guild; name = codes "@everyone"; permission
 
 -- with @everyone as its role, and the owner, who is no bot, as its member
 abbrev pub guild_opened : Record → List ℕ → ℕ → List ℕ → ℕ → ℕ → Record
-guild_opened g name owner owner_name perms at = record g { opened = true; name = name; owner = owner;
-    roles = everyone g.id perms ∷ []; members = new_member owner owner_name false at ∷ [] }
+guild_opened g name owner owner_name perms at = record g {
+  opened = true;
+  name = name;
+  owner = owner;
+  roles = everyone g.id perms ∷ [];
+  members = new_member owner owner_name false at ∷ [];
+}
 
 -- guild_back
 abbrev pub guild_back_verdict : Record → Option Verdict

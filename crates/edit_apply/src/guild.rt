@@ -24,9 +24,13 @@ pub enum GuildEdit {
         at: Moment,
     },
     /// The guild has another name.
-    GuildRename { name: Text },
+    GuildRename {
+        name: Text,
+    },
     /// Another member is the owner.
-    GuildOwner { user: Snowflake },
+    GuildOwner {
+        user: Snowflake,
+    },
     /// An outage begins (Guild Resource, Unavailable Guild Object).
     GuildOutage,
     /// The outage ends.
@@ -105,7 +109,9 @@ pub fn check(guild: &Guild, edit: &GuildEdit) -> Result<(), Verdict>
 {
     match edit {
         GuildEdit::GuildOpen {
-            name, owner_name, ..
+            name,
+            owner_name,
+            ..
         } => check_open(guild, name, owner_name),
         GuildEdit::GuildRename { name } => check_rename(guild, name),
         GuildEdit::GuildOwner { user } => check_owner(guild, *user),

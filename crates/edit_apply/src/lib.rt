@@ -10,9 +10,8 @@ ghost use Rattle.role_member_edit.specs.RoleMember.{role_member_verdict};
 pub mod guild;
 
 pub use guild::GuildEdit;
-pub use role_member_edit::RoleMemberEdit;
-
 use guild_model::{Guild, Verdict};
+pub use role_member_edit::RoleMemberEdit;
 use std::alloc::{AllocError, Global};
 
 /// An edit of a guild.

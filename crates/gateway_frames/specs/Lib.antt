@@ -4,3 +4,4 @@ pub mod Read
 pub mod Written
 pub mod Out
 pub mod Candidate
+pub mod Fits

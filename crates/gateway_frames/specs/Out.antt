@@ -1,5 +1,5 @@
 -- What the gateway sends beside other dispatches (Gateway, Payload structure).
-use Rattle.std.specs.Prelude.{ℕ, Bool, codes}
+use Rattle.std.specs.Prelude.{ℕ, codes}
 use Rattle.serde_json.specs.Data.{Data, null, boolean, object, string, no_members, member}
 use Rattle.gateway_frames.specs.declared.out.Out.{Out}
 use Rattle.gateway_frames.specs.declared.out.Out.TheVariants.{Hello, Ack, Invalid, Reconnect, Resumed}

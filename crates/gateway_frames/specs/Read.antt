@@ -1,5 +1,5 @@
 -- What a client's text is (Gateway, Sending Events).
-use Rattle.std.specs.Prelude.{ℕ, List, length, ◌==◌, nat_lt, if◌then◌else◌, Option, unwrap_or, Result, Ok, Err, codes}
+use Rattle.std.specs.Prelude.{ℕ, List, length, ◌==◌, nat_lt, if◌then◌else◌, unwrap_or, Result, Ok, Err, codes}
 use Rattle.std.specs.Option.{ok_or}
 use Rattle.serde_json.specs.Data.{Data, null}
 use Rattle.serde_json.specs.Find.{get}

@@ -1,5 +1,5 @@
 -- Frames as a client writes them: keys in byte order, optional keys without a value left out.
-use Rattle.std.specs.Prelude.{◌≡◌, ◌≤◌, ℕ, List, [], ◌∷◌, length, map, Bool, Option, Some, None, option_map, codes, decimal}
+use Rattle.std.specs.Prelude.{◌≤◌, ℕ, List, [], ◌∷◌, length, map, Option, Some, None, option_map, codes, decimal}
 use Rattle.serde_json.specs.Data.{Data, null, boolean, number, unsigned, string, array, object, Members, no_members, member, put}
 use Rattle.serde_json.specs.View.{items_of}
 use Rattle.gateway_frames.specs.declared.frame.Frame.{Frame}

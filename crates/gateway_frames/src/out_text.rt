@@ -46,7 +46,8 @@ fn out_value(alloc: Global, out: Out) -> Result<Value, AllocError>
 }
 
 fn by_opcode(op: u64, body: &Value) -> Option<Out>
-    ensures { result ≡ by_opcode op (view body.now) }
+    ensures value { result ≡ by_opcode op (view body.now) }
+    ensures no_dispatch { IfSome result IsNoDispatch }
 {
     match op {
         7 => Some(Out::Reconnect),
@@ -62,7 +63,8 @@ fn by_opcode(op: u64, body: &Value) -> Option<Out>
 
 // Which payload the value can be, by its opcode and its one field.
 fn candidate(value: &Value) -> Option<Out>
-    ensures { result ≡ candidate (view value.now) }
+    ensures value { result ≡ candidate (view value.now) }
+    ensures no_dispatch { IfSome result IsNoDispatch }
 {
     let body = value.get("d")?;
     let op = value.get("op").and_then(Value::as_u64)?;

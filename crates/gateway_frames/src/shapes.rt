@@ -1,6 +1,7 @@
 //! The shape of `d` by opcode.
 
-ghost use Rattle.std.specs.Prelude.{◌≡◌, IfOk};
+ghost use Rattle.std.specs.Prelude.{◌≡◌, IfOk, nat_lt};
+ghost use Rattle.serde_json.specs.Events.{items_len};
 ghost use Rattle.serde_json.specs.View.{view, items_view};
 ghost use Rattle.gateway_frames.specs.Fault.{UnlessMemory};
 ghost use Rattle.gateway_frames.specs.Shape.{heartbeat_from, identify_from, status_from, presence_from, voice_from, resume_from, ids_from, one_id, users_from, query_from, find_from, nonce_from, ask_from};
@@ -127,13 +128,20 @@ fn one_id(alloc: Global, value: &Value) -> Result<Seq<Snowflake>, FrameFault>
     Ok(ids)
 }
 
+#[tactic(auto, using(crate::proofs::Lists::items_view_len))]
+fn too_many(list: &[Value]) -> bool
+    ensures { result ≡ nat_lt 100 (items_len (items_view list.now)) }
+{
+    list.len() > MAX_USERS
+}
+
 fn users_from(alloc: Global, value: &Value) -> Result<Seq<Snowflake>, FrameFault>
     ensures { UnlessMemory result (users_from (view value.now)) }
 {
     match value.as_array() {
         None => one_id(alloc, value),
         Some(list) => {
-            if list.len() > MAX_USERS {
+            if too_many(list.as_slice()) {
                 return Err(FrameFault::BadShape);
             }
             ids_from(alloc, list.as_slice())

@@ -3,7 +3,8 @@
 ghost use Rattle.std.specs.Prelude.{◌≡◌, IfOk, OnOk, option_map};
 ghost use Rattle.serde_json.specs.Data.{string};
 ghost use Rattle.serde_json.specs.View.{view, members_view};
-ghost use Rattle.gateway_frames.specs.Written.{put_given, id_data, nullable_count, ids_data, pair_data, identify_data, status_name, presence_data, voice_data, resume_data, limit_in, query_in, users_in, ask_data, payload_data, frame_data};
+ghost use Rattle.gateway_frames.specs.Fits.{IdFits, IdsFit, ChannelFits, VoiceFits, FindFits, AskFits, FrameFits};
+ghost use Rattle.gateway_frames.specs.Written.{put_given, id_data, nullable_id_data, nullable_count, ids_data, pair_data, identify_data, status_name, presence_data, voice_data, resume_data, limit_in, query_in, users_in, ask_data, payload_data, frame_data};
 
 use crate::{Ask, Find, Frame, Identify, Resume, Status, VoiceAsk};
 use collections::Text;
@@ -26,7 +27,8 @@ fn put_given(
 }
 
 fn id_value(alloc: Global, id: Snowflake) -> Result<Value, AllocError>
-    ensures { IfOk result (λ v. view v ≡ id_data id) }
+    ensures value { IfOk result (λ v. view v ≡ id_data id) }
+    ensures fits { OnOk result (IdFits id) }
 {
     Ok(Value::String(id.text(alloc)?))
 }
@@ -38,7 +40,8 @@ fn text_value(alloc: Global, text: &str) -> Result<Value, AllocError>
 }
 
 fn ids_value(alloc: Global, ids: &[Snowflake]) -> Result<Value, AllocError>
-    ensures { IfOk result (λ v. view v ≡ ids_data ids.now) }
+    ensures value { IfOk result (λ v. view v ≡ ids_data ids.now) }
+    ensures fits { OnOk result (IdsFit ids.now) }
 {
     let mut list = Vec::new(alloc);
     for id in ids {
@@ -111,13 +114,21 @@ fn presence_value(alloc: Global, status: Status) -> Result<Value, AllocError>
     json!(in alloc; {"status": status_name(status)})
 }
 
-fn voice_value(alloc: Global, voice: &VoiceAsk) -> Result<Value, AllocError>
-    ensures { IfOk result (λ v. view v ≡ voice_data voice.now) }
+fn channel_value(alloc: Global, channel: Option<Snowflake>) -> Result<Value, AllocError>
+    ensures value { IfOk result (λ v. view v ≡ nullable_id_data channel) }
+    ensures fits { OnOk result (ChannelFits channel) }
 {
-    let channel = match voice.channel {
-        None => Value::Null,
-        Some(id) => id_value(alloc, id)?,
-    };
+    match channel {
+        None => Ok(Value::Null),
+        Some(id) => id_value(alloc, id),
+    }
+}
+
+fn voice_value(alloc: Global, voice: &VoiceAsk) -> Result<Value, AllocError>
+    ensures value { IfOk result (λ v. view v ≡ voice_data voice.now) }
+    ensures fits { OnOk result (VoiceFits voice.now) }
+{
+    let channel = channel_value(alloc, voice.channel)?;
     let guild = id_value(alloc, voice.guild)?;
     json!(in alloc; {
         "channel_id": channel,
@@ -159,7 +170,8 @@ fn query_value(alloc: Global, find: &Find) -> Result<Option<Value>, AllocError>
 }
 
 fn users_value(alloc: Global, find: &Find) -> Result<Option<Value>, AllocError>
-    ensures { IfOk result (λ o. option_map view o ≡ users_in find.now) }
+    ensures value { IfOk result (λ o. option_map view o ≡ users_in find.now) }
+    ensures fits { OnOk result (FindFits find.now) }
 {
     match find {
         Find::Query { .. } => Ok(None),
@@ -177,7 +189,8 @@ fn nonce_value(alloc: Global, nonce: &Option<Text>) -> Result<Option<Value>, All
 }
 
 fn ask_value(alloc: Global, ask: &Ask) -> Result<Value, AllocError>
-    ensures { IfOk result (λ v. view v ≡ ask_data ask.now) }
+    ensures value { IfOk result (λ v. view v ≡ ask_data ask.now) }
+    ensures fits { OnOk result (AskFits ask.now) }
 {
     let guild = id_value(alloc, ask.guild)?;
     let nonce = nonce_value(alloc, &ask.nonce)?;
@@ -214,7 +227,8 @@ fn number_value(number: Option<u64>) -> Value
 }
 
 pub fn frame_value(alloc: Global, frame: &Frame) -> Result<Value, AllocError>
-    ensures { IfOk result (λ v. view v ≡ frame_data frame.now) }
+    ensures value { IfOk result (λ v. view v ≡ frame_data frame.now) }
+    ensures fits { OnOk result (FrameFits frame.now) }
 {
     match frame {
         Frame::Heartbeat(number) => payload_value(alloc, 1, number_value(*number)),

@@ -53,5 +53,17 @@ presence_id p = p.user
 
 -- the record of a guild to which nothing has happened
 abbrev pub closed : ℕ → Record
-closed id = record { id = id; opened = false; outage = false; name = []; owner = 0;
-    roles = []; members = []; channels = []; threads = []; voices = []; presences = []; messages = [] }
+closed id = record {
+  id = id;
+  opened = false;
+  outage = false;
+  name = [];
+  owner = 0;
+  roles = [];
+  members = [];
+  channels = [];
+  threads = [];
+  voices = [];
+  presences = [];
+  messages = [];
+}

@@ -16,6 +16,13 @@ pub enum ChannelKind {
     Forum,
 }
 
+/// Whom an overwrite is of; as a number, 0 and 1 (Channels Resource, Overwrite Object).
+#[derive(Clone, Copy, PartialEq, Eq, Debug)]
+pub enum OverwriteKind {
+    Role,
+    Member,
+}
+
 /// What a channel allows and denies to a role or a member (Channels Resource, Overwrite Object).
 #[derive(Clone, Copy, PartialEq, Eq, Debug)]
 pub struct Overwrite {

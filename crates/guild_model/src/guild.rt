@@ -37,11 +37,35 @@ impl Model for Guild {
 
     ghost Value = { Record };
 
-    ghost view = { λ g. record { id = g.id; opened = g.opened; outage = g.outage; name = g.name; owner = g.owner;
-        roles = g.roles; members = g.members; channels = g.channels; threads = g.threads; voices = g.voices; presences = g.presences; messages = g.messages } };
+    ghost view = { λ g. record {
+      id = g.id;
+      opened = g.opened;
+      outage = g.outage;
+      name = g.name;
+      owner = g.owner;
+      roles = g.roles;
+      members = g.members;
+      channels = g.channels;
+      threads = g.threads;
+      voices = g.voices;
+      presences = g.presences;
+      messages = g.messages;
+    } };
 
-    ghost invariant = { λ g. IsConsistent (record { id = g.id; opened = g.opened; outage = g.outage; name = g.name; owner = g.owner;
-        roles = g.roles; members = g.members; channels = g.channels; threads = g.threads; voices = g.voices; presences = g.presences; messages = g.messages }) };
+    ghost invariant = { λ g. IsConsistent (record {
+      id = g.id;
+      opened = g.opened;
+      outage = g.outage;
+      name = g.name;
+      owner = g.owner;
+      roles = g.roles;
+      members = g.members;
+      channels = g.channels;
+      threads = g.threads;
+      voices = g.voices;
+      presences = g.presences;
+      messages = g.messages;
+    }) };
 }
 
 impl Guild {

@@ -17,7 +17,7 @@ pub mod user;
 pub mod verdict;
 pub mod voice;
 
-pub use channel::{Channel, ChannelKind, Overwrite, Overwrites};
+pub use channel::{Channel, ChannelKind, Overwrite, OverwriteKind, Overwrites};
 pub use guild::Guild;
 pub use member::Member;
 pub use message::{MessageHead, MessageHeads};

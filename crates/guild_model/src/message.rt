@@ -1,5 +1,7 @@
 ghost use Rattle.std.specs.Prelude.{◌≡◌, [], IfOk};
 ghost use Rattle.std.specs.Option.{option_copied};
+ghost use Rattle.std.specs.Fn.{CalledAt};
+ghost use Rattle.std.specs.List.Retain.{IsFiltered};
 ghost use Rattle.guild_model.specs.Heads.{find_head};
 
 use crate::user::User;
@@ -53,6 +55,14 @@ impl MessageHeads {
         MessageHeads {
             heads: Vec::new(alloc),
         }
+    }
+
+    /// Keeps the messages at which a test is true.
+    pub fn retain<F: FnMut(&MessageHead) -> bool>(&mut self, keep: F)
+        requires { F.IsAlwaysCallable keep }
+        ensures { IsFiltered (CalledAt F.FnMut) keep self.old self.new }
+    {
+        self.heads.retain(keep);
     }
 
     /// The message of an id, and nothing exactly where there is none.

@@ -1,11 +1,12 @@
 -- The longest suffix within two limits.
-use Rattle.std.proofs.Common.{◌≡◌, ℕ, ◌+◌, ◌-◌, ◌<◌, ◌≤◌, Bool, true, false, List, [], ◌∷◌, ◌++◌, length, drop, refl, sym, ◌∙◌, arith, length-append, append_assoc, append-nil, suc, inl, inr, ◌⊎◌}
+use Rattle.std.proofs.Common.{◌≡◌, ℕ, ◌+◌, ◌-◌, ◌<◌, ◌≤◌, Bool, true, false, List, [], ◌∷◌, ◌++◌, length, drop, refl, sym, ap, ◌∙◌, arith, length-append, append_assoc, append-nil, suc, inl, inr, ◌⊎◌}
 use Rattle.std.specs.Prelude.{sum_by, slice_get, Some, if◌then◌else◌}
 use Rattle.std.proofs.lemmas.Bool.{cases_lt, false≢true}
 use Rattle.std.proofs.lemmas.Bool.Decides.{nat_tests}
+use Rattle.std.proofs.lemmas.List.{drop-drop}
 use Rattle.std.proofs.lemmas.List.Sums.{sum_by-append, sum_by-cons}
 use Rattle.circular_buffer.specs.Buffer.{keep_last}
-use Rattle.replay_ring.specs.Replay.{Replay, is_within, longest_suffix, IsLongestSuffix, fresh, pushed, pushed_all}
+use Rattle.replay_ring.specs.Replay.{is_within, longest_suffix, IsLongestSuffix, fresh, pushed, pushed_all, replay_of, texts_after}
 
 -- one more text at the end takes one place and its bytes
 is_within-push : (i b : ℕ) (t : List ℕ) (xs : List (List ℕ)) → 0 < i → length t ≤ b → is_within i b (xs ++ t ∷ []) ≡ is_within (i - 1) (b - length t) xs
@@ -121,21 +122,29 @@ longest_suffix-is_longest i b [] = record {
 longest_suffix-is_longest i b (x ∷ xs) =
     longest_either i b x xs (is_within i b (x ∷ xs)) refl (longest_suffix-is_longest i b xs)
 
-held-pushed_from : (i b : ℕ) (before texts : List (List ℕ)) (r : Replay) → r.items ≡ i → r.bytes ≡ b → r.held ≡ longest_suffix i b before → (pushed_all r texts).held ≡ longest_suffix i b (before ++ texts)
-held-pushed_from i b before [] r items bytes held = rw append-nil held
-held-pushed_from i b before (t ∷ texts) r items bytes held =
-    rw (← append_assoc before (t ∷ []) texts)
-    (held-pushed_from i b (before ++ t ∷ []) texts (pushed r t) items bytes
-    (rw (items, bytes, held) (longest_suffix-again i b before (t ∷ []))))
+-- a push on what is kept of some texts
+pub pushed-replay_of : (i b : ℕ) (texts : List (List ℕ)) (t : List ℕ) → pushed (replay_of i b texts) t ≡ replay_of i b (texts ++ t ∷ [])
+pushed-replay_of i b texts t = rw (longest_suffix-again i b texts (t ∷ []), length-append texts (t ∷ [])) refl
+
+pushed_all-replay_of : (i b : ℕ) (before texts : List (List ℕ)) → pushed_all (replay_of i b before) texts ≡ replay_of i b (before ++ texts)
+pushed_all-replay_of i b before [] = rw append-nil refl
+pushed_all-replay_of i b before (t ∷ texts) =
+    rw (pushed-replay_of i b before t, pushed_all-replay_of i b (before ++ t ∷ []) texts, append_assoc before (t ∷ []) texts)
+    refl
 
 -- after any pushes on a new buffer
-pub held-pushed_all : (i b : ℕ) (texts : List (List ℕ)) → (pushed_all (fresh i b) texts).held ≡ longest_suffix i b texts
+pub pushed_all-fresh : (i b : ℕ) (texts : List (List ℕ)) → pushed_all (fresh i b) texts ≡ replay_of i b texts
 unfolding longest_suffix
-held-pushed_all i b texts = held-pushed_from i b [] texts (fresh i b) refl refl refl
+pushed_all-fresh i b texts = pushed_all-replay_of i b [] texts
 
-pub last-pushed_all : (r : Replay) (texts : List (List ℕ)) → (pushed_all r texts).last ≡ r.last + length texts
-last-pushed_all r [] = omega arith
-last-pushed_all r (t ∷ texts) = last-pushed_all (pushed r t) texts ∙ omega arith
+-- the texts after a number that is covered
+pub texts_after-replay_of : (i b : ℕ) (texts : List (List ℕ)) (q : ℕ) → length texts - length (longest_suffix i b texts) ≤ q → q ≤ length texts → texts_after (replay_of i b texts) q ≡ drop q texts
+texts_after-replay_of i b texts q held past =
+    let kept = longest_suffix i b texts in
+    let few : length kept ≤ length texts = length-longest_suffix i b texts in
+    let at : (length texts - length kept) + (length kept - (length texts - q)) ≡ q = omega arith in
+    ap (λ xs. drop (length kept - (length texts - q)) xs) (longest_suffix-is_longest i b texts).suffix
+    ∙ (drop-drop (length kept - (length texts - q)) (length texts - length kept) texts ∙ ap (λ k. drop k texts) at)
 
 -- what a push leaves: one place and the text's bytes are made free, and then it is appended
 is_within-few : (i b : ℕ) (xs : List (List ℕ)) → is_within i b xs ≡ true → length xs ≤ i

@@ -52,6 +52,11 @@ pushed r text = record r { last = r.last + 1; held = longest_suffix r.items r.by
 abbrev pub pushed_all : Replay → List (List ℕ) → Replay
 pushed_all r texts = fold pushed r texts
 
+-- what is kept of all the texts that were sent, of which the first has the number 1
+abbrev pub replay_of : ℕ → ℕ → List (List ℕ) → Replay
+replay_of items bytes texts =
+    record { last = length texts; held = longest_suffix items bytes texts; items = items; bytes = bytes }
+
 -- the texts with numbers above q
 abbrev pub texts_after : Replay → ℕ → List (List ℕ)
 texts_after r q = drop (length r.held - (r.last - q)) r.held

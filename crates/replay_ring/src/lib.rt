@@ -8,5 +8,5 @@ mod ring;
 mod tests;
 
 pub use after::After;
-pub use laws::{held_is_longest_suffix, last_counts_pushes};
+pub use laws::{after_gives_all_later_texts, pushes_keep_the_longest_suffix};
 pub use ring::Ring;

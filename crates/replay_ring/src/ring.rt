@@ -47,7 +47,8 @@ impl Ring {
     }
 
     /// Gives the text the next number, and drops from the front what is past a limit. A text of
-    /// more bytes than the limit leaves nothing. It takes no memory.
+    /// more bytes than the limit leaves nothing. It takes no memory, and its time goes into this
+    /// text and those that it drops alone.
     pub fn push(&mut self, text: String)
         requires { self.old.last < 2 ^ 64 - 1 }
         ensures { self.new ≡ pushed self.old (string_bytes text) }

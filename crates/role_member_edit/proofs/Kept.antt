@@ -50,7 +50,7 @@ a_role g user role e =
 pub given_as : (g : Record) (user role : ℕ) (roles : List ℕ) → roles ≡ held_with g user role → with_member_changed g user (with_roles roles) ≡ member_role_added g user role
 given_as g user role roles e =
     let same : changed_id member_id user (with_roles roles) g.members ≡ changed_id member_id user (with_role role) g.members =
-        changed_alike member_id user _ _ g.members (λ m found. rw (e, found) refl) in
+    changed_alike member_id user _ _ g.members (λ m found. rw (e, found) refl) in
     ap (λ ms. record g { members = ms }) same
 
 module _ (g : Record) (is_open : g.opened ≡ true) (h : IsConsistent g) where
@@ -161,7 +161,8 @@ module _ (g : Record) (is_open : g.opened ≡ true) (h : IsConsistent g) where
         joined = λ thread user t found there. members user ∙ h.joined thread user t found there;
         apart = λ id there. h.apart id (sym (channels id) ∙ there);
         places = All-weaker (λ (m : MessageHead). is_place g m.place ≡ true) (λ (m : MessageHead). is_place (role_deleted g role) m.place ≡ true)
-            (λ m there. ap (λ b. b || has_id thread_id m.place g.threads) (channels m.place) ∙ there) g.messages h.places }
+            (λ m there. ap (λ b. b || has_id thread_id m.place g.threads) (channels m.place) ∙ there) g.messages h.places;
+      }
 
   -- a member goes
   still_member : (user other : ℕ) → (user == other) ≡ false → has_id member_id other g.members ≡ true → has_id member_id other (without_id member_id user g.members) ≡ true
@@ -182,7 +183,7 @@ module _ (g : Record) (is_open : g.opened ≡ true) (h : IsConsistent g) where
       let ne : (user == g.owner) ≡ false = remove_other g user accepted in
       let threads : (id : ℕ) → has_id thread_id id (map (without_user user) g.threads) ≡ has_id thread_id id g.threads = λ id. has-map thread_id (without_user user) (λ t. refl) id g.threads in
       let thread_was : (thread : ℕ) (t : Thread) → find_id thread_id thread (map (without_user user) g.threads) ≡ Some t → (x : Thread) × ((find_id thread_id thread g.threads ≡ Some x) × (t ≡ without_user user x)) =
-          λ thread t found. found-map (without_user user) (find_id thread_id thread g.threads) t (sym (find-map thread_id thread_id (without_user user) (λ t. refl) thread g.threads) ∙ found) in
+      λ thread t found. found-map (without_user user) (find_id thread_id thread g.threads) t (sym (find-map thread_id thread_id (without_user user) (λ t. refl) thread g.threads) ∙ found) in
       record {
         empty = λ closed. absurd (cc (is_open, closed));
         everyone = h.everyone;
@@ -206,4 +207,5 @@ module _ (g : Record) (is_open : g.opened ≡ true) (h : IsConsistent g) where
             joined_left user other t was.0 was.1.1 (h.joined thread other was.0 was.1.0) there;
         apart = λ id there. threads id ∙ h.apart id there;
         places = All-weaker (λ (m : MessageHead). is_place g m.place ≡ true) (λ (m : MessageHead). is_place (member_removed g user) m.place ≡ true)
-            (λ m there. ap (λ b. has_id channel_id m.place g.channels || b) (threads m.place) ∙ there) g.messages h.places }
+            (λ m there. ap (λ b. has_id channel_id m.place g.channels || b) (threads m.place) ∙ there) g.messages h.places;
+      }

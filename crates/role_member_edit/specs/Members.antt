@@ -29,8 +29,12 @@ abbrev pub without_user : ℕ → Thread → Thread
 without_user user t = record t { members = without_id thread_member_id user t.members }
 
 abbrev pub member_removed : Record → ℕ → Record
-member_removed g user = record g { members = without_id member_id user g.members; threads = map (without_user user) g.threads;
-    voices = without_id voice_id user g.voices; presences = without_id presence_id user g.presences }
+member_removed g user = record g {
+  members = without_id member_id user g.members;
+  threads = map (without_user user) g.threads;
+  voices = without_id voice_id user g.voices;
+  presences = without_id presence_id user g.presences;
+}
 
 abbrev pub with_member_changed : Record → ℕ → (Member → Member) → Record
 with_member_changed g user change = record g { members = changed_id member_id user change g.members }

@@ -37,5 +37,8 @@ abbrev pub role_delete_verdict : Record → ℕ → Option Verdict
 role_delete_verdict g role = first_of (everyone_role g role ∷ unknown_role g role ∷ [])
 
 abbrev pub role_deleted : Record → ℕ → Record
-role_deleted g role = record g { roles = without_id role_id role g.roles;
-    members = map (without_role role) g.members; channels = map (without_role_overwrite role) g.channels }
+role_deleted g role = record g {
+  roles = without_id role_id role g.roles;
+  members = map (without_role role) g.members;
+  channels = map (without_role_overwrite role) g.channels;
+}

@@ -40,7 +40,9 @@ pub enum RoleMemberEdit {
         position: u32,
     },
     /// A role goes, also from members and overwrites.
-    RoleDelete { role: Snowflake },
+    RoleDelete {
+        role: Snowflake,
+    },
     /// A user becomes a member, without roles.
     MemberAdd {
         user: Snowflake,
@@ -49,18 +51,29 @@ pub enum RoleMemberEdit {
         at: Moment,
     },
     /// A user is a member no longer.
-    MemberRemove { user: Snowflake },
+    MemberRemove {
+        user: Snowflake,
+    },
     /// A member has another nickname, or none.
-    MemberNick { user: Snowflake, nick: Option<Text> },
+    MemberNick {
+        user: Snowflake,
+        nick: Option<Text>,
+    },
     /// A member's timeout has another end, or there is none.
     MemberTimeout {
         user: Snowflake,
         until: Option<Moment>,
     },
     /// A member is given a role.
-    MemberRoleAdd { user: Snowflake, role: Snowflake },
+    MemberRoleAdd {
+        user: Snowflake,
+        role: Snowflake,
+    },
     /// A role is taken from a member.
-    MemberRoleRemove { user: Snowflake, role: Snowflake },
+    MemberRoleRemove {
+        user: Snowflake,
+        role: Snowflake,
+    },
 }
 
 /// Why an edit of an open guild is refused: the first of its tests that fails. Takes no memory.

@@ -1,4 +1,4 @@
 use Rattle.step_count.proofs.tests.counts.Given as goal
 
-abbrev pub ghosts-ticked : goal.ghosts-ticked
-ghosts-ticked a = record { name = a.blank.name; parts = a.blank.parts }
+abbrev pub ghosts-tick_twice : goal.ghosts-tick_twice
+ghosts-tick_twice a = record { name = a.blank.name; parts = a.blank.parts }

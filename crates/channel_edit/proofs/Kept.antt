@@ -1,0 +1,277 @@
+-- A record in which the lists hold together stays so under each edit of channels.
+use Rattle.std.proofs.Common.{◌≡◌, ℕ, Bool, true, false, not, ◌&&◌, ◌||◌, List, [], ◌∷◌, map, Option, Some, None, if◌then◌else◌, refl, sym, ap, ◌∙◌, subst, arith, length}
+use Rattle.std.specs.Prelude.{◌==◌, slice_index_or, is_some, option_map, filter, All}
+use Rattle.std.proofs.lemmas.Bool.Decides.{nat_tests}
+use Rattle.std.proofs.lemmas.List.Elements.{All-weaker, All-filter, filter_passes}
+use Rattle.collections.specs.ById.{find_id, has_id, put_id, changed_id, without_id, keep_if, IsById}
+use Rattle.collections.proofs.Finds.{find-put, find-changed, find-without, find-map, find-filter}
+use Rattle.collections.proofs.Has.{has-put, has-kept, has-without, has-changed, has-map, changed_alike}
+use Rattle.guild_model.specs.declared.channel.Channel.{Channel}
+use Rattle.guild_model.specs.declared.channel.ChannelKind.{ChannelKind}
+use Rattle.guild_model.specs.declared.channel.Overwrite.{Overwrite}
+use Rattle.guild_model.specs.declared.channel.Overwrites.{Overwrites}
+use Rattle.guild_model.specs.declared.channel.OverwriteKind.{OverwriteKind}
+use Rattle.guild_model.specs.declared.channel.OverwriteKind.TheVariants.{Role, Member}
+use Rattle.guild_model.specs.declared.thread.Thread.{Thread}
+use Rattle.guild_model.specs.declared.voice.Voice.{Voice}
+use Rattle.guild_model.specs.declared.message.MessageHead.{MessageHead}
+use Rattle.guild_model.specs.declared.verdict.Verdict.TheVariants.{IdTaken, UnknownRole}
+use Rattle.guild_model.specs.Record.{Record, role_id, overwrite_id, channel_id, thread_id, voice_id}
+use Rattle.guild_model.specs.Consistent.{IsConsistent, has_threads, is_parent, is_place}
+use Rattle.guild_model.specs.Tests.{refused_if, first_of, too_long, too_many, unknown_channel}
+use Rattle.guild_model.proofs.Tests.{first_passes, not_refused}
+use Rattle.guild_model.proofs.Kept.{channels_changed}
+use Rattle.channel_edit.specs.Channels.{unknown_parent, wrong_parent, first_overwrites, overwrites_there, new_channel, channel_create_verdict, channel_created, with_settings, with_channel_changed, channel_updated}
+use Rattle.channel_edit.specs.ChannelEnd.{orphaned, is_outside, speaks_outside, is_in_channel, is_within, stands_outside, channel_deleted}
+use Rattle.channel_edit.specs.OverwriteEdits.{unknown_target, without_room, overwrite_set_verdict, put_overwrite, with_overwrite, overwrite_was_set, drop_overwrite, without_overwrite, overwrite_deleted, overwrites_with, with_overwrites}
+
+-- what the tests let through
+place_free : (g : Record) (channel : ℕ) (kind : ChannelKind) (name : List ℕ) (parent : Option ℕ) → channel_create_verdict g channel kind name parent ≡ None → is_place g channel ≡ false
+place_free g channel kind name parent e =
+    not_refused (is_place g channel) IdTaken
+    (first_passes (refused_if (is_place g channel) IdTaken) (unknown_parent g parent ∷ wrong_parent g kind parent ∷ too_many 500 (length g.channels) ∷ too_long 100 name ∷ []) e).0
+
+target_there : (g : Record) (channel id : ℕ) (kind : OverwriteKind) → overwrite_set_verdict g channel id kind ≡ None → unknown_target g id kind ≡ None
+target_there g channel id kind e =
+    let room = without_room (find_id channel_id channel g.channels) id kind in
+    (first_passes (unknown_target g id kind) (room ∷ []) (first_passes (unknown_channel g channel) (unknown_target g id kind ∷ room ∷ []) e).1).0
+
+-- a channel is given the overwrites that it has and one more
+pub set_as : (g : Record) (channel : ℕ) (kind : OverwriteKind) (o : Overwrite) (os : Overwrites) → os ≡ overwrites_with g channel kind o
+    → with_channel_changed g channel (with_overwrites os) ≡ overwrite_was_set g channel o.id kind o.allow o.deny
+set_as g channel kind o os e =
+    let same : changed_id channel_id channel (with_overwrites os) g.channels ≡ changed_id channel_id channel (with_overwrite kind o) g.channels =
+    changed_alike channel_id channel _ _ g.channels (λ c found. rw (e, found) refl) in
+    ap (λ cs. record g { channels = cs }) same
+
+-- the parts of an answer
+neither : (b c : Bool) → (b || c) ≡ false → (b ≡ false) × (c ≡ false)
+neither true c e = absurd (cc)
+neither false c e = (refl, e)
+
+found-map : {T : Type 0} (f : T → T) (o : Option T) (y : T) → option_map f o ≡ Some y → (x : T) × ((o ≡ Some x) × (y ≡ f x))
+found-map f None y e = absurd (cc)
+found-map f (Some x) y e = (x, (refl, cc))
+
+found_left : {T : Type 0} (b : Bool) (o : Option T) (x : T) → (if b then None else o) ≡ Some x → (b ≡ false) × (o ≡ Some x)
+found_left true o x e = absurd (cc)
+found_left false o x e = (refl, e)
+
+keep_parts : {T : Type 0} (p : T → Bool) (o : Option T) (x : T) → keep_if p o ≡ Some x → (o ≡ Some x) × (p x ≡ true)
+keep_parts p None x e = absurd (cc)
+keep_parts p (Some y) x e = by_test (p y) refl e
+  where
+    by_test : (b : Bool) → p y ≡ b → (if b then Some y else None) ≡ Some x → (Some y ≡ Some x) × (p x ≡ true)
+    by_test true is e = let same : y ≡ x = cc in (e, subst (λ z. p z ≡ true) same is)
+    by_test false is e = absurd (cc)
+
+keep_none : {T : Type 0} (p : T → Bool) (o : Option T) → is_some o ≡ false → is_some (keep_if p o) ≡ false
+keep_none p None e = refl
+keep_none p (Some x) e = absurd (cc)
+
+two_sides : (a b : ℕ) → not (a == b) ≡ true → (b == a) ≡ false
+two_sides a b e = grind (arith, nat_tests)
+
+module _ (g : Record) (is_open : g.opened ≡ true) (h : IsConsistent g) where
+  abbrev Covered : Overwrites → Type 0
+  Covered os = (role : ℕ) → has_id overwrite_id role os.roles ≡ true → has_id role_id role g.roles ≡ true
+
+  -- a channel is another in its place, of the same type
+  found_changed : (b : Bool) (f : Channel → Channel) (c : Channel) (o : Option Channel) → ((c : Channel) → Covered c.overwrites → Covered (f c).overwrites) → ((c : Channel) → o ≡ Some c → Covered c.overwrites) → (if b then option_map f o else o) ≡ Some c → Covered c.overwrites
+  found_changed true f c None keeps old e = absurd (cc)
+  found_changed true f c (Some x) keeps old e = let same : f x ≡ c = cc in subst (λ (c : Channel). Covered c.overwrites) same (keeps x (old x refl))
+  found_changed false f c o keeps old e = old c e
+
+  same_kind : (b : Bool) (f : Channel → Channel) (o : Option Channel) → ((c : Channel) → (f c).kind ≡ c.kind) → is_parent (if b then option_map f o else o) ≡ is_parent o
+  same_kind true f None kinds = refl
+  same_kind true f (Some c) kinds = ap has_threads (kinds c)
+  same_kind false f o kinds = refl
+
+  pub channel_changed : (at : ℕ) (f : Channel → Channel) → ((c : Channel) → channel_id (f c) ≡ channel_id c) → ((c : Channel) → (f c).kind ≡ c.kind) → ((c : Channel) → Covered c.overwrites → Covered (f c).overwrites) → IsConsistent (with_channel_changed g at f)
+  channel_changed at f same kinds keeps =
+      channels_changed g is_open h _
+      (λ id. has-changed channel_id at f same id g.channels)
+      (λ id. ap is_parent (find-changed channel_id at f same id g.channels) ∙ same_kind (at == id) f (find_id channel_id id g.channels) kinds)
+      (λ channel role c found there.
+      found_changed (at == channel) f c (find_id channel_id channel g.channels) keeps (λ c e role. h.overwritten channel role c e) (sym (find-changed channel_id at f same channel g.channels) ∙ found) role there)
+
+  pub updated : (channel : ℕ) (name : List ℕ) (parent : Option ℕ) (position : ℕ) → IsConsistent (channel_updated g channel name parent position)
+  updated channel name parent position = channel_changed channel (with_settings name parent position) (λ c. refl) (λ c. refl) (λ c old. old)
+
+  covered_set : (o : Overwrite) (kind : OverwriteKind) → unknown_target g o.id kind ≡ None → (os : Overwrites) → Covered os → Covered (put_overwrite kind o os)
+  covered_set o Member e os old role there = old role there
+  covered_set o Role e os old role there =
+      let is : has_id role_id o.id g.roles ≡ true = is_true (has_id role_id o.id g.roles) (not_refused (not (has_id role_id o.id g.roles)) UnknownRole e) in
+      by_test (overwrite_id o == role) refl (sym (has-put overwrite_id o role os.roles) ∙ there) is
+    where
+      is_true : (b : Bool) → not b ≡ false → b ≡ true
+      is_true true e = refl
+      is_true false e = absurd (cc)
+
+      by_test : (b : Bool) → (o.id == role) ≡ b → (b || has_id overwrite_id role os.roles) ≡ true → has_id role_id o.id g.roles ≡ true → has_id role_id role g.roles ≡ true
+      by_test true is_same either is = let same : o.id ≡ role = grind (arith, nat_tests) in subst (λ (r : ℕ). has_id role_id r g.roles ≡ true) same is
+      by_test false is_other either is = old role either
+
+  pub overwrite_set : (channel : ℕ) (kind : OverwriteKind) (o : Overwrite) → overwrite_set_verdict g channel o.id kind ≡ None → IsConsistent (overwrite_was_set g channel o.id kind o.allow o.deny)
+  overwrite_set channel kind o accepted =
+      channel_changed channel (with_overwrite kind o) (λ c. refl) (λ c. refl)
+      (λ c old. covered_set o kind (target_there g channel o.id kind accepted) c.overwrites old)
+
+  covered_left : (id : ℕ) (kind : OverwriteKind) (os : Overwrites) → Covered os → Covered (drop_overwrite kind id os)
+  covered_left id Member os old role there = old role there
+  covered_left id Role os old role there = old role (both (id == role) (has_id overwrite_id role os.roles) (sym (has-without overwrite_id id role os.roles) ∙ there))
+    where
+      both : (b c : Bool) → (not b && c) ≡ true → c ≡ true
+      both true c e = absurd (cc)
+      both false c e = e
+
+  pub overwrite_gone : (channel id : ℕ) (kind : OverwriteKind) → IsConsistent (overwrite_deleted g channel id kind)
+  overwrite_gone channel id kind = channel_changed channel (without_overwrite kind id) (λ c. refl) (λ c. refl) (λ c old. covered_left id kind c.overwrites old)
+
+  -- a channel comes
+  covered_there : (o : Option Channel) → ((c : Channel) → o ≡ Some c → Covered c.overwrites) → Covered (overwrites_there o)
+  covered_there None old role there = absurd (cc)
+  covered_there (Some c) old role there = old c refl role there
+
+  covered_first : (parent : Option ℕ) (sync : Bool) → Covered (first_overwrites g parent sync)
+  covered_first None sync role there = absurd (cc)
+  covered_first (Some parent) false role there = absurd (cc)
+  covered_first (Some parent) true role there = covered_there (find_id channel_id parent g.channels) (λ c e role. h.overwritten parent role c e) role there
+
+  found_put : (b : Bool) (c n : Channel) (o : Option Channel) → Covered n.overwrites → (o ≡ Some c → Covered c.overwrites) → (if b then Some n else o) ≡ Some c → Covered c.overwrites
+  found_put true c n o new old e = let same : n ≡ c = cc in subst (λ (c : Channel). Covered c.overwrites) same new
+  found_put false c n o new old e = old e
+
+  is_there : (o : Option Channel) → is_parent o ≡ true → is_some o ≡ true
+  is_there None e = absurd (cc)
+  is_there (Some c) e = refl
+
+  other_parent : (b : Bool) (n : Channel) (o : Option Channel) → b ≡ false → is_parent o ≡ true → is_parent (if b then Some n else o) ≡ true
+  other_parent true n o e was = absurd (cc)
+  other_parent false n o e was = was
+
+  differs : (a b : ℕ) → has_id channel_id a g.channels ≡ false → has_id channel_id b g.channels ≡ true → (a == b) ≡ false
+  differs a b none some = by_test (a == b) refl
+    where
+      by_test : (t : Bool) → (a == b) ≡ t → t ≡ false
+      by_test false e = refl
+      by_test true e = let same : a ≡ b = grind (arith, nat_tests) in absurd (cc (none, some, same))
+
+  still_place : (n : Channel) (id : ℕ) → is_place g id ≡ true → (has_id channel_id id (put_id channel_id n g.channels) || has_id thread_id id g.threads) ≡ true
+  still_place n id there = grind (arith, has-put channel_id n id g.channels)
+
+  pub channel_came : (channel : ℕ) (kind : ChannelKind) (name : List ℕ) (parent : Option ℕ) (position : ℕ) (sync : Bool) → channel_create_verdict g channel kind name parent ≡ None → IsConsistent (channel_created g channel kind name parent position sync)
+  channel_came channel kind name parent position sync accepted =
+      let n : Channel = new_channel g channel kind name parent position sync in
+      let free = neither (has_id channel_id channel g.channels) (has_id thread_id channel g.threads) (place_free g channel kind name parent accepted) in
+      record {
+        empty = λ closed. absurd (cc (is_open, closed));
+        everyone = h.everyone;
+        owner = h.owner;
+        held = h.held;
+        overwritten = λ id role c found there.
+            found_put (channel == id) c n (find_id channel_id id g.channels) (covered_first parent sync) (λ e role. h.overwritten id role c e) (sym (find-put channel_id n id g.channels) ∙ found) role there;
+        voices = λ user v found. let old = h.voices user v found in (old.0, has-kept channel_id n v.channel g.channels old.1);
+        presences = h.presences;
+        parents = λ thread t found.
+            let was = h.parents thread t found in
+            let other = differs channel t.parent free.0 (is_there (find_id channel_id t.parent g.channels) was) in
+            ap is_parent (find-put channel_id n t.parent g.channels) ∙ other_parent (channel == t.parent) n (find_id channel_id t.parent g.channels) other was;
+        joined = h.joined;
+        apart = λ id there. apart_from channel id free.1 (sym (has-put channel_id n id g.channels) ∙ there);
+        places = All-weaker (λ (m : MessageHead). is_place g m.place ≡ true) (λ (m : MessageHead). is_place (channel_created g channel kind name parent position sync) m.place ≡ true)
+            (λ m there. still_place n m.place there) g.messages h.places;
+      }
+    where
+      apart_from : (channel id : ℕ) → has_id thread_id channel g.threads ≡ false → ((channel == id) || has_id channel_id id g.channels) ≡ true → has_id thread_id id g.threads ≡ false
+      apart_from channel id free there = by_test (channel == id) refl there
+        where
+          by_test : (b : Bool) → (channel == id) ≡ b → (b || has_id channel_id id g.channels) ≡ true → has_id thread_id id g.threads ≡ false
+          by_test true e either = let same : channel ≡ id = grind (arith, nat_tests) in subst (λ (x : ℕ). has_id thread_id x g.threads ≡ false) same free
+          by_test false e either = h.apart id either
+
+  -- a channel goes
+  module _ (threads_ascend : IsById thread_id g.threads) (voices_ascend : IsById voice_id g.voices) (channel : ℕ) where
+    abbrev left_channels : List Channel
+    left_channels = map (orphaned channel) (without_id channel_id channel g.channels)
+
+    has_left : (id : ℕ) → has_id channel_id id left_channels ≡ (not (channel == id) && has_id channel_id id g.channels)
+    has_left id = has-map channel_id (orphaned channel) (λ c. refl) id (without_id channel_id channel g.channels) ∙ has-without channel_id channel id g.channels
+
+    stays : (id : ℕ) → (channel == id) ≡ false → has_id channel_id id g.channels ≡ true → has_id channel_id id left_channels ≡ true
+    stays id other there = has_left id ∙ ap (λ b. not b && has_id channel_id id g.channels) other ∙ there
+
+    find_left : (id : ℕ) → find_id channel_id id left_channels ≡ option_map (orphaned channel) (if channel == id then None else find_id channel_id id g.channels)
+    find_left id = find-map channel_id channel_id (orphaned channel) (λ c. refl) id (without_id channel_id channel g.channels) ∙ ap (option_map (orphaned channel)) (find-without channel_id channel id g.channels)
+
+    parent_left : (b : Bool) (o : Option Channel) → b ≡ false → is_parent o ≡ true → is_parent (option_map (orphaned channel) (if b then None else o)) ≡ true
+    parent_left true o e was = absurd (cc)
+    parent_left false None e was = was
+    parent_left false (Some c) e was = was
+
+    thread_was : (thread : ℕ) (t : Thread) → find_id thread_id thread (filter (is_outside channel) g.threads) ≡ Some t → (find_id thread_id thread g.threads ≡ Some t) × (is_outside channel t ≡ true)
+    thread_was thread t found = keep_parts (is_outside channel) (find_id thread_id thread g.threads) t (sym (find-filter thread_id (is_outside channel) thread g.threads threads_ascend) ∙ found)
+
+    voice_was : (user : ℕ) (v : Voice) → find_id voice_id user (filter (speaks_outside channel) g.voices) ≡ Some v → (find_id voice_id user g.voices ≡ Some v) × (speaks_outside channel v ≡ true)
+    voice_was user v found = keep_parts (speaks_outside channel) (find_id voice_id user g.voices) v (sym (find-filter voice_id (speaks_outside channel) user g.voices voices_ascend) ∙ found)
+
+    kept_thread : (o : Option Thread) → is_in_channel channel o ≡ false → is_some o ≡ true → is_some (keep_if (is_outside channel) o) ≡ true
+    kept_thread None out there = there
+    kept_thread (Some t) out there = grind arith
+
+    outside_parts : (a b : Bool) → not (a || b) ≡ true → (a ≡ false) × (b ≡ false)
+    outside_parts true b e = absurd (cc)
+    outside_parts false true e = absurd (cc)
+    outside_parts false false e = (refl, refl)
+
+    same_test : (a b : ℕ) → (a == b) ≡ false → (b == a) ≡ false
+    same_test a b e = grind (arith, nat_tests)
+
+    or_left : (a b : Bool) → a ≡ true → (a || b) ≡ true
+    or_left a b e = ap (λ x. x || b) e
+
+    or_right : (a b : Bool) → b ≡ true → (a || b) ≡ true
+    or_right true b e = refl
+    or_right false b e = e
+
+    place_left : (m : MessageHead) → is_place g m.place ≡ true → stands_outside g.threads channel m ≡ true → is_place (channel_deleted g channel) m.place ≡ true
+    place_left m there out =
+        let parts = outside_parts (m.place == channel) (is_in_channel channel (find_id thread_id m.place g.threads)) out in
+        by_place (has_id channel_id m.place g.channels) refl there (same_test m.place channel parts.0) parts.1
+      where
+        by_place : (b : Bool) → has_id channel_id m.place g.channels ≡ b → (b || has_id thread_id m.place g.threads) ≡ true → (channel == m.place) ≡ false → is_in_channel channel (find_id thread_id m.place g.threads) ≡ false → is_place (channel_deleted g channel) m.place ≡ true
+        by_place true e either other out = or_left (has_id channel_id m.place left_channels) _ (stays m.place other e)
+        by_place false e either other out =
+            or_right (has_id channel_id m.place left_channels) _
+            (ap is_some (find-filter thread_id (is_outside channel) m.place g.threads threads_ascend) ∙ kept_thread (find_id thread_id m.place g.threads) out either)
+
+    pub channel_gone : IsConsistent (channel_deleted g channel)
+    channel_gone = record {
+      empty = λ closed. absurd (cc (is_open, closed));
+      everyone = h.everyone;
+      owner = h.owner;
+      held = h.held;
+      overwritten = λ id role c found there.
+          let was = found-map (orphaned channel) (if channel == id then None else find_id channel_id id g.channels) c (sym (find_left id) ∙ found) in
+          let old = found_left (channel == id) (find_id channel_id id g.channels) was.0 was.1.0 in
+          h.overwritten id role was.0 old.1 (sym (ap (λ (c : Channel). has_id overwrite_id role c.overwrites.roles) was.1.1) ∙ there);
+      voices = λ user v found.
+          let was = voice_was user v found in
+          let old = h.voices user v was.0 in
+          (old.0, stays v.channel (two_sides v.channel channel was.1) old.1);
+      presences = h.presences;
+      parents = λ thread t found.
+          let was = thread_was thread t found in
+          ap is_parent (find_left t.parent) ∙ parent_left (channel == t.parent) (find_id channel_id t.parent g.channels) (two_sides t.parent channel was.1) (h.parents thread t was.0);
+      joined = λ thread user t found there. h.joined thread user t (thread_was thread t found).0 there;
+      apart = λ id there.
+          let had = both (channel == id) (has_id channel_id id g.channels) (sym (has_left id) ∙ there) in
+          ap is_some (find-filter thread_id (is_outside channel) id g.threads threads_ascend) ∙ keep_none (is_outside channel) (find_id thread_id id g.threads) (h.apart id had);
+      places = λ k d lt.
+          place_left (slice_index_or (filter (stands_outside g.threads channel) g.messages) k d) (All-filter (stands_outside g.threads channel) (λ (m : MessageHead). is_place g m.place ≡ true) g.messages h.places k d lt)
+          (filter_passes (stands_outside g.threads channel) g.messages k d lt);
+    }
+      where
+        both : (b c : Bool) → (not b && c) ≡ true → c ≡ true
+        both true c e = absurd (cc)
+        both false c e = e

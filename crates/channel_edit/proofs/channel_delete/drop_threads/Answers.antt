@@ -1,0 +1,7 @@
+use Rattle.std.proofs.Common.{rules}
+use Rattle.std.proofs.lemmas.Fn.{filter_same}
+use Rattle.channel_edit.specs.ChannelEnd.{is_outside}
+use Rattle.channel_edit.proofs.channel_delete.drop_threads.Goals as goal
+
+pub returns-clause-outside : goal.returns-clause-outside
+returns-clause-outside c = filter_same _ (is_outside c.args.channel) _ (λ x b f' k. search rules) _ _ c.retain.ensures.filtered

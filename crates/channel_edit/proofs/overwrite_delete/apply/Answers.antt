@@ -1,0 +1,8 @@
+use Rattle.std.proofs.Common.{◌≡◌, true, ap, sym, subst, ◌∙◌}
+use Rattle.channel_edit.proofs.Kept.{overwrite_gone}
+use Rattle.channel_edit.proofs.overwrite_delete.apply.Goals as goal
+
+pub invariant_of-guild : goal.invariant_of-guild
+invariant_of-guild c =
+    let is_open : c.guild.inside.opened ≡ true = cc in
+    rw c.change.ensures (overwrite_gone _ is_open c.guild.invariant _ _ _)

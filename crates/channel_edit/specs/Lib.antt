@@ -1,0 +1,4 @@
+pub mod Channels
+pub mod ChannelEnd
+pub mod OverwriteEdits
+pub mod ChannelEdits

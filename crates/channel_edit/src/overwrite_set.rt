@@ -1,0 +1,133 @@
+//! `overwrite_set`: a channel's overwrite of a role or a member comes, or is another (Gateway Events,
+//! Channel Update).
+
+ghost use Rattle.std.specs.Prelude.{◌≡◌, None, true, refl, OnOk, OnErr, IfOk};
+ghost use Rattle.guild_model.specs.Tests.{outcome};
+ghost use Rattle.guild_model.specs.Record.{channel_id};
+ghost use Rattle.collections.specs.ById.{find_id};
+ghost use Rattle.channel_edit.specs.OverwriteEdits.{overwrite_set_verdict, overwrite_was_set, unknown_target, without_room, has_overwrite, put_overwrite, overwrites_with, with_overwrites};
+
+use collections::{Change, Duplicate};
+use guild_model::{Channel, Guild, Overwrite, OverwriteKind, Overwrites, Verdict, limits, rules};
+use snowflake_id::Snowflake;
+use std::alloc::{AllocError, Global};
+
+/// Whether there is an overwrite of this role or member.
+pub fn holds_overwrite(overwrites: &Overwrites, id: Snowflake, kind: OverwriteKind) -> bool
+    ensures { result ≡ has_overwrite overwrites.now id kind }
+{
+    match kind {
+        OverwriteKind::Role => overwrites.roles.contains(id.0),
+        OverwriteKind::Member => overwrites.members.contains(id.0),
+    }
+}
+
+fn knows_target(guild: &Guild, id: Snowflake, kind: OverwriteKind) -> Result<(), Verdict>
+    ensures { result ≡ outcome (unknown_target guild.now id kind) }
+{
+    match kind {
+        OverwriteKind::Role => rules::knows_role(guild, id),
+        OverwriteKind::Member => rules::knows_member(guild, id),
+    }
+}
+
+fn has_room(
+    guild: &Guild,
+    channel: Snowflake,
+    id: Snowflake,
+    kind: OverwriteKind,
+) -> Result<(), Verdict>
+    ensures { result ≡ outcome (without_room (find_id channel_id channel guild.now.channels) id kind) }
+{
+    let Some(channel) = guild.channels.get(channel.0) else {
+        return Ok(());
+    };
+    if holds_overwrite(&channel.overwrites, id, kind) {
+        return Ok(());
+    }
+    let roles = channel.overwrites.roles.len();
+    let count = roles.saturating_add(channel.overwrites.members.len());
+    rules::has_room(count, limits::OVERWRITES)
+}
+
+/// Refused in this order: `UnknownChannel`, `UnknownRole` or `UnknownMember` for whom the overwrite
+/// is of, `TooMany` where it is new.
+pub fn check(
+    guild: &Guild,
+    channel: Snowflake,
+    id: Snowflake,
+    kind: OverwriteKind,
+) -> Result<(), Verdict>
+    ensures { result ≡ outcome (overwrite_set_verdict guild.now channel id kind) }
+{
+    rules::knows_channel(guild, channel)?;
+    knows_target(guild, id, kind)?;
+    has_room(guild, channel, id, kind)
+}
+
+#[derive(Drop)]
+struct SetOverwrites {
+    overwrites: Overwrites,
+}
+
+impl Change<Channel> for SetOverwrites {
+    ghost changed = { λ change c. with_overwrites change.overwrites c };
+
+    fn change(self, channel: &mut Channel) {
+        channel.overwrites = self.overwrites;
+    }
+
+    ghost keeps_key = { λ change c. refl };
+}
+
+fn put(
+    overwrites: &mut Overwrites,
+    kind: OverwriteKind,
+    overwrite: Overwrite,
+) -> Result<(), AllocError>
+    ensures ok { OnOk result (overwrites.new ≡ put_overwrite kind overwrite overwrites.old) }
+    ensures err { OnErr result (overwrites.new ≡ overwrites.old) }
+{
+    match kind {
+        OverwriteKind::Role => overwrites.roles.put(overwrite),
+        OverwriteKind::Member => overwrites.members.put(overwrite),
+    }
+}
+
+// The overwrites of a channel with this one among them.
+fn changed_overwrites(
+    alloc: Global,
+    guild: &Guild,
+    channel: Snowflake,
+    kind: OverwriteKind,
+    overwrite: Overwrite,
+) -> Result<Overwrites, AllocError>
+    ensures { IfOk result (λ os. os ≡ overwrites_with guild.now channel kind overwrite) }
+{
+    let mut overwrites = match guild.channels.get(channel.0) {
+        Some(channel) => channel.overwrites.duplicate(alloc)?,
+        None => Overwrites::new(alloc),
+    };
+    put(&mut overwrites, kind, overwrite)?;
+    Ok(overwrites)
+}
+
+/// Sets the overwrite. Want of memory leaves the record as before.
+pub fn apply(
+    alloc: Global,
+    guild: &mut Guild,
+    channel: Snowflake,
+    kind: OverwriteKind,
+    overwrite: Overwrite,
+) -> Result<(), AllocError>
+    requires open { guild.old.opened ≡ true }
+    requires accepted { overwrite_set_verdict guild.old channel overwrite.id kind ≡ None }
+    ensures ok { OnOk result (guild.new ≡ overwrite_was_set guild.old channel overwrite.id kind overwrite.allow overwrite.deny) }
+    ensures err { OnErr result (guild.new ≡ guild.old) }
+{
+    let overwrites = changed_overwrites(alloc, guild, channel, kind, overwrite)?;
+    guild
+        .channels
+        .change(channel.0, SetOverwrites { overwrites });
+    Ok(())
+}

@@ -1,0 +1,3 @@
+pub mod Greets
+pub mod Keeps
+pub mod Others

@@ -1,0 +1,78 @@
+-- The laws of what an edit owes.
+use Rattle.std.proofs.Common.{◌≡◌, ℕ, Bool, true, false, List, [], ◌∷◌, Option, Some, None, if◌then◌else◌, refl, sym, ap, subst, ◌∙◌}
+use Rattle.std.specs.Prelude.{◌==◌, All}
+use Rattle.std.proofs.lemmas.List.Elements.{All-nil, All-cons}
+use Rattle.intent_set.specs.Asks.{asks}
+use Rattle.guild_model.specs.declared.member.Member.{Member}
+use Rattle.guild_model.specs.Record.{Record}
+use Rattle.dispatch_types.specs.declared.viewer.Viewer.{Viewer}
+use Rattle.dispatch_types.specs.declared.dispatch.Dispatch.{Dispatch}
+use Rattle.dispatch_types.specs.declared.dispatch.Dispatch.TheVariants.{GuildCreate, GuildUpdate, GuildDelete}
+use Rattle.dispatch_types.specs.Kinds.{kind_of}
+use Rattle.dispatch_types.specs.Serves.{served, serves}
+use Rattle.dispatch_types.proofs.Views.{purge-stays}
+use Rattle.dispatch_types.proofs.Folds.{guild_of, folded-elsewhere, fold-elsewhere}
+use Rattle.role_member_edit.specs.declared.RoleMemberEdit.TheVariants.{RoleCreate, RoleUpdate, RoleDelete, MemberAdd, MemberRemove, MemberNick, MemberTimeout, MemberRoleAdd, MemberRoleRemove}
+use Rattle.edit_apply.specs.declared.guild.GuildEdit.TheVariants.{GuildOpen, GuildRename, GuildOwner, GuildOutage, GuildBack}
+use Rattle.edit_apply.specs.declared.Edit.{Edit}
+use Rattle.edit_apply.specs.declared.Edit.TheVariants as edit
+use Rattle.edit_apply.specs.Edits.{applied, accepts}
+use Rattle.edit_events.specs.Greeting.{greeting}
+use Rattle.edit_events.specs.Due.{asked, row, due_between, due, owed}
+use Rattle.edit_events.specs.Law.{ProjectionStays, OthersStay, GreetingStays}
+use Rattle.edit_events.proofs.Greets.{greeting-id}
+
+pub projection_stays : ProjectionStays
+projection_stays s v h well agrees = purge-stays s v h agrees.view
+
+-- an edit leaves a guild its id
+id-kept : (s : Record) (e : Edit) → (applied s e).id ≡ s.id
+id-kept s (edit.Guild (GuildOpen name owner owner_name perms at)) = refl
+id-kept s (edit.Guild (GuildRename name)) = refl
+id-kept s (edit.Guild (GuildOwner user)) = refl
+id-kept s (edit.Guild GuildOutage) = refl
+id-kept s (edit.Guild GuildBack) = refl
+id-kept s (edit.RoleMember (RoleCreate role name perms position)) = refl
+id-kept s (edit.RoleMember (RoleUpdate role name perms position)) = refl
+id-kept s (edit.RoleMember (RoleDelete role)) = refl
+id-kept s (edit.RoleMember (MemberAdd user name bot at)) = refl
+id-kept s (edit.RoleMember (MemberRemove user)) = refl
+id-kept s (edit.RoleMember (MemberNick user nick)) = refl
+id-kept s (edit.RoleMember (MemberTimeout user until)) = refl
+id-kept s (edit.RoleMember (MemberRoleAdd user role)) = refl
+id-kept s (edit.RoleMember (MemberRoleRemove user role)) = refl
+
+-- each dispatch that is owed is of the guild
+abbrev pub IsOf : ℕ → Dispatch → Type 0
+IsOf guild d = guild_of d ≡ Some guild
+
+asked-of : (guild : ℕ) (v : Viewer) (own : Bool) (d : Dispatch) → IsOf guild d → All (IsOf guild) (asked v own d)
+asked-of guild v own d of = by_test (asks v.intents (kind_of d) own)
+  where
+    by_test : (b : Bool) → All (IsOf guild) (if b then d ∷ [] else [])
+    by_test true = All-cons (IsOf guild) d [] of (All-nil (IsOf guild))
+    by_test false = All-nil (IsOf guild)
+
+row-of : (after : Record) (v : Viewer) (e : Edit) → All (IsOf after.id) (row after v e)
+row-of after v (edit.Guild (GuildRename name)) = asked-of after.id v false (GuildUpdate after.id after.name after.owner) refl
+row-of after v _ = All-nil (IsOf after.id)
+
+due_between-of : (after : Record) (v : Viewer) (before : Bool) (me : Option Member) (e : Edit) → All (IsOf after.id) (due_between after v before me e)
+due_between-of after v false None e = All-nil (IsOf after.id)
+due_between-of after v false (Some me) e = asked-of after.id v false (GuildCreate (greeting after v me)) (ap (λ id. Some id) (greeting-id after v me))
+due_between-of after v true None e = asked-of after.id v false (GuildDelete after.id false) refl
+due_between-of after v true (Some me) e = row-of after v e
+
+owed-of : (s : Record) (e : Edit) (v : Viewer) → All (IsOf s.id) (owed s e v)
+unfolding owed
+owed-of s e v = by_verdict (accepts s e)
+  where
+    by_verdict : (b : Bool) → All (IsOf s.id) (if b then due s e v else [])
+    by_verdict true = subst (λ guild. All (IsOf guild) (due s e v)) (id-kept s e) (due_between-of (applied s e) v (serves v s) (served v (applied s e)) e)
+    by_verdict false = All-nil (IsOf s.id)
+
+pub others_stay : OthersStay
+others_stay s e v g h built other stays = fold-elsewhere v.intents g h s.id (owed s e v) (owed-of s e v) other stays
+
+pub greeting_stays : GreetingStays
+greeting_stays s v g h me other stays = folded-elsewhere v.intents g h s.id (GuildCreate (greeting s v me)) (ap (λ id. Some id) (greeting-id s v me)) other stays

@@ -1,0 +1,5 @@
+use Rattle.edit_events.proofs.Greets.{greeting_holds}
+use Rattle.edit_events.proofs.law.greeting_holds.Goals as goal
+
+pub returns : goal.returns
+returns c = greeting_holds

@@ -1,0 +1,59 @@
+-- A client that was told all that it is owed holds the projection.
+use Rattle.std.specs.Prelude.{◌≡◌, ℕ, List, Bool, true, false, not, ◌&&◌, ◌==◌, Option, Some}
+use Rattle.perm_bits.specs.Bits.{has_bit}
+use Rattle.intent_set.specs.Intents.{guilds, guild_members}
+use Rattle.guild_model.specs.declared.member.Member.{Member}
+use Rattle.guild_model.specs.Record.{Record}
+use Rattle.guild_model.specs.Ascending.{IsWell}
+use Rattle.dispatch_types.specs.declared.viewer.Viewer.{Viewer}
+use Rattle.dispatch_types.specs.declared.dispatch.Dispatch.{Dispatch}
+use Rattle.dispatch_types.specs.declared.dispatch.Dispatch.TheVariants.{GuildCreate}
+use Rattle.dispatch_types.specs.Serves.{served}
+use Rattle.dispatch_types.specs.Projection.{projection}
+use Rattle.dispatch_types.specs.Fold.{Held, purge, folded, fold_from}
+use Rattle.edit_apply.specs.declared.Edit.{Edit}
+use Rattle.edit_apply.specs.declared.Edit.TheVariants as edit
+use Rattle.edit_apply.specs.declared.GuildEdit.TheVariants.{GuildOpen, GuildRename}
+use Rattle.role_member_edit.specs.declared.RoleMemberEdit.TheVariants.{MemberAdd}
+use Rattle.edit_apply.specs.Edits.{after}
+use Rattle.edit_events.specs.Greeting.{greeting}
+use Rattle.edit_events.specs.Due.{owed}
+
+-- what a client holds of a guild is the projection of its record
+pub record Agrees (s : Record) (v : Viewer) (h : Held) : Type 0 where
+  pub bot : h.bot ≡ v.user
+  pub view : h.view ≡ projection s v h.known
+
+-- the edits whose events are built
+abbrev pub is_built : Edit → Bool
+is_built (edit.Guild (GuildOpen name owner owner_name perms at)) = true
+is_built (edit.Guild (GuildRename name)) = true
+is_built (edit.RoleMember (MemberAdd user name bot at)) = true
+is_built _ = false
+
+-- of other members' coming and going nothing is sent yet
+abbrev pub is_built_viewer : Viewer → Bool
+is_built_viewer v = not (has_bit v.intents guild_members)
+
+-- after what an edit owes, the client holds the projection of the record after it
+abbrev pub EditKeeps : Type 0
+EditKeeps = (s : Record) (e : Edit) (v : Viewer) (h : Held) → IsWell s → is_built e ≡ true → is_built_viewer v ≡ true
+    → Agrees s v h → Agrees (after s e) v (fold_from v.intents s.id h (owed s e v))
+
+-- a purge leaves a client that holds the projection as it is
+abbrev pub ProjectionStays : Type 0
+ProjectionStays = (s : Record) (v : Viewer) (h : Held) → IsWell s → Agrees s v h → purge v.intents s.id h ≡ h
+
+-- what is owed for an edit of another guild leaves a client that a purge leaves as it is
+abbrev pub OthersStay : Type 0
+OthersStay = (s : Record) (e : Edit) (v : Viewer) (g : ℕ) (h : Held) → is_built e ≡ true → (s.id == g) ≡ false
+    → purge v.intents g h ≡ h → fold_from v.intents g h (owed s e v) ≡ h
+
+-- GUILD_CREATE of a served guild that is available brings the projection, whatever was held
+abbrev pub GreetingHolds : Type 0
+GreetingHolds = (s : Record) (v : Viewer) (h : Held) (me : Member) → IsWell s → served v s ≡ Some me → s.outage ≡ false
+    → has_bit v.intents guilds ≡ true → h.bot ≡ v.user → Agrees s v (folded v.intents s.id h (GuildCreate (greeting s v me)))
+
+abbrev pub GreetingStays : Type 0
+GreetingStays = (s : Record) (v : Viewer) (g : ℕ) (h : Held) (me : Member) → (s.id == g) ≡ false
+    → purge v.intents g h ≡ h → folded v.intents g h (GuildCreate (greeting s v me)) ≡ h

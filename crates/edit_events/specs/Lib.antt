@@ -1,0 +1,4 @@
+pub mod Greeting
+pub mod Due
+pub mod Was
+pub mod Law

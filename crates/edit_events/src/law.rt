@@ -1,0 +1,26 @@
+ghost use Rattle.edit_events.specs.Law.{EditKeeps, ProjectionStays, OthersStay, GreetingHolds, GreetingStays};
+
+/// After what an edit owes, a client holds the projection of the record after it.
+pub fn edit_keeps()
+    ensures { EditKeeps }
+{}
+
+/// A purge leaves a client that holds the projection as it is.
+pub fn projection_stays()
+    ensures { ProjectionStays }
+{}
+
+/// Of another guild it holds what it held.
+pub fn others_stay()
+    ensures { OthersStay }
+{}
+
+/// GUILD_CREATE brings the projection, whatever was held.
+pub fn greeting_holds()
+    ensures { GreetingHolds }
+{}
+
+/// Of another guild it leaves what is held.
+pub fn greeting_stays()
+    ensures { GreetingStays }
+{}

@@ -1,0 +1,12 @@
+//! What an edit of a guild owes to a viewer, and what a client then holds.
+#![tactic(auto)]
+
+pub mod create;
+pub mod due;
+pub mod law;
+
+pub use create::greeting;
+pub use due::{Was, events, note};
+
+#[cfg(test)]
+mod tests;

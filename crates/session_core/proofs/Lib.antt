@@ -1,0 +1,6 @@
+pub mod Entries
+pub mod Changes
+pub mod Intents
+pub mod Sides
+pub mod Starts
+pub mod Places

@@ -1,0 +1,89 @@
+-- What a frame is answered: the first row that fits decides (Gateway, Opcodes and Status Codes).
+use Rattle.std.specs.Prelude.{◌≡◌, ℕ, ◌+◌, ◌-◌, ◌^◌, ◌==◌, List, [], ◌∷◌, Bool, true, false, Result, Ok, Err, if◌then◌else◌}
+use Rattle.dispatch_types.specs.declared.viewer.Viewer.{Viewer}
+use Rattle.gateway_frames.specs.declared.frame.Identify.{Identify as Asked}
+use Rattle.gateway_frames.specs.declared.frame.Frame.{Frame}
+use Rattle.gateway_frames.specs.declared.frame.Frame.TheVariants.{Heartbeat, Identify, Presence, Voice, Resume, Ask}
+use Rattle.gateway_frames.specs.declared.fault.FrameFault.{FrameFault}
+use Rattle.gateway_frames.specs.declared.fault.FrameFault.TheVariants.{TooLong, NotJson, BadShape, UnknownOp, Memory}
+use Rattle.gateway_frames.specs.declared.out.Out.TheVariants.{Ack}
+use Rattle.gateway_frames.specs.Read.{frame_of}
+use Rattle.session_core.specs.declared.bot.Bot.{Bot}
+use Rattle.session_core.specs.declared.fault.SessionFault.{SessionFault}
+use Rattle.session_core.specs.declared.fault.SessionFault.TheVariants as fault
+use Rattle.session_core.specs.declared.reply.Reply.{Reply}
+use Rattle.session_core.specs.declared.reply.Reply.TheVariants.{Send, Close, Begin}
+use Rattle.session_core.specs.State.{State, Place, Detached, has_link, has_session, gone, heard, begun}
+use Rattle.session_core.specs.Identify.{identified, viewer_of}
+
+-- what a frame does
+pub data Move : Type 0 where
+  Nothing : Move
+  Answers : Move
+  Shuts : (code : ℕ) → Move
+  Begins : (bot : Bot) (viewer : Viewer) → Move
+
+abbrev pub fault_code : FrameFault → ℕ
+fault_code TooLong = 4002
+fault_code NotJson = 4002
+fault_code BadShape = 4002
+fault_code UnknownOp = 4001
+fault_code Memory = 4002
+
+abbrev pub identify_move : Asked → Result Bot ℕ → Move
+identify_move i (Ok bot) = Begins bot (viewer_of bot i)
+identify_move i (Err code) = Shuts code
+
+-- on the connection of a session
+abbrev pub later_move : Frame → Move
+later_move (Heartbeat seq) = Answers
+later_move (Identify i) = Shuts 4005
+later_move (Resume r) = Shuts 4005
+later_move (Presence status) = Shuts 4001
+later_move (Voice ask) = Shuts 4001
+later_move (Ask ask) = Shuts 4001
+
+module _ {A : Type 0} where
+  -- on a connection that has no session yet
+  abbrev pub first_move : State A → Frame → Move
+  first_move s (Heartbeat seq) = Answers
+  first_move s (Identify i) = identify_move i (identified s i)
+  first_move s (Resume r) = Shuts 4001
+  first_move s (Presence status) = Shuts 4003
+  first_move s (Voice ask) = Shuts 4003
+  first_move s (Ask ask) = Shuts 4003
+
+  abbrev pub read_move : State A → Bool → Result Frame FrameFault → Move
+  read_move s has (Err fault) = Shuts (fault_code fault)
+  read_move s has (Ok f) = if has then later_move f else first_move s f
+
+  abbrev pub move_of : State A → ℕ → List ℕ → Move
+  move_of s conn text = if has_link conn s then read_move s (has_session conn s) (frame_of text) else Nothing
+
+  -- what becomes of the connections and sessions; `sent` is what a session of a number begins with
+  abbrev pub moved : ℕ → ℕ → (Bot → Viewer → ℕ → A) → Move → State A → State A
+  moved conn now sent Nothing s = s
+  moved conn now sent Answers s = heard conn now s
+  moved conn now sent (Shuts code) s = gone conn (Detached now) s
+  moved conn now sent (Begins bot viewer) s = begun conn bot viewer (sent bot viewer) s
+
+  abbrev pub move_replies : ℕ → Move → State A → List Reply
+  move_replies conn Nothing s = []
+  move_replies conn Answers s = Send conn Ack ∷ []
+  move_replies conn (Shuts code) s = Close conn code ∷ []
+  move_replies conn (Begins bot viewer) s = Begin (s.made + 1) ∷ []
+
+  abbrev pub is_spent : Move → State A → Bool
+  is_spent Nothing s = false
+  is_spent Answers s = false
+  is_spent (Shuts code) s = false
+  is_spent (Begins bot viewer) s = s.made == 2 ^ 32 - 1
+
+-- what a call leaves that makes a move, by what it returns
+abbrev pub Done : (conn now : ℕ) → Move → State ℕ → State ℕ → List Reply → Type 0
+Done conn now move old new replies =
+    (replies ≡ move_replies conn move old) × (new ≡ moved conn now (λ bot viewer n. 0) move old) × (is_spent move old ≡ false)
+
+abbrev pub Refused : Move → State ℕ → State ℕ → SessionFault → Type 0
+Refused move old new fault.Spent = (is_spent move old ≡ true) × (new ≡ old)
+Refused move old new fault.Memory = new ≡ old

@@ -1,0 +1,5 @@
+pub mod State
+pub mod Identify
+pub mod Frames
+pub mod Kept
+pub mod Pushes

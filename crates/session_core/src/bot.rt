@@ -1,0 +1,34 @@
+ghost use Rattle.std.specs.Prelude.{◌≡◌, IfOk};
+
+use collections::Text;
+use intent_set::Intents;
+use snowflake_id::Snowflake;
+use std::alloc::{AllocError, Global};
+
+/// A bot that may identify (Gateway Events, Identify).
+#[derive(Drop)]
+pub struct Bot {
+    /// The secret by which it identifies.
+    pub token: Text,
+    /// Its user.
+    pub user: Snowflake,
+    /// The name of its user.
+    pub name: Text,
+    /// The privileged intents that it may ask for.
+    pub privileged: Intents,
+}
+
+impl Bot {
+    pub(crate) fn copy(&self, alloc: Global) -> Result<Bot, AllocError>
+        ensures { IfOk result (λ copy. copy ≡ self.now) }
+    {
+        let token = self.token.copy(alloc)?;
+        let name = self.name.copy(alloc)?;
+        Ok(Bot {
+            token,
+            user: self.user,
+            name,
+            privileged: self.privileged,
+        })
+    }
+}

@@ -1,0 +1,133 @@
+//! What a frame is answered.
+
+ghost use Rattle.std.specs.Prelude.{◌≡◌, true, false, Err, MatchResult, IfOk, OnOk, OnErr};
+ghost use Rattle.session_core.specs.declared.fault.SessionFault.TheVariants.{Spent};
+ghost use Rattle.session_core.specs.State.{has_link, has_session};
+ghost use Rattle.session_core.specs.Frames.{Answers, Shuts, Begins, fault_code, later_move, first_move, move_of, moved, move_replies, is_spent, identify_move, Done, Refused};
+ghost use Rattle.session_core.specs.Identify.{identified};
+
+use crate::close::{ALREADY_AUTHENTICATED, DECODE_ERROR, NOT_AUTHENTICATED, UNKNOWN_OPCODE};
+use crate::sessions::{Sessions, one};
+use crate::{Bot, Reply, SessionFault};
+use dispatch_types::Viewer;
+use gateway_frames::{Frame, FrameFault, Identify, Out};
+
+/// The code by which a text is refused that is no frame.
+fn code_of(fault: FrameFault) -> u16
+    ensures { result ≡ fault_code fault }
+{
+    match fault {
+        FrameFault::UnknownOp => UNKNOWN_OPCODE,
+        _ => DECODE_ERROR,
+    }
+}
+
+impl Sessions {
+    fn answer(&mut self, conn: u32, now: u64) -> Result<Vec<Reply>, SessionFault>
+        ensures { MatchResult result (λ replies. Done conn now Answers self.old self.new replies.items) (Refused Answers self.old self.new) }
+    {
+        let replies = one(self.alloc(), Reply::Send(conn, Out::Ack))?;
+        self.hear(conn, now);
+        Ok(replies)
+    }
+
+    fn shut(&mut self, conn: u32, code: u16, now: u64) -> Result<Vec<Reply>, SessionFault>
+        ensures { MatchResult result (λ replies. Done conn now (Shuts code) self.old self.new replies.items) (Refused (Shuts code) self.old self.new) }
+    {
+        let replies = one(self.alloc(), Reply::Close(conn, code))?;
+        self.detach(conn, now);
+        Ok(replies)
+    }
+
+    fn begin(&mut self, conn: u32, bot: Bot, viewer: Viewer) -> Result<Vec<Reply>, SessionFault>
+        requires linked { has_link conn self.old ≡ true }
+        requires free { has_session conn self.old ≡ false }
+        ensures { MatchResult result (λ replies. Done conn 0 (Begins bot viewer) self.old self.new replies.items) (Refused (Begins bot viewer) self.old self.new) }
+    {
+        if self.made() == u32::MAX {
+            return Err(SessionFault::Spent);
+        }
+        let replies = one(self.alloc(), Reply::Begin(self.made() + 1))?;
+        self.add_session(conn, bot, viewer)?;
+        Ok(replies)
+    }
+
+    fn on_identify(
+        &mut self,
+        conn: u32,
+        identify: &Identify,
+        now: u64,
+    ) -> Result<Vec<Reply>, SessionFault>
+        requires linked { has_link conn self.old ≡ true }
+        requires free { has_session conn self.old ≡ false }
+        ensures { let move = identify_move identify.now (identified self.old identify.now) in
+            MatchResult result (λ replies. Done conn now move self.old self.new replies.items) (Refused move self.old self.new) }
+    {
+        match self.identify(identify)? {
+            Err(code) => self.shut(conn, code, now),
+            Ok((bot, viewer)) => self.begin(conn, bot, viewer),
+        }
+    }
+
+    /// A frame on a connection that has no session.
+    fn first(&mut self, conn: u32, frame: &Frame, now: u64) -> Result<Vec<Reply>, SessionFault>
+        requires linked { has_link conn self.old ≡ true }
+        requires free { has_session conn self.old ≡ false }
+        ensures { let move = first_move self.old frame.now in
+            MatchResult result (λ replies. Done conn now move self.old self.new replies.items) (Refused move self.old self.new) }
+    {
+        match frame {
+            Frame::Heartbeat(_) => self.answer(conn, now),
+            Frame::Identify(identify) => self.on_identify(conn, identify, now),
+            Frame::Resume(_) => self.shut(conn, UNKNOWN_OPCODE, now),
+            Frame::Presence(_) | Frame::Voice(_) | Frame::Ask(_) => {
+                self.shut(conn, NOT_AUTHENTICATED, now)
+            }
+        }
+    }
+
+    /// A frame on the connection of a session.
+    fn later(&mut self, conn: u32, frame: &Frame, now: u64) -> Result<Vec<Reply>, SessionFault>
+        ensures { let move = later_move frame.now in
+            MatchResult result (λ replies. Done conn now move self.old self.new replies.items) (Refused move self.old self.new) }
+    {
+        match frame {
+            Frame::Heartbeat(_) => self.answer(conn, now),
+            Frame::Identify(_) | Frame::Resume(_) => self.shut(conn, ALREADY_AUTHENTICATED, now),
+            Frame::Presence(_) | Frame::Voice(_) | Frame::Ask(_) => {
+                self.shut(conn, UNKNOWN_OPCODE, now)
+            }
+        }
+    }
+}
+
+impl Sessions {
+    /// A text has come from a client: what it does, and what it is answered (Gateway, Sending
+    /// Events; Opcodes and Status Codes). On a connection that is not open nothing comes of it. An
+    /// `Err` changes nothing.
+    pub fn frame(&mut self, conn: u32, text: &str, now: u64) -> Result<Vec<Reply>, SessionFault>
+        ensures replies { IfOk result (λ replies. replies.items ≡ move_replies conn (move_of self.old conn text.now) self.old) }
+        ensures moved { OnOk result (self.new ≡ moved conn now (λ bot viewer n. 0) (move_of self.old conn text.now) self.old) }
+        ensures counted { OnOk result (is_spent (move_of self.old conn text.now) self.old ≡ false) }
+        ensures spent { result ≡ Err Spent → is_spent (move_of self.old conn text.now) self.old ≡ true }
+        ensures err { OnErr result (self.new ≡ self.old) }
+    {
+        let replies = self.handle(conn, text, now)?;
+        Ok(replies)
+    }
+
+    fn handle(&mut self, conn: u32, text: &str, now: u64) -> Result<Vec<Reply>, SessionFault>
+        ensures { let move = move_of self.old conn text.now in
+            MatchResult result (λ replies. Done conn now move self.old self.new replies.items) (Refused move self.old self.new) }
+    {
+        if !self.is_open(conn) {
+            return Ok(Vec::new(self.alloc()));
+        }
+        match Frame::read(self.alloc(), text) {
+            Err(FrameFault::Memory) => Err(SessionFault::Memory),
+            Err(fault) => self.shut(conn, code_of(fault), now),
+            Ok(frame) if self.has_session(conn) => self.later(conn, &frame, now),
+            Ok(frame) => self.first(conn, &frame, now),
+        }
+    }
+}

@@ -1,0 +1,67 @@
+//! What is kept of connections and sessions, by their numbers.
+
+ghost use Rattle.std.specs.Prelude.{◌≡◌};
+
+use crate::Bot;
+use collections::Text;
+use dispatch_types::Viewer;
+
+/// What is kept of an open connection.
+#[derive(Drop)]
+pub struct Line {
+    /// The moment of its last heartbeat, at first that of its opening.
+    pub heard: u64,
+    /// The number of its session.
+    pub session: Option<u32>,
+}
+
+/// Whether a session has a connection.
+#[derive(Clone, Copy, PartialEq, Eq, Debug)]
+pub enum Hold {
+    /// The session has this connection.
+    Attached(u32),
+    /// The session has had none since this moment.
+    Detached(u64),
+}
+
+/// What is kept of a session that has not ended.
+#[derive(Drop)]
+pub struct Live {
+    pub token: Text,
+    pub name: Text,
+    pub viewer: Viewer,
+    pub hold: Hold,
+    /// How many dispatches it had.
+    pub sent: u64,
+}
+
+impl Live {
+    ghost use Rattle.session_core.specs.Kept.{new_live};
+
+    /// A session on a connection that had no dispatch yet.
+    pub fn new(bot: Bot, viewer: Viewer, conn: u32) -> Live
+        ensures { result ≡ new_live bot viewer conn }
+    {
+        Live {
+            token: bot.token,
+            name: bot.name,
+            viewer,
+            hold: Hold::Attached(conn),
+            sent: 0,
+        }
+    }
+}
+
+impl Hold {
+    ghost use Rattle.session_core.specs.Kept.{conn_of};
+
+    /// The connection of the session.
+    pub fn conn(self) -> Option<u32>
+        ensures { result ≡ conn_of self }
+    {
+        match self {
+            Hold::Attached(conn) => Some(conn),
+            Hold::Detached(_) => None,
+        }
+    }
+}

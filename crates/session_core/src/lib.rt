@@ -1,0 +1,16 @@
+//! Connections and sessions of one worker: what each frame is answered.
+#![tactic(auto)]
+
+mod bot;
+mod close;
+mod fault;
+mod frames;
+mod judge;
+mod kept;
+mod reply;
+mod sessions;
+
+pub use bot::Bot;
+pub use fault::{SessionFault, Spent};
+pub use reply::{Mark, Reply};
+pub use sessions::{Pushed, Sessions};

@@ -1,0 +1,22 @@
+use gateway_frames::Out;
+use snowflake_id::Snowflake;
+
+/// What is to be done after a frame, in order.
+#[derive(Clone, Copy, PartialEq, Eq, Debug)]
+pub enum Reply {
+    /// A payload goes to a connection.
+    Send(u32, Out),
+    /// A connection is closed with a code.
+    Close(u32, u16),
+    /// A session begins.
+    Begin(u32),
+}
+
+/// Why a dispatch was made: for a session's start, for an entry of a guild's log by its position
+/// from 1, or as one of the chunks that a worker made, counted from 1.
+#[derive(Clone, Copy, PartialEq, Eq, Debug)]
+pub enum Mark {
+    Start,
+    Entry(Snowflake, u64),
+    Chunk(u64),
+}

@@ -1,0 +1,272 @@
+ghost use Rattle.std.specs.Prelude.{◌≡◌, ◌<◌, ◌^◌, ◌==◌, ◌↔◌, position, slice_get, option_map, IsErr, Some, ◌-◌, true, false, nat_lt, ◌∷◌, [], length, map, is_some, IfOk, OnOk, OnErr};
+ghost use Rattle.session_core.specs.State.{no_sessions, live, has_session, gone, begun, Detached, has_link, with_link, opened, open_replies, heard};
+ghost use Rattle.std.specs.Option.{option_copied};
+ghost use Rattle.session_core.specs.Pushes.{pushed_of, counted_at};
+ghost use Rattle.session_core.specs.Identify.{identified, start_as};
+
+use crate::close::{AUTHENTICATION_FAILED, UNKNOWN_ERROR};
+use crate::judge::{bot_of, judge};
+use crate::kept::{Hold, Line, Live};
+use crate::{Bot, Reply, Spent};
+use dispatch_types::Viewer;
+use gateway_frames::{Identify, Out};
+use indexmap::IndexMap;
+use std::alloc::{AllocError, Global};
+use std::marker::Model;
+
+/// The most connections that a worker has at a time.
+const MAX_LINKS: usize = 64;
+
+/// The milliseconds between heartbeats (Gateway, Hello event).
+const HEARTBEAT_INTERVAL: u64 = 41_250;
+
+/// The connections and sessions of one worker (Gateway, Connection Lifecycle).
+#[derive(Drop)]
+pub struct Sessions {
+    alloc: Global,
+    worker: u8,
+    bots: Vec<Bot>,
+    made: u32,
+    links: IndexMap<u32, Line>,
+    live: IndexMap<u32, Live>,
+}
+
+impl Model for Sessions {
+    ghost use Rattle.std.specs.Prelude.{ℕ, map};
+    ghost use Rattle.session_core.specs.State.{State};
+
+    ghost Value = { State ℕ };
+
+    ghost use Rattle.session_core.specs.Kept.{link_of, session_of, IsKept};
+
+    ghost view = { λ s. record { worker = s.worker; bots = s.bots.items; made = s.made; links = map link_of s.links.entries; sessions = map session_of s.live.entries } };
+
+    ghost invariant = { λ s. IsKept s.made s.links.entries s.live.entries };
+}
+
+/// A dispatch that a session has been given.
+#[derive(Clone, Copy, PartialEq, Eq, Debug)]
+pub struct Pushed {
+    /// Its number in the session, from 1.
+    pub number: u64,
+    /// The connection to which it goes at once.
+    pub conn: Option<u32>,
+}
+
+/// One reply alone.
+pub(crate) fn one(alloc: Global, reply: Reply) -> Result<Vec<Reply>, AllocError>
+    ensures { IfOk result (λ replies. replies.items ≡ reply ∷ []) }
+{
+    let replies = vec![in alloc; reply]?;
+    Ok(replies)
+}
+
+impl Sessions {
+    /// A worker without connections and sessions.
+    pub fn new(alloc: Global, worker: u8, bots: Vec<Bot>) -> Sessions
+        ensures { result ≡ no_sessions worker bots.items }
+    {
+        Sessions {
+            alloc,
+            worker,
+            bots,
+            made: 0,
+            links: IndexMap::new(alloc),
+            live: IndexMap::new(alloc),
+        }
+    }
+
+    pub(crate) fn alloc(&self) -> Global {
+        self.alloc
+    }
+
+    /// How many sessions were made.
+    pub(crate) fn made(&self) -> u32
+        ensures { result ≡ self.now.made }
+    {
+        self.made
+    }
+
+    /// How many live sessions there are.
+    pub fn len(&self) -> usize
+        ensures sessions { result ≡ length self.now.sessions }
+        ensures live { result ≡ length (live self.now) }
+    {
+        self.live.len()
+    }
+
+    /// The bot that may begin a session, and whom its dispatches are for, or the code by which it
+    /// may not (Gateway Events, Identify).
+    #[tactic(auto, unfolding(crate::specs::Identify::identified))]
+    pub(crate) fn identify(
+        &self,
+        identify: &Identify,
+    ) -> Result<Result<(Bot, Viewer), u16>, AllocError>
+        ensures { IfOk result (λ start. start ≡ start_as identify.now (identified self.now identify.now)) }
+    {
+        let Some(bot) = bot_of(self.bots.as_slice(), identify.token.as_str()) else {
+            return Ok(Err(AUTHENTICATION_FAILED));
+        };
+        match judge(self.len(), identify, bot) {
+            Err(code) => Ok(Err(code)),
+            Ok(viewer) => Ok(Ok((bot.copy(self.alloc)?, viewer))),
+        }
+    }
+
+    /// Whether a connection is open.
+    pub(crate) fn is_open(&self, conn: u32) -> bool
+        ensures { result ≡ has_link conn self.now }
+    {
+        self.links.contains_key(&conn)
+    }
+
+    /// Whether a further connection is served.
+    fn has_room(&self) -> bool
+        ensures { result ≡ nat_lt (length self.now.links) 64 }
+    {
+        self.links.len() < MAX_LINKS
+    }
+
+    /// Adds a connection that is not open.
+    fn add(&mut self, conn: u32, now: u64) -> Result<(), AllocError>
+        requires { has_link conn self.old ≡ false }
+        ensures ok { OnOk result (self.new ≡ with_link conn now self.old) }
+        ensures err { OnErr result (self.new ≡ self.old) }
+    {
+        let line = Line {
+            heard: now,
+            session: None,
+        };
+        self.links.insert(conn, line)?;
+        Ok(())
+    }
+
+    /// A client has connected (Gateway, Hello event). Where it is open already nothing comes of it,
+    /// and where there is no room it is closed. An `Err` changes nothing.
+    pub fn open(&mut self, conn: u32, now: u64) -> Result<Vec<Reply>, AllocError>
+        ensures replies { IfOk result (λ replies. replies.items ≡ open_replies conn self.old) }
+        ensures opened { OnOk result (self.new ≡ opened conn now self.old) }
+        ensures err { OnErr result (self.new ≡ self.old) }
+    {
+        if self.is_open(conn) {
+            return Ok(Vec::new(self.alloc));
+        }
+        if !self.has_room() {
+            return one(self.alloc, Reply::Close(conn, UNKNOWN_ERROR));
+        }
+        let hello = Out::Hello(HEARTBEAT_INTERVAL);
+        let replies = one(self.alloc, Reply::Send(conn, hello))?;
+        self.add(conn, now)?;
+        Ok(replies)
+    }
+
+    /// A heartbeat has come.
+    pub(crate) fn hear(&mut self, conn: u32, now: u64)
+        ensures { self.new ≡ heard conn now self.old }
+    {
+        let Some(line) = self.links.get_mut(&conn) else {
+            return;
+        };
+        line.heard = now;
+    }
+
+    /// Whether a connection has a session.
+    pub(crate) fn has_session(&self, conn: u32) -> bool
+        ensures { result ≡ has_session conn self.now }
+    {
+        match self.links.get(&conn) {
+            Some(line) => line.session.is_some(),
+            None => false,
+        }
+    }
+
+    /// A connection is gone. Its session stays without one.
+    pub(crate) fn detach(&mut self, conn: u32, now: u64)
+        ensures { self.new ≡ gone conn (Detached now) self.old }
+    {
+        let Some(line) = self.links.shift_remove(&conn) else {
+            return;
+        };
+        let Some(number) = line.session else {
+            return;
+        };
+        let Some(session) = self.live.get_mut(&number) else {
+            return;
+        };
+        session.hold = Hold::Detached(now);
+    }
+
+    /// Adds a session on a connection that has none.
+    pub(crate) fn add_session(
+        &mut self,
+        conn: u32,
+        bot: Bot,
+        viewer: Viewer,
+    ) -> Result<(), AllocError>
+        requires linked { has_link conn self.old ≡ true }
+        requires free { has_session conn self.old ≡ false }
+        requires counted { self.old.made < 2 ^ 32 - 1 }
+        ensures ok { OnOk result (self.new ≡ begun conn bot viewer (λ n. 0) self.old) }
+        ensures err { OnErr result (self.new ≡ self.old) }
+    {
+        let number = self.made + 1;
+        self.live.insert(number, Live::new(bot, viewer, conn))?;
+        self.made = number;
+        let Some(line) = self.links.get_mut(&conn) else {
+            return Ok(());
+        };
+        line.session = Some(number);
+        Ok(())
+    }
+
+    /// The place of a live session, in order of making.
+    pub fn place_of(&self, session: u32) -> Option<usize>
+        ensures { result ≡ position (λ x. x.number == session) self.now.sessions }
+    {
+        self.live.get_index_of(&session)
+    }
+
+    /// The number of the live session at a place.
+    pub fn number_at(&self, place: usize) -> Option<u32>
+        ensures { result ≡ option_map (λ x. x.number) (slice_get self.now.sessions place) }
+    {
+        let (number, _) = self.live.get_index(place)?;
+        Some(*number)
+    }
+
+    /// The name of the bot of the live session at a place.
+    pub fn name_at(&self, place: usize) -> Option<&str>
+        ensures { option_map (λ name. name.now) result ≡ option_map (λ x. x.name) (slice_get self.now.sessions place) }
+    {
+        let (_, session) = self.live.get_index(place)?;
+        Some(session.name.as_str())
+    }
+
+    /// Whom the dispatches of the live session at a place are for.
+    pub fn viewer_at(&self, place: usize) -> Option<&Viewer>
+        ensures { option_copied result ≡ option_map (λ x. x.viewer) (slice_get self.now.sessions place) }
+    {
+        let (_, session) = self.live.get_index(place)?;
+        Some(&session.viewer)
+    }
+
+    /// Counts the next dispatch of the live session at a place. `Spent` exactly where its last
+    /// number is 2^64 - 1, which changes nothing.
+    pub fn push_at(&mut self, place: usize) -> Result<Pushed, Spent>
+        requires { place < length self.old.sessions }
+        ensures pushed { IfOk result (λ pushed. option_map pushed_of (slice_get self.old.sessions place) ≡ Some pushed) }
+        ensures counted { OnOk result (self.new ≡ counted_at place self.old) }
+        ensures spent { IsErr result ↔ (option_map (λ x. x.sent) (slice_get self.old.sessions place) ≡ Some (2 ^ 64 - 1)) }
+        ensures err { OnErr result (self.new ≡ self.old) }
+    {
+        let (_, session) = self.live.pair_mut(place);
+        if session.sent == u64::MAX {
+            return Err(Spent);
+        }
+        session.sent += 1;
+        Ok(Pushed {
+            number: session.sent,
+            conn: session.hold.conn(),
+        })
+    }
+}

@@ -1,0 +1,184 @@
+-- What is kept of the sessions moves as they do.
+use Rattle.std.proofs.Common.{◌≡◌, ℕ, ◌+◌, List, [], ◌∷◌, ◌++◌, Bool, true, false, Option, Some, None, Result, Ok, Err, if◌then◌else◌, suc, length, map, refl, sym, ap, ◌∙◌, append_assoc, arith}
+use Rattle.std.specs.Prelude.{◌==◌, ◌||◌, filter, flat_map, nat_lt, is_some}
+use Rattle.std.specs.List.{find, list_any}
+use Rattle.std.proofs.lemmas.List.{length-append, length-map}
+use Rattle.std.proofs.lemmas.Bool.Decides.{nat_tests}
+use Rattle.guild_model.specs.Record.{Record, closed}
+use Rattle.dispatch_types.specs.declared.dispatch.Dispatch.{Dispatch}
+use Rattle.dispatch_types.specs.declared.viewer.Viewer.{Viewer}
+use Rattle.edit_apply.specs.Edits.{after, state_from, state}
+use Rattle.edit_apply.specs.declared.Edit.{Edit}
+use Rattle.edit_events.specs.Due.{owed}
+use Rattle.gateway_frames.specs.declared.frame.Frame.{Frame}
+use Rattle.gateway_frames.specs.declared.frame.Frame.TheVariants as frame
+use Rattle.gateway_frames.specs.declared.fault.FrameFault.{FrameFault}
+use Rattle.gateway_frames.specs.declared.frame.Identify.{Identify}
+use Rattle.gateway_frames.specs.Read.{frame_of}
+use Rattle.session_core.specs.declared.bot.Bot.{Bot}
+use Rattle.session_core.specs.declared.reply.Mark.{Mark}
+use Rattle.session_core.specs.declared.reply.Mark.TheVariants.{Entry}
+use Rattle.session_core.specs.State.{State, Session, Place, Attached, Detached, Ended, is_on, is_live, has_link, session_on, has_session, live, released, opened, gone, heard, begun}
+use Rattle.session_core.specs.Identify.{judged, judged_of, identified, bot_of}
+use Rattle.session_core.specs.Frames.{Move, Nothing, Answers, Shuts, Begins, identify_move, first_move, later_move, read_move, move_of, moved}
+use Rattle.worker_core.specs.World.{Seen, Cursors, cursors, seen_with, Told, told, Sent, Worker, Output, sends, with_sent, entry_owed, after_entry, entry_sends, entered, looked, look_sends, begins_with, first_dispatches}
+use Rattle.worker_core.specs.Kept.{counted, kept_at, kept_session, kept, told_more, told_sends, kept_looked, kept_sends}
+use Rattle.worker_core.proofs.Lists.{append_none, map_join}
+use Rattle.worker_core.proofs.Folds.{state_join, same_id}
+
+pub flat_map_join : {A B : Type 0} (f : A → List B) (xs ys : List A) → flat_map f (xs ++ ys) ≡ flat_map f xs ++ flat_map f ys
+flat_map_join f [] ys = refl
+flat_map_join f (x ∷ xs) ys = ap (λ zs. f x ++ zs) (flat_map_join f xs ys) ∙ sym (append_assoc (f x) (flat_map f xs) (flat_map f ys))
+
+length_sent : (ts : List Told) (mark : Mark) (b a : Cursors) (ds : List Dispatch) → length (ts ++ told mark b a ds) ≡ length ts + length ds
+length_sent ts mark b a ds = length-append ts (told mark b a ds) ∙ ap (λ n. length ts + n) (length-map ds (λ d. record { mark = mark; dispatch = d; before = b; after = a }))
+
+-- one entry
+module _ (seen : Seen) (g : ℕ) (e : Edit) where
+  abbrev here : Record
+  here = state g (seen g)
+
+  one_told : (x : Session Sent) → kept_session (after_entry seen g e x) ≡ map (told_more here e) (kept_session x)
+  one_told x = by_place x.place
+    where
+      count : length (x.sent.told ++ told (Entry g (length (seen g) + 1)) (cursors seen) (cursors (seen_with seen g e)) (owed here e x.viewer)) ≡ length x.sent.told + length (owed here e x.viewer)
+      count = length_sent x.sent.told (Entry g (length (seen g) + 1)) (cursors seen) (cursors (seen_with seen g e)) (owed here e x.viewer)
+
+      by_place : (place : Place) → kept_session (after_entry seen g e (record x { place = place })) ≡ map (told_more here e) (kept_session (record x { place = place }))
+      by_place (Attached conn) = ap (λ n. record { number = x.number; token = x.token; name = x.name; viewer = x.viewer; place = Attached conn; sent = n } ∷ []) count
+      by_place (Detached since) = ap (λ n. record { number = x.number; token = x.token; name = x.name; viewer = x.viewer; place = Detached since; sent = n } ∷ []) count
+      by_place Ended = refl
+
+  one_sends : (x : Session Sent) → entry_sends seen g e x ≡ flat_map (told_sends here e) (kept_session x)
+  one_sends x = by_place x.place
+    where
+      by_place : (place : Place) → entry_sends seen g e (record x { place = place }) ≡ flat_map (told_sends here e) (kept_session (record x { place = place }))
+      by_place (Attached conn) = sym (append_none (sends (Attached conn) (length x.sent.told) (owed here e x.viewer)))
+      by_place (Detached since) = refl
+      by_place Ended = refl
+
+  each_told : (xs : List (Session Sent)) → flat_map kept_session (map (after_entry seen g e) xs) ≡ map (told_more here e) (flat_map kept_session xs)
+  each_told [] = refl
+  each_told (x ∷ xs) =
+      ap (λ ys. ys ++ flat_map kept_session (map (after_entry seen g e) xs)) (one_told x)
+      ∙ (ap (λ ys. map (told_more here e) (kept_session x) ++ ys) (each_told xs) ∙ sym (map_join (told_more here e) (kept_session x) (flat_map kept_session xs)))
+
+  each_sends : (xs : List (Session Sent)) → flat_map (entry_sends seen g e) xs ≡ flat_map (told_sends here e) (flat_map kept_session xs)
+  each_sends [] = refl
+  each_sends (x ∷ xs) =
+      ap (λ ys. ys ++ flat_map (entry_sends seen g e) xs) (one_sends x)
+      ∙ (ap (λ ys. flat_map (told_sends here e) (kept_session x) ++ ys) (each_sends xs) ∙ sym (flat_map_join (told_sends here e) (kept_session x) (flat_map kept_session xs)))
+
+  state_entered : state g (seen_with seen g e g) ≡ after here e
+  state_entered = simp (same_id g) (state_join (closed g) (seen g) (e ∷ []))
+
+-- a look
+pub look_kept : (es : List Edit) (w : Worker) (g : ℕ) → flat_map kept_session (looked w g es).core.sessions ≡ kept_looked (state g (w.seen g)) es (flat_map kept_session w.core.sessions)
+look_kept [] w g = refl
+look_kept (e ∷ es) w g =
+    look_kept es (entered w g e) g
+    ∙ (ap (λ s. kept_looked s es (flat_map kept_session (map (after_entry w.seen g e) w.core.sessions))) (state_entered w.seen g e)
+    ∙ ap (λ xs. kept_looked (after (state g (w.seen g)) e) es xs) (each_told w.seen g e w.core.sessions))
+
+pub look_sent : (es : List Edit) (w : Worker) (g : ℕ) → look_sends w g es ≡ kept_sends (state g (w.seen g)) es (flat_map kept_session w.core.sessions)
+look_sent [] w g = refl
+look_sent (e ∷ es) w g =
+    ap (λ xs. xs ++ look_sends (entered w g e) g es) (each_sends w.seen g e w.core.sessions)
+    ∙ ap (λ xs. flat_map (told_sends (state g (w.seen g)) e) (flat_map kept_session w.core.sessions) ++ xs)
+    (look_sent es (entered w g e) g
+    ∙ (ap (λ s. kept_sends s es (flat_map kept_session (map (after_entry w.seen g e) w.core.sessions))) (state_entered w.seen g e)
+    ∙ ap (λ xs. kept_sends (after (state g (w.seen g)) e) es xs) (each_told w.seen g e w.core.sessions)))
+
+-- the session of a connection is kept
+has_kept : (conn : ℕ) (xs : List (Session Sent)) → is_some (find (λ (x : Session Sent). is_on conn x.place) xs) ≡ is_some (find (λ (x : Session ℕ). is_on conn x.place) (flat_map kept_session xs))
+has_kept conn [] = refl
+has_kept conn (x ∷ xs) = by_place x.place (has_kept conn xs)
+  where
+    by_place : (place : Place) → is_some (find (λ (x : Session Sent). is_on conn x.place) xs) ≡ is_some (find (λ (x : Session ℕ). is_on conn x.place) (flat_map kept_session xs))
+        → is_some (find (λ (y : Session Sent). is_on conn y.place) (record x { place = place } ∷ xs))
+        ≡ is_some (find (λ (y : Session ℕ). is_on conn y.place) (kept_session (record x { place = place }) ++ flat_map kept_session xs))
+    by_place (Attached c) rest = by_test (c == conn)
+      where
+        by_test : (b : Bool) → is_some (if b then Some (record x { place = Attached c }) else find (λ (y : Session Sent). is_on conn y.place) xs)
+            ≡ is_some (if b then Some (counted (record x { place = Attached c })) else find (λ (y : Session ℕ). is_on conn y.place) (flat_map kept_session xs))
+        by_test true = refl
+        by_test false = rest
+    by_place (Detached since) rest = rest
+    by_place Ended rest = rest
+
+-- and so is how many there are
+live_kept : (xs : List (Session Sent)) → length (filter (λ (x : Session Sent). is_live x.place) xs) ≡ length (filter (λ (x : Session ℕ). is_live x.place) (flat_map kept_session xs))
+live_kept [] = refl
+live_kept (x ∷ xs) = by_place x.place (live_kept xs)
+  where
+    by_place : (place : Place) → length (filter (λ (x : Session Sent). is_live x.place) xs) ≡ length (filter (λ (x : Session ℕ). is_live x.place) (flat_map kept_session xs))
+        → length (filter (λ (y : Session Sent). is_live y.place) (record x { place = place } ∷ xs))
+        ≡ length (filter (λ (y : Session ℕ). is_live y.place) (kept_session (record x { place = place }) ++ flat_map kept_session xs))
+    by_place (Attached c) rest = ap suc rest
+    by_place (Detached since) rest = ap suc rest
+    by_place Ended rest = rest
+
+-- so a frame moves both alike
+identified_kept : (s : State Sent) (i : Identify) → identified s i ≡ identified (kept s) i
+unfolding identified
+identified_kept s i = ap (λ n. judged_of n i (bot_of i.token s.bots)) (live_kept s.sessions)
+
+pub move_kept : (s : State Sent) (conn : ℕ) (text : List ℕ) → move_of s conn text ≡ move_of (kept s) conn text
+move_kept s conn text = by_link (has_link conn s)
+  where
+    by_frame : (f : Frame) → first_move s f ≡ first_move (kept s) f
+    by_frame (frame.Heartbeat seq) = refl
+    by_frame (frame.Identify i) = ap (λ r. identify_move i r) (identified_kept s i)
+    by_frame (frame.Resume r) = refl
+    by_frame (frame.Presence status) = refl
+    by_frame (frame.Voice ask) = refl
+    by_frame (frame.Ask ask) = refl
+
+    by_read : (has : Bool) (r : Result Frame FrameFault) → read_move s has r ≡ read_move (kept s) has r
+    by_read has (Err fault) = refl
+    by_read true (Ok f) = refl
+    by_read false (Ok f) = by_frame f
+
+    by_link : (b : Bool) → (if b then read_move s (has_session conn s) (frame_of text) else Nothing) ≡ (if b then read_move (kept s) (has_session conn (kept s)) (frame_of text) else Nothing)
+    by_link true = by_read (has_session conn s) (frame_of text) ∙ ap (λ b. read_move (kept s) b (frame_of text)) (has_kept conn s.sessions)
+    by_link false = refl
+
+-- a connection that is gone
+released_kept : (conn now : ℕ) (x : Session Sent) → kept_session (released conn (Detached now) x) ≡ map (released conn (Detached now)) (kept_session x)
+released_kept conn now x = by_place x.place
+  where
+    by_test : (c : ℕ) (b : Bool) → kept_session (if b then record x { place = Detached now } else record x { place = Attached c })
+        ≡ (if b then record (counted x) { place = Detached now } else record (counted x) { place = Attached c }) ∷ []
+    by_test c true = refl
+    by_test c false = refl
+
+    by_place : (place : Place) → kept_session (released conn (Detached now) (record x { place = place })) ≡ map (released conn (Detached now)) (kept_session (record x { place = place }))
+    by_place (Attached c) = by_test c (c == conn)
+    by_place (Detached since) = refl
+    by_place Ended = refl
+
+each_released : (conn now : ℕ) (xs : List (Session Sent)) → flat_map kept_session (map (released conn (Detached now)) xs) ≡ map (released conn (Detached now)) (flat_map kept_session xs)
+each_released conn now [] = refl
+each_released conn now (x ∷ xs) =
+    ap (λ ys. ys ++ flat_map kept_session (map (released conn (Detached now)) xs)) (released_kept conn now x)
+    ∙ (ap (λ ys. map (released conn (Detached now)) (kept_session x) ++ ys) (each_released conn now xs) ∙ sym (map_join (released conn (Detached now)) (kept_session x) (flat_map kept_session xs)))
+
+-- how many dispatches a session begins with
+abbrev pub begins_count : Worker → Bot → Viewer → ℕ → ℕ
+begins_count w bot v n = length (begins_with w bot v n).told
+
+pub moved_kept : (w : Worker) (conn now : ℕ) (move : Move) → kept (moved conn now (begins_with w) move w.core) ≡ moved conn now (begins_count w) move (kept w.core)
+moved_kept w conn now Nothing = refl
+moved_kept w conn now Answers = refl
+moved_kept w conn now (Shuts code) = ap (λ xs. record (gone conn (Detached now) (kept w.core)) { sessions = xs }) (each_released conn now w.core.sessions)
+moved_kept w conn now (Begins bot v) = ap (λ xs. record (begun conn bot v (begins_count w bot v) (kept w.core)) { sessions = xs })
+    (flat_map_join kept_session w.core.sessions (record { number = w.core.made + 1; token = bot.token; name = bot.name; viewer = v; place = Attached conn; sent = begins_with w bot v (w.core.made + 1) } ∷ []))
+
+pub opened_kept : (s : State Sent) (conn now : ℕ) → kept (opened conn now s) ≡ opened conn now (kept s)
+opened_kept s conn now = by_link (has_link conn s) (nat_lt (length s.links) 64)
+  where
+    by_link : (b c : Bool) → kept (if b then s else (if c then record s { links = s.links ++ record { number = conn; heard = now } ∷ [] } else s))
+        ≡ (if b then kept s else (if c then record (kept s) { links = s.links ++ record { number = conn; heard = now } ∷ [] } else kept s))
+    by_link true c = refl
+    by_link false true = refl
+    by_link false false = refl

@@ -1,0 +1,10 @@
+pub mod Logs
+pub mod Lists
+pub mod Folds
+pub mod Sessions
+pub mod Greetings
+pub mod Workers
+pub mod Worlds
+pub mod Sends
+pub mod Kept
+pub mod Standing

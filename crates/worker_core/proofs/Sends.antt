@@ -1,0 +1,129 @@
+-- Each dispatch that goes out has its number in the session that the connection has.
+use Rattle.std.proofs.Common.{◌≡◌, ℕ, ◌+◌, List, [], ◌∷◌, ◌++◌, Bool, true, false, Option, Some, None, if◌then◌else◌, length, map, refl, sym, ap, subst, ◌∙◌, append_assoc, inl, inr}
+use Rattle.std.specs.Prelude.{All, flat_map, nat_lt}
+use Rattle.std.proofs.lemmas.List.Elements.{All-append, All-cons, All-nil, All-weaker}
+use Rattle.std.proofs.lemmas.List.{length-append, length-map}
+use Rattle.dispatch_types.specs.declared.dispatch.Dispatch.{Dispatch}
+use Rattle.dispatch_types.specs.declared.viewer.Viewer.{Viewer}
+use Rattle.dispatch_types.specs.Fold.{contains}
+use Rattle.edit_apply.specs.declared.Edit.{Edit}
+use Rattle.gateway_frames.specs.declared.out.Out.{Out}
+use Rattle.gateway_frames.specs.declared.out.Out.TheVariants.{Hello, Ack}
+use Rattle.session_core.specs.declared.bot.Bot.{Bot}
+use Rattle.session_core.specs.declared.reply.Mark.TheVariants.{Start, Entry}
+use Rattle.session_core.specs.State.{State, Session, Place, Attached, Detached, Ended, is_on, has_link, opened, gone}
+use Rattle.session_core.specs.Frames.{Move, Nothing, Answers, Shuts, Begins, move_of}
+use Rattle.worker_core.specs.World.{Seen, Cursors, cursors, seen_with, Told, told, Sent, Worker, Output, Says, Tells, Closes, sends, after_entry, entry_owed, entry_sends, entered, looked, look_sends, first_dispatches, begins_with, Look, Open, Frame, framed, frame_sends, open_sends}
+use Rattle.worker_core.specs.Law.{dispatch_of, IsNumber, HasSent, OutputHolds, EachSendHolds}
+use Rattle.worker_core.proofs.Lists.{map_join}
+use Rattle.worker_core.proofs.Folds.{dispatches_told, same_id}
+
+-- numbers stay
+number_stays : (n : ℕ) (d : Dispatch) (xs ys : List Dispatch) → IsNumber n d xs → IsNumber n d (xs ++ ys)
+number_stays n d xs ys (front, (back, (is, count))) = (front, (back ++ ys, (ap (λ zs. zs ++ ys) is ∙ append_assoc front (d ∷ back) ys, count)))
+
+-- a session that the connection has, and the number of a dispatch of it
+abbrev IsSentOn : ℕ → ℕ → Dispatch → Session Sent → Type 0
+IsSentOn conn n d x = (is_on conn x.place ≡ true) × IsNumber n d (map dispatch_of x.sent.told)
+
+-- the sends of one session
+module _ (xs : List (Session Sent)) (conn : ℕ) (whole : List Dispatch) (here : (n : ℕ) (d : Dispatch) → IsNumber n d whole → HasSent conn n d xs) where
+  sends_from : (front ds : List Dispatch) → whole ≡ front ++ ds → All (OutputHolds xs) (sends (Attached conn) (length front) ds)
+  sends_from front [] is = All-nil (OutputHolds xs)
+  sends_from front (d ∷ ds) is =
+      All-cons (OutputHolds xs) (Tells conn (length front + 1) d) (sends (Attached conn) (length front + 1) ds)
+      (here (length front + 1) d (front, (ds, (is, refl))))
+      (subst (λ (n : ℕ). All (OutputHolds xs) (sends (Attached conn) n ds)) (length-append front (d ∷ []))
+      (sends_from (front ++ d ∷ []) ds (is ∙ sym (append_assoc front (d ∷ []) ds))))
+
+-- an entry leaves each session's connection and numbers
+module _ (seen : Seen) (g : ℕ) (e : Edit) where
+  abbrev batch : Session Sent → List Told
+  batch x = told (Entry g (length (seen g) + 1)) (cursors seen) (cursors (seen_with seen g e)) (entry_owed seen g e x)
+
+  session_stays : (conn n : ℕ) (d : Dispatch) (x : Session Sent) → IsSentOn conn n d x → IsSentOn conn n d (after_entry seen g e x)
+  session_stays conn n d x = by_place x.place
+    where
+      by_place : (place : Place) → IsSentOn conn n d (record x { place = place }) → IsSentOn conn n d (after_entry seen g e (record x { place = place }))
+      by_place (Attached own) (at, number) =
+          (at, subst (λ (ds : List Dispatch). IsNumber n d ds) (sym (map_join dispatch_of x.sent.told (batch x))) (number_stays n d (map dispatch_of x.sent.told) (map dispatch_of (batch x)) number))
+      by_place (Detached since) (at, number) = absurd (cc at)
+      by_place Ended (at, number) = absurd (cc at)
+
+  sent_stays : (conn n : ℕ) (d : Dispatch) (xs : List (Session Sent)) → HasSent conn n d xs → HasSent conn n d (map (after_entry seen g e) xs)
+  sent_stays conn n d [] h = h
+  sent_stays conn n d (x ∷ xs) (inl h) = inl (session_stays conn n d x h)
+  sent_stays conn n d (x ∷ xs) (inr h) = inr (sent_stays conn n d xs h)
+
+  output_stays : (xs : List (Session Sent)) (o : Output) → OutputHolds xs o → OutputHolds (map (after_entry seen g e) xs) o
+  output_stays xs (Says conn out) h = tt
+  output_stays xs (Tells conn n d) h = sent_stays conn n d xs h
+  output_stays xs (Closes conn code) h = tt
+
+  own_sends : (x : Session Sent) (ys : List (Session Sent)) → ((conn n : ℕ) (d : Dispatch) → IsSentOn conn n d (after_entry seen g e x) → HasSent conn n d ys) → All (OutputHolds ys) (entry_sends seen g e x)
+  own_sends x ys = by_place x.place
+    where
+      by_place : (place : Place) → ((conn n : ℕ) (d : Dispatch) → IsSentOn conn n d (after_entry seen g e (record x { place = place })) → HasSent conn n d ys) → All (OutputHolds ys) (entry_sends seen g e (record x { place = place }))
+      by_place (Attached own) here =
+          let ds : List Dispatch = entry_owed seen g e x in
+          let all : map dispatch_of (x.sent.told ++ batch x) ≡ map dispatch_of x.sent.told ++ ds = map_join dispatch_of x.sent.told (batch x) ∙ ap (λ xs. map dispatch_of x.sent.told ++ xs) (dispatches_told (Entry g (length (seen g) + 1)) (cursors seen) (cursors (seen_with seen g e)) ds) in
+          subst (λ (n : ℕ). All (OutputHolds ys) (sends (Attached own) n ds)) (length-map x.sent.told dispatch_of)
+          (sends_from ys own (map dispatch_of (x.sent.told ++ batch x)) (λ n d number. here own n d (same_id own, number)) (map dispatch_of x.sent.told) ds all)
+      by_place (Detached since) here = All-nil (OutputHolds ys)
+      by_place Ended here = All-nil (OutputHolds ys)
+
+  entry_holds : (xs ys : List (Session Sent)) → ((conn n : ℕ) (d : Dispatch) → HasSent conn n d (map (after_entry seen g e) xs) → HasSent conn n d ys) → All (OutputHolds ys) (flat_map (entry_sends seen g e) xs)
+  entry_holds [] ys into = All-nil (OutputHolds ys)
+  entry_holds (x ∷ xs) ys into = All-append (OutputHolds ys) (entry_sends seen g e x) (flat_map (entry_sends seen g e) xs)
+      (own_sends x ys (λ conn n d h. into conn n d (inl h)))
+      (entry_holds xs ys (λ conn n d h. into conn n d (inr h)))
+
+sent_through : (es : List Edit) (w : Worker) (g : ℕ) (o : Output) → OutputHolds w.core.sessions o → OutputHolds (looked w g es).core.sessions o
+sent_through [] w g o h = h
+sent_through (e ∷ es) w g o h = sent_through es (entered w g e) g o (output_stays w.seen g e w.core.sessions o h)
+
+look_holds : (es : List Edit) (w : Worker) (g : ℕ) → All (OutputHolds (looked w g es).core.sessions) (look_sends w g es)
+look_holds [] w g = All-nil (OutputHolds w.core.sessions)
+look_holds (e ∷ es) w g = All-append (OutputHolds (looked (entered w g e) g es).core.sessions) (flat_map (entry_sends w.seen g e) w.core.sessions) (look_sends (entered w g e) g es)
+    (All-weaker (OutputHolds (entered w g e).core.sessions) (OutputHolds (looked (entered w g e) g es).core.sessions) (sent_through es (entered w g e) g) (flat_map (entry_sends w.seen g e) w.core.sessions)
+    (entry_holds w.seen g e w.core.sessions (entered w g e).core.sessions (λ conn n d h. h)))
+    (look_holds es (entered w g e) g)
+
+last_session : (conn n : ℕ) (d : Dispatch) (xs : List (Session Sent)) (x : Session Sent) → IsSentOn conn n d x → HasSent conn n d (xs ++ x ∷ [])
+last_session conn n d [] x h = inl h
+last_session conn n d (y ∷ xs) x h = inr (last_session conn n d xs x h)
+
+start_holds : (w : Worker) (conn : ℕ) (bot : Bot) (v : Viewer) → All (OutputHolds (framed w conn (Begins bot v)).core.sessions) (sends (Attached conn) 0 (first_dispatches w v bot (w.core.made + 1)))
+start_holds w conn bot v =
+    let ds : List Dispatch = first_dispatches w v bot (w.core.made + 1) in
+    let x : Session Sent = record { number = w.core.made + 1; token = bot.token; name = bot.name; viewer = v; place = Attached conn; sent = begins_with w bot v (w.core.made + 1) } in
+    sends_from (w.core.sessions ++ x ∷ []) conn (map dispatch_of x.sent.told) (λ n d number. last_session conn n d w.core.sessions x (same_id conn, number)) [] ds
+    (dispatches_told Start (cursors w.seen) (cursors w.seen) ds)
+
+one_holds : (xs : List (Session Sent)) (o : Output) → OutputHolds xs o → All (OutputHolds xs) (o ∷ [])
+one_holds xs o h = All-cons (OutputHolds xs) o [] h (All-nil (OutputHolds xs))
+
+frame_holds : (w : Worker) (conn : ℕ) (move : Move) → All (OutputHolds (framed w conn move).core.sessions) (frame_sends w conn move)
+frame_holds w conn Nothing = All-nil (OutputHolds w.core.sessions)
+frame_holds w conn Answers = one_holds w.core.sessions (Says conn Ack) tt
+frame_holds w conn (Shuts code) = one_holds (gone conn (Detached w.now) w.core).sessions (Closes conn code) tt
+frame_holds w conn (Begins bot v) = start_holds w conn bot v
+
+open_holds : (w : Worker) (conn : ℕ) → All (OutputHolds (opened conn w.now w.core).sessions) (open_sends conn w.core)
+open_holds w conn = by_link (has_link conn w.core) (nat_lt (length w.core.links) 64)
+  where
+    by_link : (b c : Bool) → let s : State Sent = if b then w.core else (if c then record w.core { links = w.core.links ++ record { number = conn; heard = w.now } ∷ [] } else w.core) in
+        All (OutputHolds s.sessions) (if b then [] else (if c then Says conn (Hello 41250) ∷ [] else Closes conn 4000 ∷ []))
+    by_link true c = All-nil (OutputHolds w.core.sessions)
+    by_link false true = one_holds w.core.sessions (Says conn (Hello 41250)) tt
+    by_link false false = one_holds w.core.sessions (Closes conn 4000) tt
+
+pub each_send_holds : EachSendHolds
+unfolding EachSendHolds
+each_send_holds w (Look g es) = by_there (contains g w.guilds)
+  where
+    by_there : (b : Bool) → All (OutputHolds (if b then looked w g es else w).core.sessions) (if b then look_sends w g es else [])
+    by_there true = look_holds es w g
+    by_there false = All-nil (OutputHolds w.core.sessions)
+each_send_holds w (Open conn) = open_holds w conn
+each_send_holds w (Frame conn text) = frame_holds w conn (move_of w.core conn text)

@@ -1,0 +1,243 @@
+-- Each step of a worker's value, on what it keeps, is that of each worker that it stands for.
+use Rattle.worker_core.proofs.Logs.{state_id}
+use Rattle.std.proofs.Common.{◌≡◌, ℕ, ◌+◌, List, [], ◌∷◌, ◌++◌, Bool, true, false, Option, Some, None, if◌then◌else◌, length, map, refl, sym, ap, subst, ◌∙◌, arith}
+use Rattle.std.specs.Prelude.{◌==◌, ◌||◌, filter, flat_map, is_some, option_map}
+use Rattle.std.proofs.lemmas.Bool.{eqb-true}
+use Rattle.std.proofs.lemmas.Bool.Decides.{nat_tests}
+use Rattle.std.proofs.lemmas.List.{length-append, length-map}
+use Rattle.collections.specs.ById.{find_id, put_id, has_id, IsById}
+use Rattle.collections.proofs.Ids.{IsById-put}
+use Rattle.collections.proofs.Finds.{same_by_id, find-put, find-map, IsById-map, key-found}
+use Rattle.guild_model.specs.Record.{Record, closed, own_id}
+use Rattle.perm_bits.specs.Bits.{has_bit}
+use Rattle.intent_set.specs.Intents.{guilds}
+use Rattle.dispatch_types.specs.declared.viewer.Viewer.{Viewer}
+use Rattle.dispatch_types.specs.Serves.{serves}
+use Rattle.dispatch_types.specs.Fold.{contains}
+use Rattle.edit_apply.specs.Edits.{state_from, state}
+use Rattle.edit_apply.specs.declared.Edit.{Edit}
+use Rattle.session_core.specs.declared.bot.Bot.{Bot}
+use Rattle.session_core.specs.State.{State, Session, Attached, opened, begun}
+use Rattle.session_core.specs.Frames.{Move, Nothing, Answers, Shuts, Begins, move_of, moved}
+use Rattle.worker_core.specs.declared.replica.Replica.{Replica}
+use Rattle.worker_core.specs.World.{Seen, Worker, entered, looked, look_sends, Look, Open, Frame, taken, outputs, framed, frame_sends, open_sends, begins_with, first_dispatches, listed_guilds, greeting_of, ready, sends, Output}
+use Rattle.worker_core.specs.Kept.{kept, kept_session, kept_looked, kept_sends}
+use Rattle.worker_core.specs.Stands.{replica_id, replica, looked_replica, KeptWorker, Stands, after_look, after_open, after_frame, kept_listed, kept_greeting, kept_ready, kept_first, kept_count, kept_frame_sends, LooksStand, OpensStand, FramesStand}
+use Rattle.worker_core.proofs.Lists.{append_none}
+use Rattle.worker_core.proofs.Folds.{state_join, same_id}
+use Rattle.worker_core.proofs.Worlds.{looked_seen}
+use Rattle.worker_core.proofs.Kept.{look_kept, look_sent, move_kept, moved_kept, opened_kept, begins_count}
+
+-- a list of ids contains what it finds
+contains_found : (id : ℕ) (gs : List ℕ) → contains id gs ≡ has_id own_id id gs
+contains_found id [] = refl
+contains_found id (g ∷ gs) = by_id (g == id) (contains_found id gs)
+  where
+    by_id : (b : Bool) → contains id gs ≡ has_id own_id id gs → (b || contains id gs) ≡ is_some (if b then Some g else find_id own_id id gs)
+    by_id true rest = refl
+    by_id false rest = rest
+
+module _ (seen : Seen) where
+  keyed : (g : ℕ) → replica_id (replica seen g) ≡ g
+  keyed g = state_id g (seen g)
+
+  -- the replica of a guild
+  pub find_replica : (g : ℕ) (gs : List ℕ) → find_id replica_id g (map (replica seen) gs) ≡ option_map (replica seen) (find_id own_id g gs)
+  find_replica g gs = find-map own_id replica_id (replica seen) keyed g gs
+
+  pub by_id_replicas : (gs : List ℕ) → IsById own_id gs → IsById replica_id (map (replica seen) gs)
+  by_id_replicas gs h = IsById-map own_id replica_id (replica seen) keyed gs h
+
+-- a look leaves the guilds
+looked_guilds : (es : List Edit) (w : Worker) (g : ℕ) → (looked w g es).guilds ≡ w.guilds
+looked_guilds [] w g = refl
+looked_guilds (e ∷ es) w g = looked_guilds es (entered w g e) g
+
+looked_url : (es : List Edit) (w : Worker) (g : ℕ) → (looked w g es).url ≡ w.url
+looked_url [] w g = refl
+looked_url (e ∷ es) w g = looked_url es (entered w g e) g
+
+looked_now : (es : List Edit) (w : Worker) (g : ℕ) → (looked w g es).now ≡ w.now
+looked_now [] w g = refl
+looked_now (e ∷ es) w g = looked_now es (entered w g e) g
+
+looked_core : (es : List Edit) (w : Worker) (g : ℕ) → kept (looked w g es).core ≡ record (kept w.core) { sessions = kept_looked (state g (w.seen g)) es (flat_map kept_session w.core.sessions) }
+looked_core es w g = fields es w g ∙ ap (λ xs. record (kept w.core) { sessions = xs }) (look_kept es w g)
+  where
+    fields : (es : List Edit) (w : Worker) (g : ℕ) → kept (looked w g es).core ≡ record (kept w.core) { sessions = flat_map kept_session (looked w g es).core.sessions }
+    fields [] w g = refl
+    fields (e ∷ es) w g = fields es (entered w g e) g
+
+-- the replica of the guild that was looked at
+replica_looked : (es : List Edit) (w : Worker) (g : ℕ) → looked_replica (replica w.seen g) es ≡ replica (looked w g es).seen g
+replica_looked es w g =
+    let now : (looked w g es).seen g ≡ w.seen g ++ es = looked_seen es w g g ∙ simp (same_id g) refl in
+    ap (λ n. record { cursor = n; guild = state_from (state g (w.seen g)) es }) (sym (length-append (w.seen g) es))
+    ∙ (ap (λ s. record { cursor = length (w.seen g ++ es); guild = s }) (sym (state_join (closed g) (w.seen g) es))
+    ∙ ap (λ xs. record { cursor = length xs; guild = state g xs }) (sym now))
+
+other_looked : (es : List Edit) (w : Worker) (g h : ℕ) → (g == h) ≡ false → replica (looked w g es).seen h ≡ replica w.seen h
+other_looked es w g h differ = ap (λ xs. record { cursor = length xs; guild = state h xs }) (looked_seen es w g h ∙ simp differ refl)
+
+-- the replicas after a look
+replicas_looked : (es : List Edit) (w : Worker) (g : ℕ) → IsById own_id w.guilds → contains g w.guilds ≡ true
+    → put_id replica_id (looked_replica (replica w.seen g) es) (map (replica w.seen) w.guilds) ≡ map (replica (looked w g es).seen) w.guilds
+replicas_looked es w g h there =
+    let r : Replica = looked_replica (replica w.seen g) es in
+    let at : replica_id r ≡ g = ap replica_id (replica_looked es w g) ∙ state_id g ((looked w g es).seen g) in
+    same_by_id replica_id _ _ (IsById-put replica_id r _ (by_id_replicas w.seen w.guilds h)) (by_id_replicas (looked w g es).seen w.guilds h)
+    (λ id. find-put replica_id r id (map (replica w.seen) w.guilds)
+    ∙ (ap (λ o. if replica_id r == id then Some r else o) (find_replica w.seen id w.guilds)
+    ∙ (ap (λ n. if n == id then Some r else option_map (replica w.seen) (find_id own_id id w.guilds)) at
+    ∙ by_id id (g == id) refl (find_id own_id id w.guilds) refl ∙ sym (find_replica (looked w g es).seen id w.guilds))))
+  where
+    by_id : (id : ℕ) (b : Bool) → (g == id) ≡ b → (o : Option ℕ) → find_id own_id id w.guilds ≡ o
+        → (if b then Some (looked_replica (replica w.seen g) es) else option_map (replica w.seen) o) ≡ option_map (replica (looked w g es).seen) o
+    by_id id true same None found =
+        let here : g ≡ id = eqb-true g id same in
+        let lacks : contains g w.guilds ≡ false = ap (λ n. contains n w.guilds) here ∙ (contains_found id w.guilds ∙ ap is_some found) in
+        absurd (cc (there, lacks))
+    by_id id true same (Some n) found =
+        let one : n ≡ id = key-found own_id id w.guilds n found in
+        let here : g ≡ n = eqb-true g id same ∙ sym one in
+        ap Some (replica_looked es w g ∙ ap (λ n. replica (looked w g es).seen n) here)
+    by_id id false differ None found = refl
+    by_id id false differ (Some n) found =
+        let one : n ≡ id = key-found own_id id w.guilds n found in
+        let apart : (g == n) ≡ false = ap (λ k. g == k) one ∙ differ in
+        ap Some (sym (other_looked es w g n apart))
+
+-- each step, on what is kept, is that of the worker
+module _ (k : KeptWorker) (w : Worker) (stands : Stands k w) where
+  -- the guild is not there
+  pub looks_at_none : (g : ℕ) (es : List Edit) → find_id replica_id g k.replicas ≡ None → Stands k (taken w (Look g es)) × (outputs w (Look g es) ≡ [])
+  looks_at_none g es none =
+      let lacks : contains g w.guilds ≡ false = contains_found g w.guilds ∙ by_found (find_id own_id g w.guilds) refl in
+      (simp lacks stands, simp lacks refl)
+    where
+      by_found : (o : Option ℕ) → find_id own_id g w.guilds ≡ o → is_some o ≡ false
+      by_found None e = refl
+      by_found (Some n) e = absurd (cc (none, ap (λ rs. find_id replica_id g rs) stands.replicas, find_replica w.seen g w.guilds, ap (λ o. option_map (replica w.seen) o) e))
+
+  pub looks_at_one : (g : ℕ) (es : List Edit) (r : Replica) → find_id replica_id g k.replicas ≡ Some r
+      → Stands (after_look k r es) (taken w (Look g es)) × (outputs w (Look g es) ≡ kept_sends r.guild es k.core.sessions)
+  looks_at_one g es r found = by_found (find_id own_id g w.guilds) refl
+    where
+      here : find_id replica_id g (map (replica w.seen) w.guilds) ≡ Some r
+      here = ap (λ rs. find_id replica_id g rs) (sym stands.replicas) ∙ found
+
+      by_found : (o : Option ℕ) → find_id own_id g w.guilds ≡ o → Stands (after_look k r es) (taken w (Look g es)) × (outputs w (Look g es) ≡ kept_sends r.guild es k.core.sessions)
+      by_found None e = absurd (cc (here, find_replica w.seen g w.guilds, ap (λ o. option_map (replica w.seen) o) e))
+      by_found (Some n) e =
+          let one : n ≡ g = key-found own_id g w.guilds n e in
+          let there : contains g w.guilds ≡ true = contains_found g w.guilds ∙ ap is_some e in
+          let some : Some (replica w.seen n) ≡ Some r = sym (find_replica w.seen g w.guilds ∙ ap (λ o. option_map (replica w.seen) o) e) ∙ here in
+          let found : replica w.seen n ≡ r = cc some in
+          let is : replica w.seen g ≡ r = ap (λ n. replica w.seen n) (sym one) ∙ found in
+          let whole : Stands (after_look k r es) (looked w g es) × (look_sends w g es ≡ kept_sends r.guild es k.core.sessions) = (
+            record {
+              url = stands.url ∙ sym (looked_url es w g);
+              now = stands.now ∙ sym (looked_now es w g);
+              guilds = subst (λ (gs : List ℕ). IsById own_id gs) (sym (looked_guilds es w g)) stands.guilds;
+              replicas = ap (λ rs. put_id replica_id (looked_replica r es) rs) stands.replicas
+                  ∙ (ap (λ r. put_id replica_id (looked_replica r es) (map (replica w.seen) w.guilds)) (sym is)
+                  ∙ (replicas_looked es w g stands.guilds there ∙ ap (λ gs. map (replica (looked w g es).seen) gs) (sym (looked_guilds es w g))));
+              core = ap (λ (c : State ℕ). record c { sessions = kept_looked r.guild es c.sessions }) stands.core
+                  ∙ (ap (λ (r : Replica). record (kept w.core) { sessions = kept_looked r.guild es (flat_map kept_session w.core.sessions) }) (sym is)
+                  ∙ sym (looked_core es w g));
+            },
+            look_sent es w g
+                ∙ (ap (λ (r : Replica). kept_sends r.guild es (flat_map kept_session w.core.sessions)) is
+                ∙ ap (λ (c : State ℕ). kept_sends r.guild es c.sessions) (sym stands.core)),
+          ) in
+          simp there whole
+
+  pub opens : (conn : ℕ) → Stands (after_open k conn) (taken w (Open conn)) × (outputs w (Open conn) ≡ open_sends conn k.core)
+  opens conn = (
+    record {
+      url = stands.url;
+      now = stands.now;
+      guilds = stands.guilds;
+      replicas = stands.replicas;
+      core = ap (λ c. opened conn k.now c) stands.core ∙ (ap (λ n. opened conn n (kept w.core)) stands.now ∙ sym (opened_kept w.core conn w.now));
+    },
+    sym (ap (λ (c : State ℕ). open_sends conn c) stands.core),
+  )
+
+  -- the first dispatches of a session
+  served_ids : (v : Viewer) (gs : List ℕ) → map replica_id (filter (λ (r : Replica). serves v r.guild) (map (replica w.seen) gs)) ≡ filter (λ g. serves v (state g (w.seen g))) gs
+  served_ids v [] = refl
+  served_ids v (g ∷ gs) = by_test (serves v (state g (w.seen g))) (served_ids v gs)
+    where
+      by_test : (b : Bool) → map replica_id (filter (λ (r : Replica). serves v r.guild) (map (replica w.seen) gs)) ≡ filter (λ g. serves v (state g (w.seen g))) gs
+          → map replica_id (if b then replica w.seen g ∷ filter (λ (r : Replica). serves v r.guild) (map (replica w.seen) gs) else filter (λ (r : Replica). serves v r.guild) (map (replica w.seen) gs))
+          ≡ (if b then g ∷ filter (λ g. serves v (state g (w.seen g))) gs else filter (λ g. serves v (state g (w.seen g))) gs)
+      by_test true rest = ap (λ n. n ∷ map replica_id (filter (λ (r : Replica). serves v r.guild) (map (replica w.seen) gs))) (state_id g (w.seen g)) ∙ ap (λ ns. g ∷ ns) rest
+      by_test false rest = rest
+
+  greetings : (v : Viewer) (gs : List ℕ) → flat_map (kept_greeting v) (map (replica w.seen) gs) ≡ flat_map (greeting_of w v) gs
+  greetings v [] = refl
+  greetings v (g ∷ gs) = ap (λ ds. greeting_of w v g ++ ds) (greetings v gs)
+
+  listed : (v : Viewer) → kept_listed k v ≡ listed_guilds w v
+  listed v = ap (λ ids. if has_bit v.intents guilds then ids else [])
+      (ap (λ rs. map replica_id (filter (λ (r : Replica). serves v r.guild) rs)) stands.replicas ∙ served_ids v w.guilds)
+
+  pub first_kept : (v : Viewer) (bot : Bot) (n : ℕ) → kept_first k v bot n ≡ first_dispatches w v bot n
+  first_kept v bot n =
+      let creates : flat_map (kept_greeting v) k.replicas ≡ flat_map (greeting_of w v) w.guilds = ap (λ rs. flat_map (kept_greeting v) rs) stands.replicas ∙ greetings v w.guilds in
+      let same : kept_ready k v bot n ≡ ready w v bot n = cc (listed v, stands.url, ap (λ (c : State ℕ). c.worker) stands.core) in
+      cc (creates, same)
+
+  frames_move : (conn : ℕ) (text : List ℕ) → move_of k.core conn text ≡ move_of w.core conn text
+  frames_move conn text = ap (λ (c : State ℕ). move_of c conn text) stands.core ∙ sym (move_kept w.core conn text)
+
+  moved_by : (conn : ℕ) (move : Move) → moved conn k.now (kept_count k) move k.core ≡ kept (framed w conn move).core
+  moved_by conn move =
+      ap (λ c. moved conn k.now (kept_count k) move c) stands.core
+      ∙ (ap (λ n. moved conn n (kept_count k) move (kept w.core)) stands.now
+      ∙ (by_move move ∙ sym (moved_kept w conn w.now move)))
+    where
+      same_count : (bot : Bot) (v : Viewer) (n : ℕ) → kept_count k bot v n ≡ begins_count w bot v n
+      same_count bot v n = ap (λ ds. length ds) (first_kept v bot n) ∙ sym (length-map (first_dispatches w v bot n) _)
+
+      by_move : (move : Move) → moved conn w.now (kept_count k) move (kept w.core) ≡ moved conn w.now (begins_count w) move (kept w.core)
+      by_move Nothing = refl
+      by_move Answers = refl
+      by_move (Shuts code) = refl
+      by_move (Begins bot v) = ap (λ count. record (begun conn bot v (λ n. 0) (kept w.core)) {
+        sessions = (kept w.core).sessions ++ record { number = w.core.made + 1; token = bot.token; name = bot.name; viewer = v; place = Attached conn; sent = count } ∷ [];
+      }) (same_count bot v (w.core.made + 1))
+
+  sent_by : (conn : ℕ) (move : Move) → frame_sends w conn move ≡ kept_frame_sends k conn move
+  sent_by conn Nothing = refl
+  sent_by conn Answers = refl
+  sent_by conn (Shuts code) = refl
+  sent_by conn (Begins bot v) =
+      ap (λ (c : State ℕ). sends (Attached conn) 0 (first_dispatches w v bot (c.made + 1))) (sym stands.core)
+      ∙ ap (λ ds. sends (Attached conn) 0 ds) (sym (first_kept v bot (k.core.made + 1)))
+
+  pub frames : (conn : ℕ) (text : List ℕ) → let move = move_of k.core conn text in
+      Stands (after_frame k conn move (kept_count k)) (taken w (Frame conn text)) × (outputs w (Frame conn text) ≡ kept_frame_sends k conn move)
+  frames conn text = (
+    record {
+      url = stands.url;
+      now = stands.now;
+      guilds = stands.guilds;
+      replicas = stands.replicas;
+      core = ap (λ m. moved conn k.now (kept_count k) m k.core) (frames_move conn text) ∙ moved_by conn (move_of w.core conn text);
+    },
+    ap (λ m. frame_sends w conn m) (sym (frames_move conn text)) ∙ sent_by conn (move_of k.core conn text),
+  )
+
+pub looks_stand : LooksStand
+unfolding LooksStand
+looks_stand k w stands g es r found = looks_at_one k w stands g es r found
+
+pub opens_stand : OpensStand
+unfolding OpensStand
+opens_stand k w stands conn = opens k w stands conn
+
+pub frames_stand : FramesStand
+unfolding FramesStand
+frames_stand k w stands conn text = frames k w stands conn text

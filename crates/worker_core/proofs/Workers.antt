@@ -1,0 +1,210 @@
+-- What was sent to each session of a worker holds after each input.
+use Rattle.edit_events.proofs.Keeps.{edit_keeps}
+use Rattle.edit_events.proofs.Others.{projection_stays, others_stay}
+use Rattle.worker_core.proofs.Logs.{state_is_well, state_id}
+use Rattle.std.proofs.Common.{◌≡◌, ℕ, ◌+◌, ◌≤◌, List, [], ◌∷◌, ◌++◌, Bool, true, false, Option, Some, None, if◌then◌else◌, length, take, map, refl, sym, ap, subst, ◌∙◌, arith, ◌⊎◌, inl}
+use Rattle.std.specs.Prelude.{All, ◌==◌, nat_lt}
+use Rattle.std.proofs.lemmas.List.Elements.{All-map, All-weaker, All-nil, All-push, All-head, All-tail}
+use Rattle.std.proofs.lemmas.List.{take-append-le, length-append}
+use Rattle.std.proofs.Math.Seq.{take-length}
+use Rattle.std.proofs.lemmas.Bool.{eqb-true}
+use Rattle.guild_model.specs.Record.{Record, closed}
+use Rattle.dispatch_types.specs.declared.viewer.Viewer.{Viewer}
+use Rattle.dispatch_types.specs.declared.dispatch.Dispatch.{Dispatch}
+use Rattle.dispatch_types.specs.Fold.{Held, contains, purge, fold_from}
+use Rattle.edit_apply.specs.Edits.{after, state}
+use Rattle.edit_apply.specs.declared.Edit.{Edit}
+use Rattle.edit_events.specs.Due.{owed}
+use Rattle.edit_events.specs.Law.{Agrees, is_built, is_built_viewer}
+use Rattle.session_core.specs.declared.bot.Bot.{Bot}
+use Rattle.session_core.specs.declared.reply.Mark.{Mark}
+use Rattle.session_core.specs.declared.reply.Mark.TheVariants.{Start, Entry}
+use Rattle.session_core.specs.State.{State, Session, Place, Attached, Detached, Ended, is_on, is_live, has_link, released, opened, gone, heard, begun}
+use Rattle.session_core.specs.Frames.{Move, Nothing, Answers, Shuts, Begins, move_of, moved}
+use Rattle.worker_core.specs.World.{Seen, Cursors, cursors, seen_with, Told, told, Sent, Worker, with_sent, entry_owed, after_entry, entered, looked, first_dispatches, begins_with, Input, Look, Open, Frame, framed, taken}
+use Rattle.worker_core.specs.Law.{held, last_cursors}
+use Rattle.worker_core.proofs.Folds.{held_join, state_join, same_id}
+use Rattle.worker_core.proofs.Sessions.{Meets, grown, more_sent}
+use Rattle.worker_core.proofs.Greetings.{first_agrees}
+
+module _ (seen : Seen) (g : ℕ) (e : Edit) where
+  abbrev pub is : Seen
+  is = seen_with seen g e
+
+  prefix_kept : (h p : ℕ) → p ≤ length (seen h) → take p (is h) ≡ take p (seen h)
+  prefix_kept h p le = by_id (g == h)
+    where
+      by_id : (b : Bool) → take p (if b then seen h ++ e ∷ [] else seen h) ≡ take p (seen h)
+      by_id true = take-append-le p (seen h) (e ∷ []) le
+      by_id false = refl
+
+  longer : (h : ℕ) → length (seen h) ≤ length (is h)
+  longer h = by_id (g == h)
+    where
+      by_id : (b : Bool) → length (seen h) ≤ length (if b then seen h ++ e ∷ [] else seen h)
+      by_id true = omega (arith, length-append (seen h) (e ∷ []))
+      by_id false = omega arith
+
+  by_one : (h p : ℕ) → p ≤ length (is h) → (p ≤ length (seen h)) ⊎ (p ≡ length (is h))
+  by_one h p = by_id (g == h)
+    where
+      by_id : (b : Bool) → p ≤ length (if b then seen h ++ e ∷ [] else seen h) → (p ≤ length (seen h)) ⊎ (p ≡ length (if b then seen h ++ e ∷ [] else seen h))
+      by_id true le = grind (arith, length-append (seen h) (e ∷ []))
+      by_id false le = inl le
+
+  -- a client that held the projection holds that of the longer log
+  module _ (v : Viewer) (sent : List Told) (mark : Mark) (built : is_built e ≡ true) (old : Meets seen (cursors seen) v sent) where
+    abbrev pub ds : List Dispatch
+    ds = owed (state g (seen g)) e v
+
+    held_now : is_built_viewer v ≡ true → (h : ℕ) → Agrees (state h (seen h)) v (held v h sent)
+    held_now can h = subst (λ (es : List Edit). Agrees (state h es) v (held v h sent)) (take-length (seen h)) (old.current can h)
+
+    own_more : is_built_viewer v ≡ true → Agrees (state g (seen g ++ e ∷ [])) v (fold_from v.intents g (held v g sent) ds)
+    own_more can =
+        let s : Record = state g (seen g) in
+        let P : ℕ → Type 0 = λ n. Agrees (after s e) v (fold_from v.intents n (held v g sent) ds) in
+        let kept : P s.id = edit_keeps s e v (held v g sent) (state_is_well g (seen g)) built can (held_now can g) in
+        let here : P g = subst P (state_id g (seen g)) kept in
+        subst (λ (t : Record). Agrees t v (fold_from v.intents g (held v g sent) ds)) (sym (state_join (closed g) (seen g) (e ∷ []))) here
+
+    others_more : is_built_viewer v ≡ true → (h : ℕ) → (g == h) ≡ false → Agrees (state h (seen h)) v (fold_from v.intents h (held v h sent) ds)
+    others_more can h differ =
+        let Q : ℕ → Type 0 = λ n. purge v.intents n (held v h sent) ≡ held v h sent in
+        let still : Q h = subst Q (state_id h (seen h)) (projection_stays (state h (seen h)) v (held v h sent) (state_is_well h (seen h)) (held_now can h)) in
+        let apart : ((state g (seen g)).id == h) ≡ false = ap (λ n. n == h) (state_id g (seen g)) ∙ differ in
+        subst (λ (hd : Held). Agrees (state h (seen h)) v hd) (sym (others_stay (state g (seen g)) e v h (held v h sent) built apart still)) (held_now can h)
+
+    held_more : is_built_viewer v ≡ true → (h : ℕ) (b : Bool) → (g == h) ≡ b → Agrees (state h (if b then seen h ++ e ∷ [] else seen h)) v (fold_from v.intents h (held v h sent) ds)
+    held_more can h true same =
+        let here : g ≡ h = eqb-true g h same in
+        subst (λ (n : ℕ). Agrees (state n (seen n ++ e ∷ [])) v (fold_from v.intents n (held v n sent) ds)) here (own_more can)
+    held_more can h false differ = others_more can h differ
+
+    held_after : is_built_viewer v ≡ true → (h : ℕ) → Agrees (state h (is h)) v (held v h (sent ++ told mark (cursors seen) (cursors is) ds))
+    held_after can h = subst (λ (hd : Held). Agrees (state h (is h)) v hd) (sym (held_join v h sent mark (cursors seen) (cursors is) ds)) (held_more can h (g == h) refl)
+
+    pub after_more : Meets is (cursors is) v (sent ++ told mark (cursors seen) (cursors is) ds)
+    after_more = more_sent seen is v sent mark ds prefix_kept longer by_one old.folds old.rises old.past held_after
+
+-- only of a session that has ended the last cursors are kept
+abbrev pub IsMarked : Place → Option Cursors → Type 0
+IsMarked (Attached conn) end = end ≡ None
+IsMarked (Detached since) end = end ≡ None
+IsMarked Ended end = (last : Cursors) × (end ≡ Some last)
+
+pub record SessionMeets (seen : Seen) (x : Session Sent) : Type 0 where
+  pub meets : Meets seen (last_cursors (cursors seen) x) x.viewer x.sent.told
+  pub marked : IsMarked x.place x.sent.end
+
+abbrev at : Session Sent → Place → Option Cursors → Session Sent
+at x place end = record x { place = place; sent = record { told = x.sent.told; end = end } }
+
+session_entered : (seen : Seen) (g : ℕ) (e : Edit) → is_built e ≡ true → (x : Session Sent) → SessionMeets seen x → SessionMeets (seen_with seen g e) (after_entry seen g e x)
+session_entered seen g e built x = by_place x.place x.sent.end
+  where
+    live_on : (place : Place) → is_live place ≡ true → IsMarked place None → Meets seen (cursors seen) x.viewer x.sent.told → SessionMeets (seen_with seen g e) (after_entry seen g e (at x place None))
+    live_on (Attached conn) live marked old = record { meets = after_more seen g e x.viewer x.sent.told (Entry g (length (seen g) + 1)) built old; marked = refl }
+    live_on (Detached since) live marked old = record { meets = after_more seen g e x.viewer x.sent.told (Entry g (length (seen g) + 1)) built old; marked = refl }
+    live_on Ended live marked old = absurd (cc live)
+
+    by_place : (place : Place) (end : Option Cursors) → SessionMeets seen (at x place end) → SessionMeets (seen_with seen g e) (after_entry seen g e (at x place end))
+    by_place (Attached conn) None old = live_on (Attached conn) refl refl old.meets
+    by_place (Attached conn) (Some last) old = absurd (cc (old.marked))
+    by_place (Detached since) None old = live_on (Detached since) refl refl old.meets
+    by_place (Detached since) (Some last) old = absurd (cc (old.marked))
+    by_place Ended None old = absurd (cc (old.marked.1))
+    by_place Ended (Some last) old = record {
+      meets = grown seen (seen_with seen g e) last x.viewer x.sent.told
+          (λ h p le. prefix_kept seen g e h p (omega (arith, old.meets.within h, le)))
+          (λ h. omega (arith, old.meets.within h, longer seen g e h)) old.meets;
+      marked = old.marked;
+    }
+
+pub record Follows (w : Worker) : Type 0 where
+  pub sessions : All (SessionMeets w.seen) w.core.sessions
+  pub strangers : (g : ℕ) → contains g w.guilds ≡ false → w.seen g ≡ []
+
+entered_follows : (w : Worker) (g : ℕ) (e : Edit) → is_built e ≡ true → contains g w.guilds ≡ true → Follows w → Follows (entered w g e)
+entered_follows w g e built there old = record {
+  sessions = All-map (SessionMeets (seen_with w.seen g e)) (after_entry w.seen g e) w.core.sessions
+      (All-weaker (SessionMeets w.seen) (λ x. SessionMeets (seen_with w.seen g e) (after_entry w.seen g e x)) (session_entered w.seen g e built) w.core.sessions old.sessions);
+  strangers = λ h none. by_id h none (g == h) refl;
+}
+  where
+    by_id : (h : ℕ) → contains h w.guilds ≡ false → (b : Bool) → (g == h) ≡ b → (if b then w.seen h ++ e ∷ [] else w.seen h) ≡ []
+    by_id h none true same = let here : g ≡ h = eqb-true g h same in absurd (cc (ap (λ n. contains n w.guilds) here))
+    by_id h none false differ = old.strangers h none
+
+pub AreBuilt : List Edit → Type 0
+AreBuilt es = All (λ e. is_built e ≡ true) es
+
+looked_follows : (es : List Edit) (w : Worker) (g : ℕ) → All (λ e. is_built e ≡ true) es → contains g w.guilds ≡ true → Follows w → Follows (looked w g es)
+looked_follows [] w g built there old = old
+looked_follows (e ∷ es) w g built there old = looked_follows es (entered w g e) g (All-tail (λ e. is_built e ≡ true) e es built) there
+    (entered_follows w g e (All-head (λ e. is_built e ≡ true) e es built) there old)
+
+-- a session whose connection is gone goes on detached
+released_meets : (seen : Seen) (conn now : ℕ) (x : Session Sent) → SessionMeets seen x → SessionMeets seen (released conn (Detached now) x)
+released_meets seen conn now x = by_place x.place
+  where
+    choose : (b : Bool) (c : ℕ) → SessionMeets seen (record x { place = Attached c }) → SessionMeets seen (if b then record x { place = Detached now } else record x { place = Attached c })
+    choose true c old = record { meets = old.meets; marked = old.marked }
+    choose false c old = old
+
+    by_place : (place : Place) → SessionMeets seen (record x { place = place }) → SessionMeets seen (released conn (Detached now) (record x { place = place }))
+    by_place (Attached c) old = choose (c == conn) c old
+    by_place (Detached since) old = old
+    by_place Ended old = old
+
+gone_follows : (w : Worker) (conn : ℕ) → Follows w → Follows (record w { core = gone conn (Detached w.now) w.core })
+gone_follows w conn old = record {
+  sessions = All-map (SessionMeets w.seen) (released conn (Detached w.now)) w.core.sessions
+      (All-weaker (SessionMeets w.seen) (λ x. SessionMeets w.seen (released conn (Detached w.now) x)) (released_meets w.seen conn w.now) w.core.sessions old.sessions);
+  strangers = old.strangers;
+}
+
+begun_follows : (w : Worker) (conn : ℕ) (bot : Bot) (v : Viewer) → Follows w → Follows (record w { core = begun conn bot v (begins_with w bot v) w.core })
+begun_follows w conn bot v old = record {
+  sessions = All-push (SessionMeets w.seen) w.core.sessions _ old.sessions (record {
+    meets = more_sent w.seen w.seen v [] Start (first_dispatches w v bot (w.core.made + 1)) (λ g p le. refl) (λ g. omega arith) (λ g p le. inl le)
+        (λ can earlier t later e settled g p low high. absurd (none earlier t later e)) tt (All-nil (λ t. (g : ℕ) → t.before g ≤ cursors w.seen g))
+        (λ can h. subst (λ (hd : Held). Agrees (state h (w.seen h)) v hd) (sym (held_join v h [] Start (cursors w.seen) (cursors w.seen) (first_dispatches w v bot (w.core.made + 1))))
+        (first_agrees w v h bot (w.core.made + 1) (old.strangers h)));
+    marked = refl;
+  });
+  strangers = old.strangers;
+}
+  where
+    none : (earlier : List Told) (t : Told) (later : List Told) → [] ≡ earlier ++ t ∷ later → ⊥
+    none [] t later e = cc
+    none (x ∷ earlier) t later e = cc
+
+framed_follows : (w : Worker) (conn : ℕ) (move : Move) → Follows w → Follows (framed w conn move)
+framed_follows w conn Nothing old = old
+framed_follows w conn Answers old = record { sessions = old.sessions; strangers = old.strangers }
+framed_follows w conn (Shuts code) old = gone_follows w conn old
+framed_follows w conn (Begins bot viewer) old = begun_follows w conn bot viewer old
+
+opened_follows : (w : Worker) (conn : ℕ) → Follows w → Follows (record w { core = opened conn w.now w.core })
+opened_follows w conn old = by_link (has_link conn w.core) (nat_lt (length w.core.links) 64)
+  where
+    by_link : (b c : Bool) → Follows (record w { core = if b then w.core else (if c then record w.core { links = w.core.links ++ record { number = conn; heard = w.now } ∷ [] } else w.core) })
+    by_link true c = old
+    by_link false true = record { sessions = old.sessions; strangers = old.strangers }
+    by_link false false = old
+
+-- of a look, that its entries are built
+abbrev pub InputIsBuilt : Input → Type 0
+InputIsBuilt (Look g es) = All (λ e. is_built e ≡ true) es
+InputIsBuilt (Open conn) = Unit {0}
+InputIsBuilt (Frame conn text) = Unit {0}
+
+pub taken_follows : (i : Input) (w : Worker) → InputIsBuilt i → Follows w → Follows (taken w i)
+taken_follows (Look g es) w built old = by_there (contains g w.guilds) refl
+  where
+    by_there : (b : Bool) → contains g w.guilds ≡ b → Follows (if b then looked w g es else w)
+    by_there true there = looked_follows es w g built there old
+    by_there false none = old
+taken_follows (Open conn) w built old = opened_follows w conn old
+taken_follows (Frame conn text) w built old = framed_follows w conn (move_of w.core conn text) old

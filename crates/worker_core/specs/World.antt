@@ -1,0 +1,191 @@
+-- Workers that follow the logs of guilds, their sessions, and what a list of steps makes of them
+-- (Gateway, Connection Lifecycle).
+use Rattle.std.specs.Prelude.{ℕ, ◌+◌, List, [], ◌∷◌, ◌++◌, Bool, true, false, not, ◌==◌, ◌&&◌, Option, Some, None, is_some, if◌then◌else◌, length, nat_lt, map, filter, drop, flat_map, decimal, codes}
+use Rattle.collections.specs.ById.{put_all}
+use Rattle.perm_bits.specs.Bits.{has_bit}
+use Rattle.intent_set.specs.Intents.{guilds}
+use Rattle.intent_set.specs.Asks.{asks}
+use Rattle.guild_model.specs.Record.{Record, own_id}
+use Rattle.guild_model.specs.declared.member.Member.{Member}
+use Rattle.dispatch_types.specs.declared.viewer.Viewer.{Viewer}
+use Rattle.dispatch_types.specs.declared.dispatch.Ready.{Ready as Greeted}
+use Rattle.dispatch_types.specs.declared.dispatch.Dispatch.{Dispatch}
+use Rattle.dispatch_types.specs.declared.dispatch.Dispatch.TheVariants.{Ready, GuildCreate}
+use Rattle.dispatch_types.specs.Serves.{served, serves}
+use Rattle.dispatch_types.specs.Fold.{contains}
+use Rattle.edit_apply.specs.Edits.{state}
+use Rattle.edit_apply.specs.declared.Edit.{Edit}
+use Rattle.edit_events.specs.Greeting.{greeting}
+use Rattle.edit_events.specs.Due.{owed}
+use Rattle.gateway_frames.specs.declared.out.Out.{Out}
+use Rattle.gateway_frames.specs.declared.out.Out.TheVariants.{Hello, Ack}
+use Rattle.session_core.specs.declared.bot.Bot.{Bot}
+use Rattle.session_core.specs.declared.reply.Mark.{Mark}
+use Rattle.session_core.specs.declared.reply.Mark.TheVariants.{Start, Entry}
+use Rattle.session_core.specs.State.{State, Session, Place, Attached, Detached, Ended, is_live, has_link, opened, no_sessions}
+use Rattle.session_core.specs.Frames.{Move, Nothing, Answers, Shuts, Begins, move_of, moved}
+
+-- the entries that a worker has handled, by guild
+abbrev pub Seen : Type 0
+Seen = ℕ → List Edit
+
+abbrev pub Cursors : Type 0
+Cursors = ℕ → ℕ
+
+abbrev pub cursors : Seen → Cursors
+cursors seen g = length (seen g)
+
+abbrev pub seen_with : Seen → ℕ → Edit → Seen
+seen_with seen g e h = if g == h then seen h ++ e ∷ [] else seen h
+
+-- a dispatch as it was made, with the cursors before the entry or frame that made it, and just after
+pub record Told : Type 0 where
+  pub mark : Mark
+  pub dispatch : Dispatch
+  pub before : Cursors
+  pub after : Cursors
+
+abbrev pub told : Mark → Cursors → Cursors → List Dispatch → List Told
+told mark before after ds = map (λ d. record { mark = mark; dispatch = d; before = before; after = after }) ds
+
+-- all dispatches of a session, and the cursors of its worker as it ended
+pub record Sent : Type 0 where
+  pub told : List Told
+  pub end : Option Cursors
+
+pub record Worker : Type 0 where
+  pub url : List ℕ
+  pub guilds : List ℕ
+  pub now : ℕ
+  pub seen : Seen
+  pub core : State Sent
+
+-- what goes out
+pub data Output : Type 0 where
+  Says : (conn : ℕ) (out : Out) → Output
+  Tells : (conn number : ℕ) (dispatch : Dispatch) → Output
+  Closes : (conn code : ℕ) → Output
+
+-- the dispatches of a session after its number n, on their way to its connection
+abbrev pub sends : Place → ℕ → List Dispatch → List Output
+sends (Attached conn) n [] = []
+sends (Attached conn) n (d ∷ ds) = Tells conn (n + 1) d ∷ sends (Attached conn) (n + 1) ds
+sends (Detached since) n ds = []
+sends Ended n ds = []
+
+abbrev pub with_sent : List Told → Session Sent → Session Sent
+with_sent ts x = if is_live x.place then record x { sent = record x.sent { told = x.sent.told ++ ts } } else x
+
+-- one entry handled, by each session that has not ended
+module _ (seen : Seen) (g : ℕ) (e : Edit) where
+  abbrev pub entry_owed : Session Sent → List Dispatch
+  entry_owed x = owed (state g (seen g)) e x.viewer
+
+  abbrev pub after_entry : Session Sent → Session Sent
+  after_entry x = with_sent (told (Entry g (length (seen g) + 1)) (cursors seen) (cursors (seen_with seen g e)) (entry_owed x)) x
+
+  abbrev pub entry_sends : Session Sent → List Output
+  entry_sends x = sends x.place (length x.sent.told) (entry_owed x)
+
+abbrev pub with_sessions : List (Session Sent) → State Sent → State Sent
+with_sessions xs s = record s { sessions = xs }
+
+abbrev pub entered : Worker → ℕ → Edit → Worker
+entered w g e = record w { seen = seen_with w.seen g e; core = with_sessions (map (after_entry w.seen g e) w.core.sessions) w.core }
+
+abbrev pub looked : Worker → ℕ → List Edit → Worker
+looked w g [] = w
+looked w g (e ∷ es) = looked (entered w g e) g es
+
+abbrev pub look_sends : Worker → ℕ → List Edit → List Output
+look_sends w g [] = []
+look_sends w g (e ∷ es) = flat_map (entry_sends w.seen g e) w.core.sessions ++ look_sends (entered w g e) g es
+
+-- a session's first dispatches: READY, then each served guild that is available (Gateway Events, Ready)
+abbrev pub session_id : ℕ → ℕ → List ℕ
+session_id worker n = codes "w" ++ (decimal worker ++ (codes "s" ++ decimal n))
+
+abbrev pub greeting_for : Viewer → Record → Option Member → List Dispatch
+greeting_for viewer s None = []
+greeting_for viewer s (Some me) = if has_bit viewer.intents guilds && not s.outage then GuildCreate (greeting s viewer me) ∷ [] else []
+
+module _ (w : Worker) (viewer : Viewer) where
+  abbrev pub record_of : ℕ → Record
+  record_of g = state g (w.seen g)
+
+  abbrev pub listed_guilds : List ℕ
+  listed_guilds = if has_bit viewer.intents guilds then filter (λ g. serves viewer (record_of g)) w.guilds else []
+
+  abbrev pub greeting_of : ℕ → List Dispatch
+  greeting_of g = greeting_for viewer (record_of g) (served viewer (record_of g))
+
+  abbrev pub ready : Bot → ℕ → Greeted
+  ready bot n = record {
+    user = record { id = viewer.user; name = bot.name; bot = true };
+    guilds = listed_guilds;
+    session = session_id w.core.worker n;
+    url = w.url;
+    shard = viewer.shard;
+  }
+
+  abbrev pub first_dispatches : Bot → ℕ → List Dispatch
+  first_dispatches bot n = Ready (ready bot n) ∷ flat_map greeting_of w.guilds
+
+abbrev pub begins_with : Worker → Bot → Viewer → ℕ → Sent
+begins_with w bot viewer n = record { told = told Start (cursors w.seen) (cursors w.seen) (first_dispatches w viewer bot n); end = None }
+
+-- what comes to a worker
+pub data Input : Type 0 where
+  Look : (guild : ℕ) (entries : List Edit) → Input
+  Open : (conn : ℕ) → Input
+  Frame : (conn : ℕ) (text : List ℕ) → Input
+
+abbrev pub framed : Worker → ℕ → Move → Worker
+framed w conn move = record w { core = moved conn w.now (begins_with w) move w.core }
+
+abbrev pub frame_sends : Worker → ℕ → Move → List Output
+frame_sends w conn Nothing = []
+frame_sends w conn Answers = Says conn Ack ∷ []
+frame_sends w conn (Shuts code) = Closes conn code ∷ []
+frame_sends w conn (Begins bot viewer) = sends (Attached conn) 0 (first_dispatches w viewer bot (w.core.made + 1))
+
+abbrev pub open_sends : {A : Type 0} → ℕ → State A → List Output
+open_sends conn s = if has_link conn s then [] else (if nat_lt (length s.links) 64 then Says conn (Hello 41250) ∷ [] else Closes conn 4000 ∷ [])
+
+abbrev pub taken : Worker → Input → Worker
+taken w (Look g es) = if contains g w.guilds then looked w g es else w
+taken w (Open conn) = record w { core = opened conn w.now w.core }
+taken w (Frame conn text) = framed w conn (move_of w.core conn text)
+
+abbrev pub outputs : Worker → Input → List Output
+outputs w (Look g es) = if contains g w.guilds then look_sends w g es else []
+outputs w (Open conn) = open_sends conn w.core
+outputs w (Frame conn text) = frame_sends w conn (move_of w.core conn text)
+
+pub record World : Type 0 where
+  pub logs : ℕ → List Edit
+  pub workers : List Worker
+
+-- an atomic step: one entry of a log, or an input of the worker of a number
+pub data Step : Type 0 where
+  Edits : (guild : ℕ) (edit : Edit) → Step
+  Looks : (worker guild : ℕ) → Step
+  Opens : (worker conn : ℕ) → Step
+  Frames : (worker conn : ℕ) (text : List ℕ) → Step
+
+-- the worker of this number, moved
+abbrev pub at_worker : ℕ → (Worker → Worker) → World → World
+at_worker n f m = record m { workers = map (λ (w : Worker). if w.core.worker == n then f w else w) m.workers }
+
+abbrev pub stepped : World → Step → World
+stepped m (Edits g e) = record m { logs = seen_with m.logs g e }
+stepped m (Looks n g) = at_worker n (λ w. taken w (Look g (drop (length (w.seen g)) (m.logs g)))) m
+stepped m (Opens n conn) = at_worker n (λ w. taken w (Open conn)) m
+stepped m (Frames n conn text) = at_worker n (λ w. taken w (Frame conn text)) m
+
+abbrev pub run : World → List Step → World
+run m [] = m
+run m (s ∷ ss) = run (stepped m s) ss
+
+abbrev pub first_worker : List Bot → List ℕ → ℕ → List ℕ → Worker
+first_worker bots ids number url = record { url = url; guilds = put_all own_id [] ids; now = 0; seen = λ g. []; core = no_sessions number bots }

@@ -1,0 +1,28 @@
+//! The laws over every run, as functions whose contracts are the statements.
+ghost use Rattle.worker_core.specs.Law.{EachRunHolds, EachSendHolds};
+ghost use Rattle.worker_core.specs.Stands.{LooksStand, OpensStand, FramesStand};
+
+/// Whatever steps come, what a session was sent folds to the projection of one prefix of each log.
+pub fn projection_of_a_prefix()
+    ensures { EachRunHolds }
+{}
+
+/// Each dispatch that goes out is that of its number of the session that the connection has.
+pub fn sends_are_of_sessions()
+    ensures { EachSendHolds }
+{}
+
+/// A look, on what a worker keeps, is that of every worker that it stands for.
+pub fn looks_stand()
+    ensures { LooksStand }
+{}
+
+/// The same of a connection that opens.
+pub fn opens_stand()
+    ensures { OpensStand }
+{}
+
+/// The same of a frame.
+pub fn frames_stand()
+    ensures { FramesStand }
+{}
