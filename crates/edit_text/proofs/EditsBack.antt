@@ -1,0 +1,141 @@
+-- The line of an edit reads back, nests little and has no float.
+use Rattle.std.proofs.Common.{◌≡◌, ℕ, ◌<◌, ◌≤◌, ◌^◌, List, Bool, true, false, ◌&&◌, Option, Some, None, Result, Ok, Err, codes, refl, arith}
+use Rattle.std.specs.Prelude.{nat_lt}
+use Rattle.std.proofs.lemmas.Bool.Decides.{nat_tests}
+use Rattle.serde_json.specs.Data.{Data, depth}
+use Rattle.serde_json.specs.Written.{has_float}
+use Rattle.serde_json.proofs.OnLiterals.{serde_json_on_literals}
+use Rattle.snowflake_id.proofs.Texts.{id_of_decimal}
+use Rattle.guild_model.specs.declared.moment.TheConstants.{END_OF_TIME}
+use Rattle.edit_apply.specs.declared.Edit.{Edit}
+use Rattle.edit_apply.specs.declared.Edit.TheVariants as edit
+use Rattle.edit_apply.specs.declared.guild.GuildEdit.{GuildEdit}
+use Rattle.edit_apply.specs.declared.guild.GuildEdit.TheVariants.{GuildOpen, GuildRename, GuildOwner, GuildOutage, GuildBack}
+use Rattle.role_member_edit.specs.declared.RoleMemberEdit.{RoleMemberEdit}
+use Rattle.role_member_edit.specs.declared.RoleMemberEdit.TheVariants.{RoleCreate, RoleUpdate, RoleDelete, MemberAdd, MemberRemove, MemberNick, MemberTimeout, MemberRoleAdd, MemberRoleRemove}
+use Rattle.edit_text.specs.declared.line.Line.TheVariants.{Edit as EditLine}
+use Rattle.edit_text.specs.Fields.{text_at, id_at}
+use Rattle.edit_text.specs.Fits.{IdFits, MaskFits, MomentFits, NullableMomentFits, GuildEditFits, RoleMemberEditFits, EditFits}
+use Rattle.edit_text.specs.Names.{name_text}
+use Rattle.edit_text.specs.Edits.{edit_from, edit_name}
+use Rattle.edit_text.specs.Written.{line_data, edit_within, role_member_within}
+
+-- the line of an edit says so, and names its guild and the edit
+abbrev pub ReadsAs : ℕ → Edit → Data → Type 0
+ReadsAs guild e d = (text_at (codes "step") d ≡ Ok (codes "edit")) × (id_at (codes "guild") d ≡ Ok guild)
+    × (text_at (codes "do") d ≡ Ok (name_text (edit_name e))) × (edit_from (edit_name e) d ≡ Ok e)
+
+abbrev pub Back : ℕ → Edit → Type 0
+Back guild e = ReadsAs guild e (line_data (EditLine guild e))
+
+pub mask_below : (mask : ℕ) → MaskFits mask → nat_lt mask (2 ^ 53) ≡ true
+mask_below mask h = grind (arith, nat_tests, h)
+
+mask_as_id : (mask : ℕ) → MaskFits mask → IdFits mask
+mask_as_id mask h = omega (arith, h)
+
+pub moment_below : (at : ℕ) → MomentFits at → nat_lt at END_OF_TIME ≡ true
+moment_below at h = grind (arith, nat_tests, h)
+
+guild_open_back : (guild : ℕ) (name : List ℕ) (owner : ℕ) (owner_name : List ℕ) (perms at : ℕ)
+    → IdFits guild → IdFits owner → MaskFits perms → MomentFits at → Back guild (edit.Guild (GuildOpen name owner owner_name perms at))
+unfolding serde_json_on_literals
+guild_open_back guild name owner owner_name perms at h k m t = (
+  refl,
+  rw (id_of_decimal guild h) refl,
+  refl,
+  rw (id_of_decimal owner k, id_of_decimal perms (mask_as_id perms m), mask_below perms m, moment_below at t) refl,
+)
+
+guild_back : (guild : ℕ) (e : GuildEdit) → IdFits guild → GuildEditFits e → Back guild (edit.Guild e)
+unfolding serde_json_on_literals
+guild_back guild (GuildOpen name owner owner_name perms at) h k = guild_open_back guild name owner owner_name perms at h k.0 k.1 k.2
+guild_back guild (GuildRename name) h k = (refl, rw (id_of_decimal guild h) refl, refl, refl)
+guild_back guild (GuildOwner user) h k = (refl, rw (id_of_decimal guild h) refl, refl, rw (id_of_decimal user k) refl)
+guild_back guild GuildOutage h k = (refl, rw (id_of_decimal guild h) refl, refl, refl)
+guild_back guild GuildBack h k = (refl, rw (id_of_decimal guild h) refl, refl, refl)
+
+role_create_back : (guild role : ℕ) (name : List ℕ) (perms position : ℕ) → IdFits guild → IdFits role → MaskFits perms → nat_lt position (2 ^ 31) ≡ true
+    → Back guild (edit.RoleMember (RoleCreate role name perms position))
+unfolding serde_json_on_literals
+role_create_back guild role name perms position h k m p =
+    (refl, rw (id_of_decimal guild h) refl, refl, rw (id_of_decimal role k, id_of_decimal perms (mask_as_id perms m), mask_below perms m, p) refl)
+
+role_update_back : (guild role : ℕ) (name : List ℕ) (perms position : ℕ) → IdFits guild → IdFits role → MaskFits perms → nat_lt position (2 ^ 31) ≡ true
+    → Back guild (edit.RoleMember (RoleUpdate role name perms position))
+unfolding serde_json_on_literals
+role_update_back guild role name perms position h k m p =
+    (refl, rw (id_of_decimal guild h) refl, refl, rw (id_of_decimal role k, id_of_decimal perms (mask_as_id perms m), mask_below perms m, p) refl)
+
+member_nick_back : (guild user : ℕ) (nick : Option (List ℕ)) → IdFits guild → IdFits user → Back guild (edit.RoleMember (MemberNick user nick))
+unfolding serde_json_on_literals
+member_nick_back guild user None h k = (refl, rw (id_of_decimal guild h) refl, refl, rw (id_of_decimal user k) refl)
+member_nick_back guild user (Some nick) h k = (refl, rw (id_of_decimal guild h) refl, refl, rw (id_of_decimal user k) refl)
+
+member_timeout_back : (guild user : ℕ) (until : Option ℕ) → IdFits guild → IdFits user → NullableMomentFits until
+    → Back guild (edit.RoleMember (MemberTimeout user until))
+unfolding serde_json_on_literals
+member_timeout_back guild user None h k t = (refl, rw (id_of_decimal guild h) refl, refl, rw (id_of_decimal user k) refl)
+member_timeout_back guild user (Some until) h k t =
+    (refl, rw (id_of_decimal guild h) refl, refl, rw (id_of_decimal user k, moment_below until t) refl)
+
+role_member_back : (guild : ℕ) (e : RoleMemberEdit) → IdFits guild → RoleMemberEditFits e → role_member_within e ≡ true → Back guild (edit.RoleMember e)
+unfolding serde_json_on_literals
+role_member_back guild (RoleCreate role name perms position) h k p = role_create_back guild role name perms position h k.0 k.1 p
+role_member_back guild (RoleUpdate role name perms position) h k p = role_update_back guild role name perms position h k.0 k.1 p
+role_member_back guild (RoleDelete role) h k p = (refl, rw (id_of_decimal guild h) refl, refl, rw (id_of_decimal role k) refl)
+role_member_back guild (MemberAdd user name bot at) h k p =
+    (refl, rw (id_of_decimal guild h) refl, refl, rw (id_of_decimal user k.0, moment_below at k.1) refl)
+role_member_back guild (MemberRemove user) h k p = (refl, rw (id_of_decimal guild h) refl, refl, rw (id_of_decimal user k) refl)
+role_member_back guild (MemberNick user nick) h k p = member_nick_back guild user nick h k
+role_member_back guild (MemberTimeout user until) h k p = member_timeout_back guild user until h k.0 k.1
+role_member_back guild (MemberRoleAdd user role) h k p =
+    (refl, rw (id_of_decimal guild h) refl, refl, rw (id_of_decimal user k.0, id_of_decimal role k.1) refl)
+role_member_back guild (MemberRoleRemove user role) h k p =
+    (refl, rw (id_of_decimal guild h) refl, refl, rw (id_of_decimal user k.0, id_of_decimal role k.1) refl)
+
+pub edit_back : (guild : ℕ) (e : Edit) → IdFits guild → EditFits e → edit_within e ≡ true → Back guild e
+edit_back guild (edit.Guild e) h k p = guild_back guild e h k
+edit_back guild (edit.RoleMember e) h k p = role_member_back guild e h k p
+
+-- ---- plain values
+
+abbrev pub Plain : Data → Type 0
+Plain d = (depth d ≤ 2) × (has_float d ≡ false)
+
+abbrev PlainEdit : ℕ → Edit → Type 0
+PlainEdit guild e = Plain (line_data (EditLine guild e))
+
+guild_plain : (guild : ℕ) (e : GuildEdit) → PlainEdit guild (edit.Guild e)
+unfolding serde_json_on_literals
+guild_plain guild (GuildOpen name owner owner_name perms at) = (omega arith, refl)
+guild_plain guild (GuildRename name) = (omega arith, refl)
+guild_plain guild (GuildOwner user) = (omega arith, refl)
+guild_plain guild GuildOutage = (omega arith, refl)
+guild_plain guild GuildBack = (omega arith, refl)
+
+nick_plain : (guild user : ℕ) (nick : Option (List ℕ)) → PlainEdit guild (edit.RoleMember (MemberNick user nick))
+unfolding serde_json_on_literals
+nick_plain guild user None = (omega arith, refl)
+nick_plain guild user (Some nick) = (omega arith, refl)
+
+timeout_plain : (guild user : ℕ) (until : Option ℕ) → PlainEdit guild (edit.RoleMember (MemberTimeout user until))
+unfolding serde_json_on_literals
+timeout_plain guild user None = (omega arith, refl)
+timeout_plain guild user (Some until) = (omega arith, refl)
+
+role_member_plain : (guild : ℕ) (e : RoleMemberEdit) → PlainEdit guild (edit.RoleMember e)
+unfolding serde_json_on_literals
+role_member_plain guild (RoleCreate role name perms position) = (omega arith, refl)
+role_member_plain guild (RoleUpdate role name perms position) = (omega arith, refl)
+role_member_plain guild (RoleDelete role) = (omega arith, refl)
+role_member_plain guild (MemberAdd user name bot at) = (omega arith, refl)
+role_member_plain guild (MemberRemove user) = (omega arith, refl)
+role_member_plain guild (MemberNick user nick) = nick_plain guild user nick
+role_member_plain guild (MemberTimeout user until) = timeout_plain guild user until
+role_member_plain guild (MemberRoleAdd user role) = (omega arith, refl)
+role_member_plain guild (MemberRoleRemove user role) = (omega arith, refl)
+
+pub edit_plain : (guild : ℕ) (e : Edit) → PlainEdit guild e
+edit_plain guild (edit.Guild e) = guild_plain guild e
+edit_plain guild (edit.RoleMember e) = role_member_plain guild e

@@ -1,0 +1,4 @@
+pub mod IntentBits
+pub mod EditsBack
+pub mod LinesBack
+pub mod Built

@@ -1,0 +1,20 @@
+-- Answers that may want memory.
+use Rattle.std.specs.Prelude.{◌≡◌, ◌⊎◌, Result, Ok, Err}
+use Rattle.json_view.specs.declared.fields.ViewFault.{ViewFault}
+use Rattle.json_view.specs.declared.fields.ViewFault.TheVariants as view
+use Rattle.edit_text.specs.declared.fault.LineFault.{LineFault}
+use Rattle.edit_text.specs.declared.fault.LineFault.TheVariants.{Memory, Missing, WrongType}
+
+-- this answer, or want of memory
+abbrev pub UnlessMemory : {A : Type 0} → Result A LineFault → Result A LineFault → Type 0
+UnlessMemory result answer = (result ≡ Err Memory) ⊎ (result ≡ answer)
+
+-- a field that is missing is told apart from one that is of another kind
+abbrev pub fault_of : ViewFault → LineFault
+fault_of view.Missing = Missing
+fault_of view.WrongType = WrongType
+fault_of (view.BadId bad) = WrongType
+
+abbrev pub faulted : {A : Type 0} → Result A ViewFault → Result A LineFault
+faulted (Ok a) = Ok a
+faulted (Err fault) = Err (fault_of fault)

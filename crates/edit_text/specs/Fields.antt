@@ -1,0 +1,63 @@
+-- The fields of a line, by their kinds.
+use Rattle.std.specs.Prelude.{ℕ, ◌^◌, ◌==◌, List, Bool, nat_lt, if◌then◌else◌, Option, Some, None, Result, Ok, Err}
+use Rattle.std.specs.Int.RustNames.{bit_and}
+use Rattle.serde_json.specs.Data.{Data}
+use Rattle.std.specs.Option.{ok_or}
+use Rattle.serde_json.specs.Find.{as_str}
+use Rattle.json_view.specs.Fields.{and_then, field, unless_null, whole, text_field, id_field, number_field, flag_field}
+use Rattle.guild_model.specs.declared.moment.TheConstants.{END_OF_TIME}
+use Rattle.edit_text.specs.declared.fault.LineFault.{LineFault}
+use Rattle.edit_text.specs.declared.fault.LineFault.TheVariants.{WrongType}
+use Rattle.edit_text.specs.Fault.{faulted}
+
+abbrev pub text_at : List ℕ → Data → Result (List ℕ) LineFault
+text_at name d = faulted (text_field name d)
+
+abbrev pub id_at : List ℕ → Data → Result ℕ LineFault
+id_at name d = faulted (id_field name d)
+
+abbrev pub flag_at : List ℕ → Data → Result Bool LineFault
+flag_at name d = faulted (flag_field name d)
+
+abbrev pub within : Bool → ℕ → Result ℕ LineFault
+within fits n = if fits then Ok n else Err WrongType
+
+-- a whole number below a limit
+abbrev pub number_below : ℕ → List ℕ → Data → Result ℕ LineFault
+number_below limit name d = and_then (faulted (number_field name d)) (λ n. within (nat_lt n limit) n)
+
+-- a set of permissions, written as an id is (Permissions, Bitwise Permission Flags)
+abbrev pub mask_at : List ℕ → Data → Result ℕ LineFault
+mask_at name d = and_then (id_at name d) (λ n. within (nat_lt n (2 ^ 53)) n)
+
+-- milliseconds since 1970, before the year 10000
+abbrev pub moment_at : List ℕ → Data → Result ℕ LineFault
+moment_at name d = number_below END_OF_TIME name d
+
+abbrev pub position_at : List ℕ → Data → Result ℕ LineFault
+position_at name d = number_below (2 ^ 31) name d
+
+-- what reads a value, where it is not null
+abbrev pub or_null : {A : Type 0} → (Data → Result A LineFault) → Option Data → Result (Option A) LineFault
+or_null read None = Ok None
+or_null read (Some v) = and_then (read v) (λ a. Ok (Some a))
+
+-- a field that may be null, and has to be there
+abbrev pub nullable_at : {A : Type 0} → (Data → Result A LineFault) → List ℕ → Data → Result (Option A) LineFault
+nullable_at read name d = and_then (faulted (field name d)) (λ v. or_null read (unless_null v))
+
+abbrev pub nullable_text_at : List ℕ → Data → Result (Option (List ℕ)) LineFault
+nullable_text_at name d = nullable_at (λ v. ok_or (as_str v) WrongType) name d
+
+abbrev pub moment_from : Data → Result ℕ LineFault
+moment_from v = and_then (ok_or (whole v) WrongType) (λ n. within (nat_lt n END_OF_TIME) n)
+
+abbrev pub nullable_moment_at : List ℕ → Data → Result (Option ℕ) LineFault
+nullable_moment_at name d = nullable_at moment_from name d
+
+-- no bit but those of intents, which together are 53608447 (Gateway, List of Intents)
+unfoldable pub are_intents : ℕ → Bool
+are_intents n = bit_and n 53608447 == n
+
+abbrev pub intents_at : List ℕ → Data → Result ℕ LineFault
+intents_at name d = and_then (faulted (number_field name d)) (λ n. within (are_intents n) n)

@@ -1,0 +1,61 @@
+-- Fields within the ranges of their types.
+use Rattle.std.specs.Prelude.{◌≡◌, ℕ, ◌<◌, ◌^◌, true, Option, Some, None}
+use Rattle.guild_model.specs.declared.moment.TheConstants.{END_OF_TIME}
+use Rattle.edit_apply.specs.declared.Edit.{Edit}
+use Rattle.edit_apply.specs.declared.Edit.TheVariants as edit
+use Rattle.edit_apply.specs.declared.guild.GuildEdit.{GuildEdit}
+use Rattle.edit_apply.specs.declared.guild.GuildEdit.TheVariants.{GuildOpen, GuildRename, GuildOwner, GuildOutage, GuildBack}
+use Rattle.role_member_edit.specs.declared.RoleMemberEdit.{RoleMemberEdit}
+use Rattle.role_member_edit.specs.declared.RoleMemberEdit.TheVariants.{RoleCreate, RoleUpdate, RoleDelete, MemberAdd, MemberRemove, MemberNick, MemberTimeout, MemberRoleAdd, MemberRoleRemove}
+use Rattle.edit_text.specs.declared.line.Line.{Line}
+use Rattle.edit_text.specs.declared.line.Line.TheVariants.{Bot, Guild, Edit as EditLine, Look, Open, Frame, Lost, Closed, Tick}
+use Rattle.edit_text.specs.Fields.{are_intents}
+
+abbrev pub IdFits : ℕ → Type 0
+IdFits id = id < 2 ^ 64
+
+abbrev pub MaskFits : ℕ → Type 0
+MaskFits mask = mask < 2 ^ 53
+
+abbrev pub MomentFits : ℕ → Type 0
+MomentFits at = at < END_OF_TIME
+
+abbrev pub NullableMomentFits : Option ℕ → Type 0
+NullableMomentFits None = Unit {0}
+NullableMomentFits (Some at) = MomentFits at
+
+abbrev pub ConnectionFits : ℕ → Type 0
+ConnectionFits conn = conn < 2 ^ 32
+
+abbrev pub GuildEditFits : GuildEdit → Type 0
+GuildEditFits (GuildOpen name owner owner_name perms at) = IdFits owner × MaskFits perms × MomentFits at
+GuildEditFits (GuildRename name) = Unit {0}
+GuildEditFits (GuildOwner user) = IdFits user
+GuildEditFits GuildOutage = Unit {0}
+GuildEditFits GuildBack = Unit {0}
+
+abbrev pub RoleMemberEditFits : RoleMemberEdit → Type 0
+RoleMemberEditFits (RoleCreate role name perms position) = IdFits role × MaskFits perms
+RoleMemberEditFits (RoleUpdate role name perms position) = IdFits role × MaskFits perms
+RoleMemberEditFits (RoleDelete role) = IdFits role
+RoleMemberEditFits (MemberAdd user name bot at) = IdFits user × MomentFits at
+RoleMemberEditFits (MemberRemove user) = IdFits user
+RoleMemberEditFits (MemberNick user nick) = IdFits user
+RoleMemberEditFits (MemberTimeout user until) = IdFits user × NullableMomentFits until
+RoleMemberEditFits (MemberRoleAdd user role) = IdFits user × IdFits role
+RoleMemberEditFits (MemberRoleRemove user role) = IdFits user × IdFits role
+
+abbrev pub EditFits : Edit → Type 0
+EditFits (edit.Guild e) = GuildEditFits e
+EditFits (edit.RoleMember e) = RoleMemberEditFits e
+
+abbrev pub LineFits : Line → Type 0
+LineFits (Bot token user name privileged) = IdFits user × (are_intents privileged ≡ true)
+LineFits (Guild id) = IdFits id
+LineFits (EditLine guild edit) = IdFits guild × EditFits edit
+LineFits (Look worker guild) = IdFits guild
+LineFits (Open worker conn) = ConnectionFits conn
+LineFits (Frame conn text) = ConnectionFits conn
+LineFits (Lost conn) = ConnectionFits conn
+LineFits (Closed conn code) = ConnectionFits conn × (code < 2 ^ 16)
+LineFits (Tick worker now) = Unit {0}

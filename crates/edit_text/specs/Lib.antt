@@ -1,0 +1,11 @@
+pub mod Fault
+pub mod Fields
+pub mod Members
+pub mod Names
+pub mod GuildEdits
+pub mod RoleMemberEdits
+pub mod Edits
+pub mod Lines
+pub mod Written
+pub mod Fits
+pub mod Built

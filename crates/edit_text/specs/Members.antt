@@ -1,0 +1,18 @@
+-- The members of a line, put in byte order of their keys.
+use Rattle.std.specs.Prelude.{ℕ, List, [], ◌∷◌, Option, Some, None, decimal}
+use Rattle.serde_json.specs.Data.{Data, null, number, unsigned, string, Members, put}
+
+abbrev pub count : ℕ → Data
+count n = number (unsigned n)
+
+-- ids and permissions are written as texts
+abbrev pub id_data : ℕ → Data
+id_data id = string (decimal id)
+
+abbrev pub nullable : {A : Type 0} → (A → Data) → Option A → Data
+nullable data_of None = null
+nullable data_of (Some a) = data_of a
+
+abbrev pub put_all : Members → List (List ℕ × Data) → Members
+put_all ms [] = ms
+put_all ms (f ∷ fs) = put_all (put f.0 f.1 ms) fs

@@ -1,0 +1,152 @@
+-- The names of steps and of edits, and which of them may be used.
+use Rattle.std.specs.Prelude.{ℕ, List, Bool, true, false, ◌&&◌, Option, Some, None, option_map, option_and_then, if◌then◌else◌, codes}
+use Rattle.std.specs.Str.{bytes_eq}
+use Rattle.edit_text.specs.declared.names.StepName.{StepName}
+use Rattle.edit_text.specs.declared.names.StepName.TheVariants as step
+use Rattle.edit_text.specs.declared.names.GuildEditName.{GuildEditName}
+use Rattle.edit_text.specs.declared.names.GuildEditName.TheVariants.{GuildOpen, GuildRename, GuildOwner, GuildOutage, GuildBack}
+use Rattle.edit_text.specs.declared.names.RoleMemberEditName.{RoleMemberEditName}
+use Rattle.edit_text.specs.declared.names.RoleMemberEditName.TheVariants.{RoleCreate, RoleUpdate, RoleDelete, MemberAdd, MemberRemove, MemberNick, MemberTimeout, MemberRoleAdd, MemberRoleRemove}
+use Rattle.edit_text.specs.declared.names.EditName.{EditName}
+use Rattle.edit_text.specs.declared.names.EditName.TheVariants.{Guild, RoleMember}
+
+-- the first of two that is there
+abbrev pub first_named : {A : Type 0} → Option A → Option A → Option A
+first_named (Some a) other = Some a
+first_named None other = other
+
+-- ---- steps
+
+unfoldable pub step_named : List ℕ → Option StepName
+step_named s =
+    if bytes_eq s (codes "bot") then Some step.Bot
+    else (if bytes_eq s (codes "guild") then Some step.Guild
+    else (if bytes_eq s (codes "edit") then Some step.Edit
+    else (if bytes_eq s (codes "look") then Some step.Look
+    else (if bytes_eq s (codes "tick") then Some step.Tick
+    else None))))
+
+unfoldable pub connection_step_named : List ℕ → Option StepName
+connection_step_named s =
+    if bytes_eq s (codes "open") then Some step.Open
+    else (if bytes_eq s (codes "frame") then Some step.Frame
+    else (if bytes_eq s (codes "lost") then Some step.Lost
+    else (if bytes_eq s (codes "closed") then Some step.Closed
+    else None)))
+
+abbrev pub any_step_named : List ℕ → Option StepName
+any_step_named s = first_named (step_named s) (connection_step_named s)
+
+abbrev pub step_text : StepName → List ℕ
+step_text step.Bot = codes "bot"
+step_text step.Guild = codes "guild"
+step_text step.Edit = codes "edit"
+step_text step.Look = codes "look"
+step_text step.Open = codes "open"
+step_text step.Frame = codes "frame"
+step_text step.Lost = codes "lost"
+step_text step.Closed = codes "closed"
+step_text step.Tick = codes "tick"
+
+-- the lines that come before all others
+abbrev pub is_head : StepName → Bool
+is_head step.Bot = true
+is_head step.Guild = true
+is_head step.Edit = false
+is_head step.Look = false
+is_head step.Open = false
+is_head step.Frame = false
+is_head step.Lost = false
+is_head step.Closed = false
+is_head step.Tick = false
+
+-- the steps that may be used
+abbrev pub is_built_step : StepName → Bool
+is_built_step step.Bot = true
+is_built_step step.Guild = true
+is_built_step step.Edit = true
+is_built_step step.Look = true
+is_built_step step.Open = true
+is_built_step step.Frame = true
+is_built_step step.Lost = false
+is_built_step step.Closed = false
+is_built_step step.Tick = false
+
+-- ---- edits
+
+unfoldable pub guild_edit_named : List ℕ → Option GuildEditName
+guild_edit_named s =
+    if bytes_eq s (codes "guild_open") then Some GuildOpen
+    else (if bytes_eq s (codes "guild_rename") then Some GuildRename
+    else (if bytes_eq s (codes "guild_owner") then Some GuildOwner
+    else (if bytes_eq s (codes "guild_outage") then Some GuildOutage
+    else (if bytes_eq s (codes "guild_back") then Some GuildBack
+    else None))))
+
+unfoldable pub role_edit_named : List ℕ → Option RoleMemberEditName
+role_edit_named s =
+    if bytes_eq s (codes "role_create") then Some RoleCreate
+    else (if bytes_eq s (codes "role_update") then Some RoleUpdate
+    else (if bytes_eq s (codes "role_delete") then Some RoleDelete
+    else None))
+
+unfoldable pub member_edit_named : List ℕ → Option RoleMemberEditName
+member_edit_named s =
+    if bytes_eq s (codes "member_add") then Some MemberAdd
+    else (if bytes_eq s (codes "member_remove") then Some MemberRemove
+    else (if bytes_eq s (codes "member_nick") then Some MemberNick
+    else (if bytes_eq s (codes "member_timeout") then Some MemberTimeout
+    else (if bytes_eq s (codes "member_role_add") then Some MemberRoleAdd
+    else (if bytes_eq s (codes "member_role_remove") then Some MemberRoleRemove
+    else None)))))
+
+abbrev pub edit_named : List ℕ → Option EditName
+edit_named s =
+    first_named (option_map Guild (guild_edit_named s)) (first_named (option_map RoleMember (role_edit_named s))
+    (option_map RoleMember (member_edit_named s)))
+
+abbrev pub guild_edit_text : GuildEditName → List ℕ
+guild_edit_text GuildOpen = codes "guild_open"
+guild_edit_text GuildRename = codes "guild_rename"
+guild_edit_text GuildOwner = codes "guild_owner"
+guild_edit_text GuildOutage = codes "guild_outage"
+guild_edit_text GuildBack = codes "guild_back"
+
+abbrev pub role_member_edit_text : RoleMemberEditName → List ℕ
+role_member_edit_text RoleCreate = codes "role_create"
+role_member_edit_text RoleUpdate = codes "role_update"
+role_member_edit_text RoleDelete = codes "role_delete"
+role_member_edit_text MemberAdd = codes "member_add"
+role_member_edit_text MemberRemove = codes "member_remove"
+role_member_edit_text MemberNick = codes "member_nick"
+role_member_edit_text MemberTimeout = codes "member_timeout"
+role_member_edit_text MemberRoleAdd = codes "member_role_add"
+role_member_edit_text MemberRoleRemove = codes "member_role_remove"
+
+abbrev pub name_text : EditName → List ℕ
+name_text (Guild name) = guild_edit_text name
+name_text (RoleMember name) = role_member_edit_text name
+
+-- the edits that may be used
+abbrev pub is_built : EditName → Bool
+is_built (Guild GuildOpen) = true
+is_built (Guild GuildRename) = true
+is_built (Guild GuildOwner) = false
+is_built (Guild GuildOutage) = false
+is_built (Guild GuildBack) = false
+is_built (RoleMember RoleCreate) = false
+is_built (RoleMember RoleUpdate) = false
+is_built (RoleMember RoleDelete) = false
+is_built (RoleMember MemberAdd) = true
+is_built (RoleMember MemberRemove) = false
+is_built (RoleMember MemberNick) = false
+is_built (RoleMember MemberTimeout) = false
+is_built (RoleMember MemberRoleAdd) = false
+is_built (RoleMember MemberRoleRemove) = false
+
+abbrev pub if_built : EditName → Option EditName
+if_built name = if is_built name then Some name else None
+
+-- the edit of a name, where it may be used
+abbrev pub built_edit : List ℕ → Option EditName
+built_edit s = option_and_then if_built (edit_named s)

@@ -1,0 +1,56 @@
+//! Edits by their names.
+
+ghost use Rattle.std.specs.Prelude.{◌≡◌, OnOk};
+ghost use Rattle.serde_json.specs.View.{view, members_view};
+ghost use Rattle.edit_text.specs.Fault.{UnlessMemory};
+ghost use Rattle.edit_text.specs.Fits.{EditFits};
+ghost use Rattle.edit_text.specs.Members.{put_all};
+ghost use Rattle.edit_text.specs.Edits.{edit_from, edit_name, edit_fields};
+
+mod guild;
+mod role_member;
+
+use crate::LineFault;
+use crate::names::EditName;
+use edit_apply::Edit;
+use serde_json::{Map, Value};
+use std::alloc::{AllocError, Global};
+
+/// The edit of this name, from the fields of an object.
+pub fn read(alloc: Global, name: EditName, object: &Value) -> Result<Edit, LineFault>
+    ensures { UnlessMemory result (edit_from name (view object.now)) }
+{
+    match name {
+        EditName::Guild(name) => Ok(Edit::Guild(guild::read(alloc, name, object)?)),
+        EditName::RoleMember(name) => {
+            Ok(Edit::RoleMember(role_member::read(alloc, name, object)?))
+        }
+    }
+}
+
+/// The name of an edit.
+pub fn name_of(edit: &Edit) -> EditName
+    ensures { result ≡ edit_name edit.now }
+{
+    match edit {
+        Edit::Guild(edit) => EditName::Guild(guild::name_of(edit)),
+        Edit::RoleMember(edit) => EditName::RoleMember(role_member::name_of(edit)),
+    }
+}
+
+/// Puts the fields of an edit into an object.
+pub fn put(alloc: Global, members: &mut Map<String, Value>, edit: &Edit) -> Result<(), AllocError>
+    ensures put { OnOk result (members_view members.new.entries ≡ put_all (members_view members.old.entries) (edit_fields edit.now)) }
+    ensures fits { OnOk result (EditFits edit.now) }
+{
+    match edit {
+        Edit::Guild(edit) => {
+            guild::put(alloc, members, edit)?;
+            Ok(())
+        }
+        Edit::RoleMember(edit) => {
+            role_member::put(alloc, members, edit)?;
+            Ok(())
+        }
+    }
+}

@@ -1,0 +1,183 @@
+//! The fields of a line, by their kinds.
+
+ghost use Rattle.std.specs.Prelude.{◌≡◌, option_map};
+ghost use Rattle.std.specs.Result.{result_map_both};
+ghost use Rattle.std.specs.Prelude.{nat_lt};
+ghost use Rattle.std.specs.Option.{ok_or};
+ghost use Rattle.json_view.specs.Fields.{and_then};
+ghost use Rattle.guild_model.specs.declared.moment.TheConstants.{END_OF_TIME};
+ghost use Rattle.edit_text.specs.declared.fault.LineFault.TheVariants.{WrongType};
+ghost use Rattle.serde_json.specs.View.{view};
+ghost use Rattle.edit_text.specs.Fault.{UnlessMemory, fault_of};
+ghost use Rattle.edit_text.specs.Fields.{text_at, id_at, flag_at, number_below, within, are_intents, mask_at, moment_at, position_at, nullable_text_at, nullable_moment_at, intents_at};
+
+use crate::LineFault;
+use collections::Text;
+use guild_model::Moment;
+use intent_set::Intents;
+use json_view::{ViewFault, field_of, flag_of, id_of, number_of, text_of};
+use perm_bits::Perms;
+use serde_json::Value;
+use snowflake_id::Snowflake;
+use std::alloc::Global;
+
+fn fault_of(fault: ViewFault) -> LineFault
+    ensures { result ≡ fault_of fault }
+{
+    match fault {
+        ViewFault::Missing => LineFault::Missing,
+        ViewFault::WrongType => LineFault::WrongType,
+        ViewFault::BadId(_) => LineFault::WrongType,
+    }
+}
+
+pub fn text_at<'a>(object: &'a Value, name: &str) -> Result<&'a str, LineFault>
+    ensures { result_map_both (λ s. s.now) (λ e. e) result ≡ text_at name.now (view object.now) }
+{
+    match text_of(object, name) {
+        Err(fault) => Err(fault_of(fault)),
+        Ok(text) => Ok(text),
+    }
+}
+
+pub fn id_at(object: &Value, name: &str) -> Result<Snowflake, LineFault>
+    ensures { result ≡ id_at name.now (view object.now) }
+{
+    match id_of(object, name) {
+        Err(fault) => Err(fault_of(fault)),
+        Ok(id) => Ok(Snowflake(id)),
+    }
+}
+
+pub fn flag_at(object: &Value, name: &str) -> Result<bool, LineFault>
+    ensures { result ≡ flag_at name.now (view object.now) }
+{
+    match flag_of(object, name) {
+        Err(fault) => Err(fault_of(fault)),
+        Ok(flag) => Ok(flag),
+    }
+}
+
+/// A whole number below a limit.
+pub fn number_below(object: &Value, name: &str, limit: u64) -> Result<u64, LineFault>
+    ensures { result ≡ number_below limit name.now (view object.now) }
+{
+    match number_of(object, name) {
+        Err(fault) => Err(fault_of(fault)),
+        Ok(number) => {
+            if number < limit {
+                Ok(number)
+            } else {
+                Err(LineFault::WrongType)
+            }
+        }
+    }
+}
+
+/// A set of permissions.
+pub fn mask_at(object: &Value, name: &str) -> Result<Perms, LineFault>
+    ensures { result ≡ mask_at name.now (view object.now) }
+{
+    match id_of(object, name) {
+        Err(fault) => Err(fault_of(fault)),
+        Ok(mask) => match Perms::of_mask(mask) {
+            Err(_) => Err(LineFault::WrongType),
+            Ok(perms) => Ok(perms),
+        },
+    }
+}
+
+/// A moment in milliseconds since 1970.
+pub fn moment_at(object: &Value, name: &str) -> Result<Moment, LineFault>
+    ensures { result ≡ moment_at name.now (view object.now) }
+{
+    match number_of(object, name) {
+        Err(fault) => Err(fault_of(fault)),
+        Ok(millis) => match Moment::of_millis(millis) {
+            Err(_) => Err(LineFault::WrongType),
+            Ok(moment) => Ok(moment),
+        },
+    }
+}
+
+/// The place of a role or a channel.
+pub fn position_at(object: &Value, name: &str) -> Result<u32, LineFault>
+    ensures { result ≡ position_at name.now (view object.now) }
+{
+    match number_of(object, name) {
+        Err(fault) => Err(fault_of(fault)),
+        Ok(number) => {
+            if number < 1 << 31 {
+                Ok(number as u32)
+            } else {
+                Err(LineFault::WrongType)
+            }
+        }
+    }
+}
+
+/// A text or null, which has to be there.
+pub fn nullable_text_at(
+    alloc: Global,
+    object: &Value,
+    name: &str,
+) -> Result<Option<Text>, LineFault>
+    ensures { UnlessMemory result (nullable_text_at name.now (view object.now)) }
+{
+    match field_of(object, name) {
+        Err(fault) => Err(fault_of(fault)),
+        Ok(Value::Null) => Ok(None),
+        Ok(value) => match value.as_str() {
+            None => Err(LineFault::WrongType),
+            Some(text) => {
+                let text = Text::new(alloc, text)?;
+                Ok(Some(text))
+            }
+        },
+    }
+}
+
+fn moment_from(millis: Option<u64>) -> Result<Moment, LineFault>
+    ensures { result ≡ and_then (ok_or millis WrongType) (λ n. within (nat_lt n END_OF_TIME) n) }
+{
+    let Some(millis) = millis else {
+        return Err(LineFault::WrongType);
+    };
+    match Moment::of_millis(millis) {
+        Err(_) => Err(LineFault::WrongType),
+        Ok(moment) => Ok(moment),
+    }
+}
+
+/// A moment or null, which has to be there.
+pub fn nullable_moment_at(object: &Value, name: &str) -> Result<Option<Moment>, LineFault>
+    ensures { result ≡ nullable_moment_at name.now (view object.now) }
+{
+    match field_of(object, name) {
+        Err(fault) => Err(fault_of(fault)),
+        Ok(Value::Null) => Ok(None),
+        Ok(value) => match moment_from(value.as_u64()) {
+            Err(fault) => Err(fault),
+            Ok(moment) => Ok(Some(moment)),
+        },
+    }
+}
+
+fn intents_from(bits: u64) -> Result<Intents, LineFault>
+    ensures { result ≡ within (are_intents bits) bits }
+{
+    match Intents::of_bits(bits) {
+        Err(_) => Err(LineFault::WrongType),
+        Ok(intents) => Ok(intents),
+    }
+}
+
+/// A set of intents.
+pub fn intents_at(object: &Value, name: &str) -> Result<Intents, LineFault>
+    ensures { result ≡ intents_at name.now (view object.now) }
+{
+    match number_of(object, name) {
+        Err(fault) => Err(fault_of(fault)),
+        Ok(bits) => intents_from(bits),
+    }
+}

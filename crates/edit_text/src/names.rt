@@ -1,0 +1,281 @@
+//! The names of steps and of edits, and which of them may be used.
+
+ghost use Rattle.std.specs.Prelude.{◌≡◌};
+ghost use Rattle.edit_text.specs.Names.{first_named, step_named, connection_step_named, any_step_named, step_text, is_head, is_built_step, guild_edit_named, role_edit_named, member_edit_named, edit_named, guild_edit_text, role_member_edit_text, name_text, is_built, built_edit};
+
+/// A step, by its name.
+#[derive(Clone, Copy, PartialEq, Eq, Debug)]
+pub enum StepName {
+    Bot,
+    Guild,
+    Edit,
+    Look,
+    Open,
+    Frame,
+    Lost,
+    Closed,
+    Tick,
+}
+
+/// An edit of the guild itself, by its name.
+#[derive(Clone, Copy, PartialEq, Eq, Debug)]
+pub enum GuildEditName {
+    GuildOpen,
+    GuildRename,
+    GuildOwner,
+    GuildOutage,
+    GuildBack,
+}
+
+/// An edit of roles or members, by its name.
+#[derive(Clone, Copy, PartialEq, Eq, Debug)]
+pub enum RoleMemberEditName {
+    RoleCreate,
+    RoleUpdate,
+    RoleDelete,
+    MemberAdd,
+    MemberRemove,
+    MemberNick,
+    MemberTimeout,
+    MemberRoleAdd,
+    MemberRoleRemove,
+}
+
+/// An edit, by its name.
+#[derive(Clone, Copy, PartialEq, Eq, Debug)]
+pub enum EditName {
+    Guild(GuildEditName),
+    RoleMember(RoleMemberEditName),
+}
+
+#[tactic(auto, unfolding(crate::specs::Names::step_named))]
+fn step_named(name: &str) -> Option<StepName>
+    ensures { result ≡ step_named name.now }
+{
+    if name == "bot" {
+        return Some(StepName::Bot);
+    }
+    if name == "guild" {
+        return Some(StepName::Guild);
+    }
+    if name == "edit" {
+        return Some(StepName::Edit);
+    }
+    if name == "look" {
+        return Some(StepName::Look);
+    }
+    if name == "tick" {
+        return Some(StepName::Tick);
+    }
+    None
+}
+
+#[tactic(auto, unfolding(crate::specs::Names::connection_step_named))]
+fn connection_step_named(name: &str) -> Option<StepName>
+    ensures { result ≡ connection_step_named name.now }
+{
+    if name == "open" {
+        return Some(StepName::Open);
+    }
+    if name == "frame" {
+        return Some(StepName::Frame);
+    }
+    if name == "lost" {
+        return Some(StepName::Lost);
+    }
+    if name == "closed" {
+        return Some(StepName::Closed);
+    }
+    None
+}
+
+impl StepName {
+    /// The step of a name.
+    pub fn of(name: &str) -> Option<StepName>
+        ensures { result ≡ any_step_named name.now }
+    {
+        if let Some(step) = step_named(name) {
+            return Some(step);
+        }
+        connection_step_named(name)
+    }
+
+    /// The name of a step.
+    pub fn text(self) -> &'static str
+        ensures { result.now ≡ step_text self }
+    {
+        match self {
+            StepName::Bot => "bot",
+            StepName::Guild => "guild",
+            StepName::Edit => "edit",
+            StepName::Look => "look",
+            StepName::Open => "open",
+            StepName::Frame => "frame",
+            StepName::Lost => "lost",
+            StepName::Closed => "closed",
+            StepName::Tick => "tick",
+        }
+    }
+
+    /// Whether the lines of this step come before all others.
+    pub fn is_head(self) -> bool
+        ensures { result ≡ is_head self }
+    {
+        matches!(self, StepName::Bot | StepName::Guild)
+    }
+
+    /// Whether lines of this step may be used.
+    pub fn is_built(self) -> bool
+        ensures { result ≡ is_built_step self }
+    {
+        !matches!(self, StepName::Lost | StepName::Closed | StepName::Tick)
+    }
+}
+
+#[tactic(auto, unfolding(crate::specs::Names::guild_edit_named))]
+fn guild_edit_named(name: &str) -> Option<GuildEditName>
+    ensures { result ≡ guild_edit_named name.now }
+{
+    if name == "guild_open" {
+        return Some(GuildEditName::GuildOpen);
+    }
+    if name == "guild_rename" {
+        return Some(GuildEditName::GuildRename);
+    }
+    if name == "guild_owner" {
+        return Some(GuildEditName::GuildOwner);
+    }
+    if name == "guild_outage" {
+        return Some(GuildEditName::GuildOutage);
+    }
+    if name == "guild_back" {
+        return Some(GuildEditName::GuildBack);
+    }
+    None
+}
+
+#[tactic(auto, unfolding(crate::specs::Names::role_edit_named))]
+fn role_edit_named(name: &str) -> Option<RoleMemberEditName>
+    ensures { result ≡ role_edit_named name.now }
+{
+    if name == "role_create" {
+        return Some(RoleMemberEditName::RoleCreate);
+    }
+    if name == "role_update" {
+        return Some(RoleMemberEditName::RoleUpdate);
+    }
+    if name == "role_delete" {
+        return Some(RoleMemberEditName::RoleDelete);
+    }
+    None
+}
+
+#[tactic(auto, unfolding(crate::specs::Names::member_edit_named))]
+fn member_edit_named(name: &str) -> Option<RoleMemberEditName>
+    ensures { result ≡ member_edit_named name.now }
+{
+    if name == "member_add" {
+        return Some(RoleMemberEditName::MemberAdd);
+    }
+    if name == "member_remove" {
+        return Some(RoleMemberEditName::MemberRemove);
+    }
+    if name == "member_nick" {
+        return Some(RoleMemberEditName::MemberNick);
+    }
+    if name == "member_timeout" {
+        return Some(RoleMemberEditName::MemberTimeout);
+    }
+    if name == "member_role_add" {
+        return Some(RoleMemberEditName::MemberRoleAdd);
+    }
+    if name == "member_role_remove" {
+        return Some(RoleMemberEditName::MemberRoleRemove);
+    }
+    None
+}
+
+impl GuildEditName {
+    /// The name of an edit.
+    pub fn text(self) -> &'static str
+        ensures { result.now ≡ guild_edit_text self }
+    {
+        match self {
+            GuildEditName::GuildOpen => "guild_open",
+            GuildEditName::GuildRename => "guild_rename",
+            GuildEditName::GuildOwner => "guild_owner",
+            GuildEditName::GuildOutage => "guild_outage",
+            GuildEditName::GuildBack => "guild_back",
+        }
+    }
+}
+
+impl RoleMemberEditName {
+    /// The name of an edit.
+    pub fn text(self) -> &'static str
+        ensures { result.now ≡ role_member_edit_text self }
+    {
+        match self {
+            RoleMemberEditName::RoleCreate => "role_create",
+            RoleMemberEditName::RoleUpdate => "role_update",
+            RoleMemberEditName::RoleDelete => "role_delete",
+            RoleMemberEditName::MemberAdd => "member_add",
+            RoleMemberEditName::MemberRemove => "member_remove",
+            RoleMemberEditName::MemberNick => "member_nick",
+            RoleMemberEditName::MemberTimeout => "member_timeout",
+            RoleMemberEditName::MemberRoleAdd => "member_role_add",
+            RoleMemberEditName::MemberRoleRemove => "member_role_remove",
+        }
+    }
+}
+
+impl EditName {
+    /// The edit of a name.
+    pub fn of(name: &str) -> Option<EditName>
+        ensures { result ≡ edit_named name.now }
+    {
+        if let Some(edit) = guild_edit_named(name) {
+            return Some(EditName::Guild(edit));
+        }
+        if let Some(edit) = role_edit_named(name) {
+            return Some(EditName::RoleMember(edit));
+        }
+        if let Some(edit) = member_edit_named(name) {
+            return Some(EditName::RoleMember(edit));
+        }
+        None
+    }
+
+    /// The name of an edit.
+    pub fn text(self) -> &'static str
+        ensures { result.now ≡ name_text self }
+    {
+        match self {
+            EditName::Guild(edit) => edit.text(),
+            EditName::RoleMember(edit) => edit.text(),
+        }
+    }
+
+    /// Whether edits of this name may be used.
+    pub fn is_built(self) -> bool
+        ensures { result ≡ is_built self }
+    {
+        match self {
+            EditName::Guild(edit) => matches!(
+                edit,
+                GuildEditName::GuildOpen | GuildEditName::GuildRename
+            ),
+            EditName::RoleMember(edit) => matches!(edit, RoleMemberEditName::MemberAdd),
+        }
+    }
+
+    /// The edit of a name that may be used.
+    pub fn built(name: &str) -> Option<EditName>
+        ensures { result ≡ built_edit name.now }
+    {
+        match EditName::of(name) {
+            None => None,
+            Some(edit) => { if edit.is_built() { Some(edit) } else { None } }
+        }
+    }
+}

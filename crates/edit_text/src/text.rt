@@ -1,0 +1,139 @@
+ghost use Rattle.std.specs.Prelude.{◌≡◌, ◌≤◌, length, true, Ok, Some, IfOk, OnOk, string_bytes};
+ghost use Rattle.serde_json.specs.View.{view, members_view};
+ghost use Rattle.serde_json.specs.Written.{compact_text};
+ghost use Rattle.edit_text.specs.declared.reader.StepReader.{StepReader};
+ghost use Rattle.edit_text.specs.Fits.{IdFits, EditFits, ConnectionFits, LineFits};
+ghost use Rattle.edit_text.specs.Members.{put_all};
+ghost use Rattle.edit_text.specs.Lines.{line_of};
+ghost use Rattle.edit_text.specs.Written.{step_name, line_fields, line_data, allows};
+
+use crate::members::{put_id, put_intents, put_number, put_str, put_text};
+use crate::names::StepName;
+use crate::{Line, edits};
+use edit_apply::Edit;
+use serde_json::{Map, Value};
+use snowflake_id::Snowflake;
+use std::alloc::{AllocError, Global};
+
+fn put_edit(
+    alloc: Global,
+    members: &mut Map<String, Value>,
+    guild: Snowflake,
+    edit: &Edit,
+) -> Result<(), AllocError>
+    ensures put { OnOk result (members_view members.new.entries ≡ put_all (members_view members.old.entries) (line_fields (Line.Edit guild edit.now))) }
+    ensures fits { OnOk result (IdFits guild × EditFits edit.now) }
+{
+    put_id(alloc, members, "guild", guild)?;
+    put_str(alloc, members, "do", edits::name_of(edit).text())?;
+    edits::put(alloc, members, edit)?;
+    Ok(())
+}
+
+fn put_connection(
+    alloc: Global,
+    members: &mut Map<String, Value>,
+    conn: u32,
+) -> Result<(), AllocError>
+    ensures put { OnOk result (members_view members.new.entries ≡ put_all (members_view members.old.entries) (line_fields (Line.Lost conn))) }
+    ensures fits { OnOk result (ConnectionFits conn) }
+{
+    put_number(alloc, members, "conn", u64::from(conn))?;
+    Ok(())
+}
+
+impl Line {
+    fn step(&self) -> StepName
+        ensures { result ≡ step_name self.now }
+    {
+        match self {
+            Line::Bot { .. } => StepName::Bot,
+            Line::Guild { .. } => StepName::Guild,
+            Line::Edit { .. } => StepName::Edit,
+            Line::Look { .. } => StepName::Look,
+            Line::Open { .. } => StepName::Open,
+            Line::Frame { .. } => StepName::Frame,
+            Line::Lost { .. } => StepName::Lost,
+            Line::Closed { .. } => StepName::Closed,
+            Line::Tick { .. } => StepName::Tick,
+        }
+    }
+
+    fn put(&self, alloc: Global, members: &mut Map<String, Value>) -> Result<(), AllocError>
+        ensures put { OnOk result (members_view members.new.entries ≡ put_all (members_view members.old.entries) (line_fields self.now)) }
+        ensures fits { OnOk result (LineFits self.now) }
+    {
+        match self {
+            Line::Bot {
+                token,
+                user,
+                name,
+                privileged,
+            } => {
+                put_text(alloc, members, "token", token)?;
+                put_id(alloc, members, "user", *user)?;
+                put_text(alloc, members, "name", name)?;
+                put_intents(alloc, members, "privileged", *privileged)?;
+                Ok(())
+            }
+            Line::Guild { id } => {
+                put_id(alloc, members, "id", *id)?;
+                Ok(())
+            }
+            Line::Edit { guild, edit } => {
+                put_edit(alloc, members, *guild, edit)?;
+                Ok(())
+            }
+            Line::Look { worker, guild } => {
+                put_number(alloc, members, "worker", u64::from(*worker))?;
+                put_id(alloc, members, "guild", *guild)?;
+                Ok(())
+            }
+            Line::Open { worker, conn } => {
+                put_number(alloc, members, "worker", u64::from(*worker))?;
+                put_connection(alloc, members, *conn)?;
+                Ok(())
+            }
+            Line::Frame { conn, text } => {
+                put_connection(alloc, members, *conn)?;
+                put_text(alloc, members, "text", text)?;
+                Ok(())
+            }
+            Line::Lost { conn } => {
+                put_connection(alloc, members, *conn)?;
+                Ok(())
+            }
+            Line::Closed { conn, code } => {
+                put_connection(alloc, members, *conn)?;
+                put_number(alloc, members, "code", u64::from(*code))?;
+                Ok(())
+            }
+            Line::Tick { worker, now } => {
+                put_number(alloc, members, "worker", u64::from(*worker))?;
+                put_number(alloc, members, "now", *now)?;
+                Ok(())
+            }
+        }
+    }
+
+    fn value(&self, alloc: Global) -> Result<Value, AllocError>
+        ensures value { IfOk result (λ v. view v ≡ line_data self.now) }
+        ensures fits { OnOk result (LineFits self.now) }
+    {
+        let mut members = Map::new(alloc);
+        put_str(alloc, &mut members, "step", self.step().text())?;
+        self.put(alloc, &mut members)?;
+        Ok(Value::Object(members))
+    }
+
+    /// The text of the line, without spaces and with its keys in byte order. Ids and permissions
+    /// are written as texts, and a field without a value as null. A reader that allows the line
+    /// reads it back, where the text has at most 65,536 bytes.
+    pub fn text(&self, alloc: Global) -> Result<String, AllocError>
+        ensures text { IfOk result (λ text. string_bytes text ≡ compact_text (line_data self.now)) }
+        ensures reads_back { IfOk result (λ text. (reader : StepReader) → allows reader self.now ≡ true → length (string_bytes text) ≤ 65536 → line_of reader (string_bytes text) ≡ Ok (Some self.now)) }
+    {
+        let value = self.value(alloc)?;
+        value.to_string(alloc)
+    }
+}
