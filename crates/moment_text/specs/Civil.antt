@@ -1,11 +1,7 @@
 -- The date of a day, counted from 1 January 1970, in the Gregorian calendar.
 use Rattle.std.specs.Prelude.{ℕ, zero, suc, ◌+◌, ◌-◌, nat_lt, if◌then◌else◌, pos}
+use Rattle.moment_text.specs.declared.civil.Civil.{Civil}
 use Rattle.jiff.specs.Words.{days_in_year, days_in_month}
-
-pub record Civil : Type 0 where
-  pub year : ℕ
-  pub month : ℕ
-  pub day : ℕ
 
 -- the day that comes `left` days after the first of a month: in that month, or in one of the next
 unfoldable pub from_month : ℕ → ℕ → ℕ → ℕ → Civil

@@ -1,6 +1,7 @@
 -- Moments as text (API Reference, ISO8601 Date/Time).
 use Rattle.std.specs.Prelude.{ℕ, ◌+◌, ◌*◌, ◌/◌, ◌%◌, List, [], ◌∷◌, ◌++◌, codes}
-use Rattle.moment_text.specs.Civil.{Civil, civil}
+use Rattle.moment_text.specs.declared.civil.Civil.{Civil}
+use Rattle.moment_text.specs.Civil.{civil}
 
 -- decimal digits, with zeros before the number
 abbrev pub two : ℕ → List ℕ

@@ -1,6 +1,7 @@
 //! Moments as text, and text as moments.
 #![tactic(auto)]
 
+mod civil;
 mod digits;
 mod writing;
 

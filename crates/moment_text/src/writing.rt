@@ -1,10 +1,10 @@
 ghost use Rattle.std.specs.Prelude.{◌≡◌, ◌<◌, ◌≤ℤ◌, ◌++◌, ◌*◌, ◌/◌, ◌%◌, pos, IfOk, OnOk, string_bytes, codes};
 ghost use Rattle.jiff.specs.Words.{civil_nanos};
 ghost use Rattle.jiff_core.specs.Time.{time_seconds};
-ghost use Rattle.moment_text.specs.Civil.{civil};
 ghost use Rattle.moment_text.specs.Text.{date_text, clock_text, three, time_text};
-ghost use Rattle.moment_text.specs.Shown.{date_shown};
+ghost use Rattle.moment_text.specs.Shown.{date_shown, IsShort};
 
+use crate::civil::Civil;
 use crate::digits::{push_four, push_three, push_two};
 use guild_model::Moment;
 use jiff::Timestamp;
@@ -20,15 +20,34 @@ fn shown(moment: Moment) -> DateTime
     Offset::UTC.to_datetime(instant)
 }
 
-fn push_date(text: &mut String, at: DateTime) -> Result<(), AllocError>
+fn date_of(at: DateTime) -> Civil
     requires { pos 0 ≤ℤ at.date.year }
-    ensures { OnOk result (string_bytes text.new ≡ string_bytes text.old ++ date_text (date_shown at.date)) }
+    ensures value { result ≡ date_shown at.date }
+    ensures within { IsShort result }
 {
-    push_four(text, at.year() as u16)?;
+    Civil {
+        year: at.year() as u16,
+        month: at.month() as u16,
+        day: at.day() as u16,
+    }
+}
+
+fn milliseconds(at: DateTime) -> u16
+    ensures value { result ≡ at.time.subsec_nanosecond / 1_000_000 }
+    ensures within { result < 1000 }
+{
+    at.millisecond() as u16
+}
+
+fn push_date(text: &mut String, date: Civil) -> Result<(), AllocError>
+    requires { IsShort date }
+    ensures { OnOk result (string_bytes text.new ≡ string_bytes text.old ++ date_text date) }
+{
+    push_four(text, date.year)?;
     text.push_str("-")?;
-    push_two(text, at.month() as u16)?;
+    push_two(text, date.month)?;
     text.push_str("-")?;
-    push_two(text, at.day() as u16)?;
+    push_two(text, date.day)?;
     Ok(())
 }
 
@@ -43,11 +62,12 @@ fn push_clock(text: &mut String, at: DateTime) -> Result<(), AllocError>
     Ok(())
 }
 
-fn push_fraction(text: &mut String, at: DateTime) -> Result<(), AllocError>
-    ensures { OnOk result (string_bytes text.new ≡ string_bytes text.old ++ (codes "." ++ (three (at.time.subsec_nanosecond / 1_000_000) ++ codes "000+00:00"))) }
+fn push_fraction(text: &mut String, milliseconds: u16) -> Result<(), AllocError>
+    requires { milliseconds < 1000 }
+    ensures { OnOk result (string_bytes text.new ≡ string_bytes text.old ++ (codes "." ++ (three milliseconds ++ codes "000+00:00"))) }
 {
     text.push_str(".")?;
-    push_three(text, at.millisecond() as u16)?;
+    push_three(text, milliseconds)?;
     text.push_str("000+00:00")?;
     Ok(())
 }
@@ -59,9 +79,9 @@ pub fn moment_text(alloc: Global, moment: Moment) -> Result<String, AllocError>
 {
     let at = shown(moment);
     let mut text = String::with_capacity(alloc, 32)?;
-    push_date(&mut text, at)?;
+    push_date(&mut text, date_of(at))?;
     text.push_str("T")?;
     push_clock(&mut text, at)?;
-    push_fraction(&mut text, at)?;
+    push_fraction(&mut text, milliseconds(at))?;
     Ok(text)
 }
