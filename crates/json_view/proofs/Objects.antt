@@ -1,5 +1,5 @@
 -- The members that an object is made of.
-use Rattle.std.proofs.Common.{◌≡◌, ℕ, List, [], ◌∷◌, ◌++◌, Bool, true, false, ◌||◌, refl, sym, ◌∙◌, ap, true≢false, String, Global, Result, Ok, Err, IfOk, string_bytes, Ordering, Less, Equal, Greater, nat_cmp}
+use Rattle.std.proofs.Common.{◌≡◌, ℕ, List, [], ◌∷◌, ◌++◌, Bool, true, false, ◌||◌, refl, ◌∙◌, ap, true≢false, String, Global, Result, Ok, Err, IfOk, string_bytes, Ordering, Less, Equal, Greater, nat_cmp}
 use Rattle.std.specs.Prelude.{All}
 use Rattle.std.specs.declared.alloc.AllocError.{AllocError}
 use Rattle.std.specs.Cmp.Lexicographic.{slice_cmp}
@@ -58,7 +58,6 @@ text_from (Ok s) d fs h e t = t (ap has_float e ∙ no_float_from fs h) ∙ ap c
 text_from (Err x) d fs h e t = tt
 
 -- ---- keys in order
-
 
 below_further : (k l : List ℕ) (ms : Members) → slice_cmp nat_cmp k l ≡ Less → IsBelowAll l ms → IsBelowAll k ms
 below_further k l no_members h g = tt

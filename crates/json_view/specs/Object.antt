@@ -1,12 +1,22 @@
 -- An object of given fields.
-use Rattle.std.specs.Prelude.{◌≡◌, ℕ, List, [], ◌∷◌, String, string_bytes}
+use Rattle.std.specs.Prelude.{◌≡◌, ℕ, Bool, true, false, not, ◌&&◌, ◌||◌, List, [], ◌∷◌, String, string_bytes}
+use Rattle.std.specs.Str.{bytes_eq}
 use Rattle.std.specs.Ordering.{nat_cmp}
 use Rattle.std.specs.declared.cmp.Ordering.TheVariants.{Less}
 use Rattle.std.specs.Cmp.Lexicographic.{slice_cmp}
 use Rattle.std.specs.declared.alloc.Global.{Global}
-use Rattle.serde_json.specs.Data.{Data, object, Members, no_members, member, put}
+use Rattle.serde_json.specs.Data.{Members, no_members, member, put}
 use Rattle.serde_json.specs.declared.value.Value.{Value}
 use Rattle.serde_json.specs.View.{view}
+
+abbrev pub has_key : List ℕ → List (String Global × Value) → Bool
+has_key name [] = false
+has_key name (f ∷ fs) = bytes_eq name (string_bytes f.0) || has_key name fs
+
+-- whether no key stands twice
+abbrev pub distinct_keys : List (String Global × Value) → Bool
+distinct_keys [] = true
+distinct_keys (f ∷ fs) = not (has_key (string_bytes f.0) fs) && distinct_keys fs
 
 -- the members, with each of these fields put in its place among them
 abbrev pub with_fields : Members → List (String Global × Value) → Members

@@ -1,7 +1,7 @@
-ghost use Rattle.std.specs.Prelude.{◌≡◌};
+ghost use Rattle.std.specs.Prelude.{◌≡◌, option_map};
 ghost use Rattle.std.specs.Result.{result_map_both};
 ghost use Rattle.serde_json.specs.View.{view};
-ghost use Rattle.json_view.specs.Fields.{field, number_field, flag_field, text_field, id_value, id_field, and_then};
+ghost use Rattle.json_view.specs.Fields.{field, given, number_field, flag_field, text_field, id_value, id_field, and_then};
 
 use serde_json::Value;
 use snowflake_id::{BadId, Snowflake};
@@ -39,6 +39,17 @@ pub fn field_of<'a>(object: &'a Value, name: &str) -> Result<&'a Value, ViewFaul
     match object.get(name) {
         None => Err(ViewFault::Missing),
         Some(value) => Ok(value),
+    }
+}
+
+/// The value of a key, where it is there and not null.
+pub fn given_of<'a>(object: &'a Value, name: &str) -> Option<&'a Value>
+    ensures { option_map (λ v. view v.now) result ≡ given name.now (view object.now) }
+{
+    match object.get(name) {
+        None => None,
+        Some(Value::Null) => None,
+        Some(value) => Some(value),
     }
 }
 
@@ -93,4 +104,39 @@ pub fn id_of(object: &Value, name: &str) -> Result<u64, ViewFault>
     ensures { result ≡ id_field name.now (view object.now) }
 {
     id_from(field_of(object, name)?)
+}
+
+#[cfg(test)]
+mod tests {
+    use super::*;
+    use crate::{value_of, write_object};
+    use std::test::Fail;
+
+    #[test]
+    fn worked_examples(rt: HostRuntime) -> Result<(), Fail> {
+        let bytes =
+            b"{\"a\":1.0,\"b\":7,\"b\":\"08\",\"c\":\"x\",\"d\":true,\"e\":18446744073709551616}";
+        let object = value_of(rt.alloc(), bytes)?.ok_or("no JSON")?;
+        assert_eq!(rt; id_of(&object, "b"), Ok(8));
+        assert_eq!(rt;
+            id_of(&object, "c"),
+            Err(ViewFault::BadId(BadId::NotDigits))
+        );
+        assert_eq!(rt; id_of(&object, "e"), Err(ViewFault::WrongType));
+        assert_eq!(rt; number_of(&object, "a"), Err(ViewFault::WrongType));
+        assert_eq!(rt; number_of(&object, "z"), Err(ViewFault::Missing));
+        assert_eq!(rt; flag_of(&object, "d"), Ok(true));
+        assert_eq!(rt; text_of(&object, "c"), Ok("x"));
+        assert_eq!(rt; value_of(rt.alloc(), b"{")?.is_none(), true);
+        assert_eq!(rt; value_of(rt.alloc(), b"\"\xff\"")?.is_none(), true);
+        Ok(())
+    }
+
+    #[test]
+    fn writes_an_object(rt: HostRuntime) -> Result<(), Fail> {
+        let field = (String::from_str(rt.alloc(), "a")?, Value::Bool(true));
+        let fields = Vec::from_array(rt.alloc(), [field])?;
+        assert_eq!(rt; write_object(rt.alloc(), fields)?.as_str(), "{\"a\":true}");
+        Ok(())
+    }
 }

@@ -1,10 +1,8 @@
-ghost use Rattle.std.specs.Prelude.{◌≡◌, All, IfOk, OnOk, map, string_bytes, false};
-ghost use Rattle.std.specs.List.{IsDistinct};
-ghost use Rattle.std.specs.Str.{bytes_eq};
+ghost use Rattle.std.specs.Prelude.{◌≡◌, All, IfOk, IsTrue, OnOk, string_bytes, false};
 ghost use Rattle.serde_json.specs.Data.{object, put};
 ghost use Rattle.serde_json.specs.View.{view, members_view};
 ghost use Rattle.serde_json.specs.Written.{compact_text, has_float};
-ghost use Rattle.json_view.specs.Object.{members_from, KeysAscend};
+ghost use Rattle.json_view.specs.Object.{distinct_keys, members_from, KeysAscend};
 
 use serde_json::{Map, Value};
 use std::alloc::{AllocError, Global};
@@ -30,7 +28,7 @@ fn object_of(alloc: Global, fields: Vec<(String, Value)>) -> Result<Value, Alloc
 /// The text of the object of these fields, without spaces and with its keys in byte order.
 #[tactic(auto, using(crate::proofs::Objects::ascend_from))]
 pub fn write_object(alloc: Global, fields: Vec<(String, Value)>) -> Result<String, AllocError>
-    requires distinct { IsDistinct bytes_eq (map (λ f. string_bytes f.0) fields.items) }
+    requires distinct { IsTrue (distinct_keys fields.items) }
     requires no_floats { All (λ f. has_float (view f.1) ≡ false) fields.items }
     ensures text { IfOk result (λ text. string_bytes text ≡ compact_text (object (members_from fields.items))) }
     ensures order { KeysAscend (members_from fields.items) }
