@@ -1,0 +1,5 @@
+pub mod Kinds
+pub mod Added
+pub mod User
+pub mod Role
+pub mod Channel
