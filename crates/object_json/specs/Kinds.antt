@@ -1,5 +1,5 @@
 -- The kinds of values in the gateway's objects (API Reference).
-use Rattle.std.specs.Prelude.{ℕ, List, map, replicate, codes, decimal, Bool, true, false, if◌then◌else◌, Option, Some, None}
+use Rattle.std.specs.Prelude.{ℕ, List, [], ◌∷◌, map, replicate, codes, decimal, Bool, true, false, if◌then◌else◌, Option, Some, None}
 use Rattle.serde_json.specs.Data.{Data, null, boolean, number, unsigned, string, array, object, Members, no_members, member}
 use Rattle.serde_json.specs.View.{items_of}
 use Rattle.moment_text.specs.Text.{time_text}
@@ -30,3 +30,12 @@ blanks n = array (items_of (replicate n (object no_members)))
 abbrev pub member_if : List ℕ → Option Data → Members → Members
 member_if key None others = others
 member_if key (Some d) others = member key d others
+
+-- a flag that is true or left out
+abbrev pub true_if : Bool → Option Data
+true_if flag = if flag then Some (boolean true) else None
+
+-- a list that is left out where it has no item
+abbrev pub list_if : {A : Type 0} → (A → Data) → List A → Option Data
+list_if f [] = None
+list_if f (a ∷ items) = Some (list f (a ∷ items))

@@ -1,8 +1,12 @@
-ghost use Rattle.std.specs.Prelude.{◌≡◌};
+ghost use Rattle.std.specs.Prelude.{◌≡◌, codes};
+ghost use Rattle.object_json.specs.Added.{AddsTokens, member_tokens};
 ghost use Rattle.object_json.specs.Channel.{channel_number, overwrite_number};
+ghost use Rattle.object_json.specs.Kinds.{count};
 
-use crate::field::{close, id_field, key, mask_field, maybe_id_field, number_field, open, small_field, text_field};
-use crate::written::{Written, list};
+use crate::field::{
+    close, id_field, mask_field, maybe_id_field, number_field, open, small_field, text_field,
+};
+use crate::written::{Written, list_field};
 use dispatch_types::{ChannelObject, OverwriteKind, OverwriteObject};
 use guild_model::ChannelKind;
 use json::Writer;
@@ -30,6 +34,20 @@ fn channel_number(kind: ChannelKind) -> u64
     }
 }
 
+fn overwrite_kind_field(out: &mut Writer, kind: OverwriteKind) -> Result<(), AllocError>
+    ensures { AddsTokens result out.old out.new (member_tokens (codes "type") (count (overwrite_number kind))) }
+{
+    number_field(out, "type", overwrite_number(kind))?;
+    Ok(())
+}
+
+fn channel_kind_field(out: &mut Writer, kind: ChannelKind) -> Result<(), AllocError>
+    ensures { AddsTokens result out.old out.new (member_tokens (codes "type") (count (channel_number kind))) }
+{
+    number_field(out, "type", channel_number(kind))?;
+    Ok(())
+}
+
 impl Written for OverwriteObject {
     ghost use Rattle.object_json.specs.Channel.{overwrite_data};
 
@@ -40,7 +58,7 @@ impl Written for OverwriteObject {
         mask_field(out, "allow", self.allow)?;
         mask_field(out, "deny", self.deny)?;
         id_field(out, "id", self.id)?;
-        number_field(out, "type", overwrite_number(self.kind))?;
+        overwrite_kind_field(out, self.kind)?;
         close(out)?;
         Ok(())
     }
@@ -57,10 +75,9 @@ impl Written for ChannelObject {
         id_field(out, "id", self.id)?;
         text_field(out, "name", &self.name)?;
         maybe_id_field(out, "parent_id", self.parent)?;
-        key(out, "permission_overwrites")?;
-        list(alloc, out, self.overwrites.as_slice())?;
+        list_field(alloc, out, "permission_overwrites", &self.overwrites)?;
         small_field(out, "position", self.position)?;
-        number_field(out, "type", channel_number(self.kind))?;
+        channel_kind_field(out, self.kind)?;
         close(out)?;
         Ok(())
     }

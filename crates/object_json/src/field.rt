@@ -1,10 +1,8 @@
-ghost use Rattle.std.specs.Prelude.{◌∷◌, ◌++◌, [], decimal};
-ghost use Rattle.json.specs.Token.{key as key_token, begin_object, end_object, string as string_token, number as number_token, boolean as boolean_token};
-ghost use Rattle.json.specs.Tree.{json_tokens};
-ghost use Rattle.serde_json.specs.Data.{string, array, no_items};
-ghost use Rattle.serde_json.specs.Written.{outline};
-ghost use Rattle.object_json.specs.Added.{Adds, AddsTokens};
-ghost use Rattle.object_json.specs.Kinds.{digits, time, or_null};
+ghost use Rattle.std.specs.Prelude.{◌∷◌, [], option_map};
+ghost use Rattle.json.specs.Token.{key as key_token, begin_object, end_object};
+ghost use Rattle.serde_json.specs.Data.{string, boolean, array, no_items};
+ghost use Rattle.object_json.specs.Added.{AddsTokens, member_tokens, member_tokens_if};
+ghost use Rattle.object_json.specs.Kinds.{digits, count, time, or_null, true_if};
 
 use collections::Text;
 use guild_model::Moment;
@@ -40,7 +38,7 @@ pub fn key(out: &mut Writer, name: &str) -> Result<(), AllocError>
 
 /// Writes an id under its key.
 pub fn id_field(out: &mut Writer, name: &str, id: Snowflake) -> Result<(), AllocError>
-    ensures { AddsTokens result out.old out.new (key_token name.now ∷ string_token (decimal id) ∷ []) }
+    ensures { AddsTokens result out.old out.new (member_tokens name.now (digits id)) }
 {
     out.key(name)?;
     out.quoted_u64(id.0)?;
@@ -49,7 +47,7 @@ pub fn id_field(out: &mut Writer, name: &str, id: Snowflake) -> Result<(), Alloc
 
 /// Writes an id under its key, or null.
 pub fn maybe_id_field(out: &mut Writer, name: &str, id: Option<Snowflake>) -> Result<(), AllocError>
-    ensures { AddsTokens result out.old out.new (key_token name.now ∷ json_tokens (outline (or_null digits id))) }
+    ensures { AddsTokens result out.old out.new (member_tokens name.now (or_null digits id)) }
 {
     match id {
         Some(id) => id_field(out, name, id),
@@ -58,7 +56,7 @@ pub fn maybe_id_field(out: &mut Writer, name: &str, id: Option<Snowflake>) -> Re
 }
 
 fn null_field(out: &mut Writer, name: &str) -> Result<(), AllocError>
-    ensures { AddsTokens result out.old out.new (key_token name.now ∷ json_tokens (outline (or_null digits None))) }
+    ensures { AddsTokens result out.old out.new (member_tokens name.now (or_null digits None)) }
 {
     out.key(name)?;
     out.null()?;
@@ -67,7 +65,7 @@ fn null_field(out: &mut Writer, name: &str) -> Result<(), AllocError>
 
 /// Writes a set of permissions under its key.
 pub fn mask_field(out: &mut Writer, name: &str, mask: Perms) -> Result<(), AllocError>
-    ensures { AddsTokens result out.old out.new (key_token name.now ∷ string_token (decimal mask) ∷ []) }
+    ensures { AddsTokens result out.old out.new (member_tokens name.now (digits mask)) }
 {
     out.key(name)?;
     out.quoted_u64(mask.mask())?;
@@ -76,7 +74,7 @@ pub fn mask_field(out: &mut Writer, name: &str, mask: Perms) -> Result<(), Alloc
 
 /// Writes a text under its key.
 pub fn text_field(out: &mut Writer, name: &str, text: &Text) -> Result<(), AllocError>
-    ensures { AddsTokens result out.old out.new (key_token name.now ∷ string_token text.now ∷ []) }
+    ensures { AddsTokens result out.old out.new (member_tokens name.now (string text.now)) }
 {
     out.key(name)?;
     out.string(text.as_str())?;
@@ -85,7 +83,7 @@ pub fn text_field(out: &mut Writer, name: &str, text: &Text) -> Result<(), Alloc
 
 /// Writes a text under its key, or null.
 pub fn maybe_text_field(out: &mut Writer, name: &str, text: &Option<Text>) -> Result<(), AllocError>
-    ensures { AddsTokens result out.old out.new (key_token name.now ∷ json_tokens (outline (or_null string text.now))) }
+    ensures { AddsTokens result out.old out.new (member_tokens name.now (or_null string text.now)) }
 {
     match text {
         Some(text) => text_field(out, name, text),
@@ -95,7 +93,7 @@ pub fn maybe_text_field(out: &mut Writer, name: &str, text: &Option<Text>) -> Re
 
 /// Writes a number under its key.
 pub fn number_field(out: &mut Writer, name: &str, number: u64) -> Result<(), AllocError>
-    ensures { AddsTokens result out.old out.new (key_token name.now ∷ number_token (decimal number) ∷ []) }
+    ensures { AddsTokens result out.old out.new (member_tokens name.now (count number)) }
 {
     out.key(name)?;
     out.u64(number)?;
@@ -104,14 +102,14 @@ pub fn number_field(out: &mut Writer, name: &str, number: u64) -> Result<(), All
 
 /// Writes a number of 32 bits under its key.
 pub fn small_field(out: &mut Writer, name: &str, number: u32) -> Result<(), AllocError>
-    ensures { AddsTokens result out.old out.new (key_token name.now ∷ number_token (decimal number) ∷ []) }
+    ensures { AddsTokens result out.old out.new (member_tokens name.now (count number)) }
 {
     number_field(out, name, u64::from(number))
 }
 
 /// Writes a flag under its key.
 pub fn flag_field(out: &mut Writer, name: &str, flag: bool) -> Result<(), AllocError>
-    ensures { AddsTokens result out.old out.new (key_token name.now ∷ boolean_token flag ∷ []) }
+    ensures { AddsTokens result out.old out.new (member_tokens name.now (boolean flag)) }
 {
     out.key(name)?;
     out.boolean(flag)?;
@@ -119,8 +117,13 @@ pub fn flag_field(out: &mut Writer, name: &str, flag: bool) -> Result<(), AllocE
 }
 
 /// Writes a moment under its key.
-pub fn time_field(alloc: Global, out: &mut Writer, name: &str, moment: Moment) -> Result<(), AllocError>
-    ensures { AddsTokens result out.old out.new (key_token name.now ∷ json_tokens (outline (time moment))) }
+pub fn time_field(
+    alloc: Global,
+    out: &mut Writer,
+    name: &str,
+    moment: Moment,
+) -> Result<(), AllocError>
+    ensures { AddsTokens result out.old out.new (member_tokens name.now (time moment)) }
 {
     let text = moment_text(alloc, moment)?;
     out.key(name)?;
@@ -129,8 +132,13 @@ pub fn time_field(alloc: Global, out: &mut Writer, name: &str, moment: Moment) -
 }
 
 /// Writes a moment under its key, or null.
-pub fn maybe_time_field(alloc: Global, out: &mut Writer, name: &str, moment: Option<Moment>) -> Result<(), AllocError>
-    ensures { AddsTokens result out.old out.new (key_token name.now ∷ json_tokens (outline (or_null time moment))) }
+pub fn maybe_time_field(
+    alloc: Global,
+    out: &mut Writer,
+    name: &str,
+    moment: Option<Moment>,
+) -> Result<(), AllocError>
+    ensures { AddsTokens result out.old out.new (member_tokens name.now (or_null time moment)) }
 {
     match moment {
         Some(moment) => time_field(alloc, out, name, moment),
@@ -140,10 +148,41 @@ pub fn maybe_time_field(alloc: Global, out: &mut Writer, name: &str, moment: Opt
 
 /// Writes a list without items under its key.
 pub fn empty_field(out: &mut Writer, name: &str) -> Result<(), AllocError>
-    ensures { AddsTokens result out.old out.new (key_token name.now ∷ json_tokens (outline (array no_items))) }
+    ensures { AddsTokens result out.old out.new (member_tokens name.now (array no_items)) }
 {
     out.key(name)?;
     out.begin_array()?;
     out.end_array()?;
     Ok(())
+}
+
+/// Writes an id under its key, or nothing.
+pub fn id_field_if(out: &mut Writer, name: &str, id: Option<Snowflake>) -> Result<(), AllocError>
+    ensures { AddsTokens result out.old out.new (member_tokens_if name.now (option_map digits id)) }
+{
+    match id {
+        Some(id) => id_field(out, name, id),
+        None => Ok(()),
+    }
+}
+
+/// Writes a text under its key, or nothing.
+pub fn text_field_if(out: &mut Writer, name: &str, text: &Option<Text>) -> Result<(), AllocError>
+    ensures { AddsTokens result out.old out.new (member_tokens_if name.now (option_map string text.now)) }
+{
+    match text {
+        Some(text) => text_field(out, name, text),
+        None => Ok(()),
+    }
+}
+
+/// Writes a true flag under its key, or nothing.
+pub fn true_field_if(out: &mut Writer, name: &str, flag: bool) -> Result<(), AllocError>
+    ensures { AddsTokens result out.old out.new (member_tokens_if name.now (true_if flag)) }
+{
+    if flag {
+        flag_field(out, name, true)
+    } else {
+        Ok(())
+    }
 }

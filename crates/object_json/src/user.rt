@@ -9,7 +9,6 @@ impl Written for User {
 
     ghost json = { user_data };
 
-    #[tactic(auto, using(std::proofs::Common::append_assoc))]
     fn write(&self, _alloc: Global, out: &mut Writer) -> Result<(), AllocError> {
         open(out)?;
         flag_field(out, "bot", self.bot)?;
