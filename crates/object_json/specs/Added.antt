@@ -7,8 +7,12 @@ use Rattle.serde_json.specs.Data.{Data, Members}
 use Rattle.serde_json.specs.Written.{outline, members_outline}
 
 -- these tokens stand after those before
+pub record HasAdded (old new : Written) (ts : List Token) : Type 0 where
+  pub tokens : new.tokens ≡ old.tokens ++ ts
+  pub before : new.before ≡ old.before
+
 abbrev pub AddsTokens : {E : Type 0} → Result (Unit {0}) E → Written → Written → List Token → Type 0
-AddsTokens r old new tokens = OnOk r ((new.tokens ≡ old.tokens ++ tokens) × (new.before ≡ old.before))
+AddsTokens r old new ts = OnOk r (HasAdded old new ts)
 
 -- the value's tokens do
 abbrev pub Adds : {E : Type 0} → Result (Unit {0}) E → Written → Written → Data → Type 0

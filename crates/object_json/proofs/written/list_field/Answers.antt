@@ -1,5 +1,0 @@
-use Rattle.object_json.proofs.Steps.{joined}
-use Rattle.object_json.proofs.written.list_field.Goals as goal
-
-pub returns : goal.returns
-returns g c = joined c.in_ok-key.ensures c.in_ok-list.ensures
