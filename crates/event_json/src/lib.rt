@@ -1,13 +1,13 @@
-// A library with one function.
+//! Dispatches as the texts of a gateway, both ways.
 #![tactic(auto)]
 
-ghost use Rattle.std.specs.Prelude.{◌≡◌};
-ghost use Rattle.event_json.specs.Echo.{echo_of};
+mod body;
+mod guild;
+mod member;
+mod message;
+mod ready;
+mod text;
+mod thread;
 
-// The `ensures` clause is the contract: what `echo` returns is `echo_of` of its argument, a definition
-// in `specs/Echo.antt`, which a caller's clause can cite too.
-pub fn echo(x: usize) -> usize
-    ensures { result ≡ echo_of x }
-{
-    x
-}
+pub use body::{Body, body};
+pub use text::{append_framed, framed, write};

@@ -1,6 +1,6 @@
 ghost use Rattle.std.specs.Prelude.{◌∷◌, [], option_map};
 ghost use Rattle.json.specs.Token.{key as key_token, begin_object, end_object};
-ghost use Rattle.serde_json.specs.Data.{string, boolean, array, no_items};
+ghost use Rattle.serde_json.specs.Data.{null, string, boolean, array, no_items};
 ghost use Rattle.object_json.specs.Added.{AddsTokens, member_tokens, member_tokens_if};
 ghost use Rattle.object_json.specs.Kinds.{digits, count, time, or_null, true_if};
 
@@ -55,8 +55,9 @@ pub fn maybe_id_field(out: &mut Writer, name: &str, id: Option<Snowflake>) -> Re
     }
 }
 
-fn null_field(out: &mut Writer, name: &str) -> Result<(), AllocError>
-    ensures { AddsTokens result out.old out.new (member_tokens name.now (or_null digits None)) }
+/// Writes null under its key.
+pub fn null_field(out: &mut Writer, name: &str) -> Result<(), AllocError>
+    ensures { AddsTokens result out.old out.new (member_tokens name.now null) }
 {
     out.key(name)?;
     out.null()?;

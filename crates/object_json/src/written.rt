@@ -45,6 +45,22 @@ pub fn list_field<T: Written + Drop>(
     Ok(())
 }
 
+/// Writes a list under its key, or nothing where it has no item.
+pub fn list_field_if<T: Written + Drop>(
+    alloc: Global,
+    out: &mut Writer,
+    name: &str,
+    items: &Seq<T>,
+) -> Result<(), AllocError>
+    ensures { AddsTokens result out.old out.new (member_tokens_if name.now (list_if T.json items.now)) }
+{
+    if items.is_empty() {
+        return Ok(());
+    }
+    list_field(alloc, out, name, items)?;
+    Ok(())
+}
+
 /// Writes a value under its key.
 pub fn value_field<T: Written>(
     alloc: Global,
