@@ -52,3 +52,9 @@ plain_name TypingStart = refl
 
 pub framed_is : (body : Data) (number : ℕ) (k : Kind) → framed_text (compact_text body) number (name_of k) ≡ compact_text (framed body number (name_of k))
 framed_is body number k = plain_frame body number (name_of k) (plain_name k)
+
+-- what stands after the pieces have been added one after another
+pub framed_by : (d : Data) (number : ℕ) (k : Kind) (body name t0 t1 t2 t3 t4 : List ℕ) → body ≡ compact_text d → name ≡ name_of k → t1 ≡ t0 ++ codes "{\"d\":" → t2 ≡ t1 ++ body → t3 ≡ t2 ++ (codes ",\"op\":0,\"s\":" ++ decimal number) → t4 ≡ t3 ++ (codes ",\"t\":\"" ++ (name ++ codes "\"}")) → t4 ≡ t0 ++ compact_text (framed d number (name_of k))
+framed_by d number k body name t0 t1 t2 t3 t4 is named e1 e2 e3 e4 =
+    let whole : t4 ≡ t0 ++ framed_text body number name = rw (e4, e3, e2, e1) (simp append_assoc refl) in
+    whole ∙ ap (λ b. t0 ++ framed_text b number name) is ∙ ap (λ n. t0 ++ framed_text (compact_text d) number n) named ∙ ap (λ u. t0 ++ u) (framed_is d number k)

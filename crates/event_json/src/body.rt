@@ -37,6 +37,16 @@ impl Model for Body {
 }
 
 impl Body {
+    /// The text of the field `d` of a dispatch: compact, with the keys in byte order.
+    pub fn of(alloc: Global, of: &Dispatch) -> Result<Body, AllocError>
+        ensures { IfOk result (λ body. body ≡ compact_text (body_data of.now)) }
+    {
+        let mut out = Writer::new(Vec::with_capacity(alloc, 256)?);
+        write_body(alloc, &mut out, of)?;
+        let text = String::from_utf8(out.into_inner()).unwrap();
+        Ok(Body { text })
+    }
+
     pub fn as_str(&self) -> &str
         ensures { result.now ≡ self.now }
     {
@@ -127,14 +137,4 @@ fn write_body(alloc: Global, out: &mut Writer, of: &Dispatch) -> Result<(), Allo
             seconds,
         } => write_typing_start(out, *guild, *channel, *user, *seconds),
     }
-}
-
-/// The text of the field `d` of a dispatch: compact, with the keys in byte order.
-pub fn body(alloc: Global, of: &Dispatch) -> Result<Body, AllocError>
-    ensures { IfOk result (λ body. body ≡ compact_text (body_data of.now)) }
-{
-    let mut out = Writer::new(Vec::with_capacity(alloc, 256)?);
-    write_body(alloc, &mut out, of)?;
-    let text = String::from_utf8(out.into_inner()).unwrap();
-    Ok(Body { text })
 }

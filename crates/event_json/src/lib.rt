@@ -9,5 +9,5 @@ mod ready;
 mod text;
 mod thread;
 
-pub use body::{Body, body};
+pub use body::Body;
 pub use text::{append_framed, framed, write};

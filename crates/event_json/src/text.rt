@@ -4,7 +4,7 @@ ghost use Rattle.serde_json.specs.Data.{Data};
 ghost use Rattle.serde_json.specs.Written.{compact_text};
 ghost use Rattle.event_json.specs.Text.{framed, framed_text, data_of};
 
-use crate::body::{Body, body};
+use crate::body::Body;
 use dispatch_types::Dispatch;
 use intent_set::Kind;
 use itoa::Buffer;
@@ -83,6 +83,6 @@ pub fn append_framed(
 pub fn write(alloc: Global, of: &Dispatch, number: u64) -> Result<String, AllocError>
     ensures { IfOk result (λ text. string_bytes text ≡ compact_text (data_of of.now number)) }
 {
-    let body = body(alloc, of)?;
+    let body = Body::of(alloc, of)?;
     framed(alloc, &body, number, of.kind())
 }

@@ -14,5 +14,5 @@ returns c =
     let date : c.date_of.result ≡ civil (c.args.moment / 86400000) = c.date_of.ensures.value ∙ at.date in
     let milliseconds : c.milliseconds.result ≡ c.args.moment % 1000 = c.milliseconds.ensures.value ∙ at.fraction in
     let clock : string_bytes c.push_clock.new.text ≡ string_bytes c.push_str.new.self ++ clock_text (c.args.moment / 1000 % 86400) =
-        c.in_ok-push_clock.ensures ∙ ap (λ s. string_bytes c.push_str.new.self ++ clock_text s) at.clock in
+    c.in_ok-push_clock.ensures ∙ ap (λ s. string_bytes c.push_str.new.self ++ clock_text s) at.clock in
     rw (c.in_ok-push_fraction.ensures, clock, c.in_ok-push_str.ensures.bytes, c.in_ok-push_date.ensures, c.in_ok-text.ensures.bytes, date, milliseconds) (simp append_assoc refl)
