@@ -1,6 +1,6 @@
 -- Gateway Events, Guild Members.
 use Rattle.std.specs.Prelude.{ℕ, codes, None, option_map}
-use Rattle.serde_json.specs.Data.{Data, string, object, Members, member, no_members}
+use Rattle.serde_json.specs.Data.{Data, string, object, member, no_members}
 use Rattle.guild_model.specs.declared.user.User.{User}
 use Rattle.dispatch_types.specs.declared.dispatch.MembersChunk.{MembersChunk}
 use Rattle.object_json.specs.Kinds.{digits, count, list, list_if, member_if}

@@ -1,5 +1,5 @@
 -- Gateway Events, Ready.
-use Rattle.std.specs.Prelude.{ℕ, codes, Bool, true, Option, option_map}
+use Rattle.std.specs.Prelude.{ℕ, codes, true, option_map}
 use Rattle.serde_json.specs.Data.{Data, boolean, string, object, array, item, no_items, member, no_members}
 use Rattle.dispatch_types.specs.declared.dispatch.Ready.{Ready}
 use Rattle.object_json.specs.Kinds.{digits, count, list, member_if}

@@ -1,5 +1,5 @@
 -- Gateway Events, Threads.
-use Rattle.std.specs.Prelude.{ℕ, List, codes, Bool, false, None}
+use Rattle.std.specs.Prelude.{ℕ, List, codes, false, None}
 use Rattle.serde_json.specs.Data.{Data, object, member, no_members}
 use Rattle.guild_model.specs.declared.thread.ThreadKind.{ThreadKind}
 use Rattle.dispatch_types.specs.declared.threads.ThreadObject.{ThreadObject}

@@ -1,4 +1,4 @@
-use Rattle.std.proofs.Common.{◌++◌, ◌∙◌, ap, string_bytes}
+use Rattle.std.proofs.Common.{◌++◌, ◌∙◌, ap}
 use Rattle.intent_set.specs.Kind.{name_of}
 use Rattle.serde_json.specs.Written.{compact_text}
 use Rattle.event_json.specs.Text.{framed}
