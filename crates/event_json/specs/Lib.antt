@@ -1,0 +1,7 @@
+pub mod Ready
+pub mod Guild
+pub mod Thread
+pub mod Member
+pub mod Message
+pub mod Body
+pub mod Text

@@ -1,0 +1,2 @@
+pub mod Civils
+pub mod Shown

@@ -1,0 +1,10 @@
+pub mod Kinds
+pub mod Added
+pub mod User
+pub mod Role
+pub mod Channel
+pub mod Member
+pub mod Thread
+pub mod Voice
+pub mod Presence
+pub mod Message
