@@ -1,15 +1,14 @@
 -- What a client makes of dispatches of another guild, and of its own.
-use Rattle.std.proofs.Common.{◌≡◌, ℕ, Bool, true, false, List, [], ◌∷◌, map, Option, Some, None, if◌then◌else◌, refl, sym, ap, subst, ◌∙◌, eq-eqb}
+use Rattle.std.proofs.Common.{◌≡◌, ℕ, Bool, false, List, [], ◌∷◌, map, Option, Some, None, refl, ap, ◌∙◌, eq-eqb}
 use Rattle.std.specs.Prelude.{◌==◌, All}
 use Rattle.std.proofs.lemmas.List.Elements.{All-head, All-tail}
 use Rattle.collections.specs.ById.{put_id, put_all, without_id}
 use Rattle.guild_model.specs.Record.{own_id}
 use Rattle.dispatch_types.specs.declared.view.GuildView.{GuildView}
-use Rattle.dispatch_types.specs.declared.view.GuildView.TheVariants.{Unavailable, Open}
 use Rattle.dispatch_types.specs.declared.view.OpenView.{OpenView}
 use Rattle.dispatch_types.specs.declared.dispatch.Dispatch.{Dispatch}
 use Rattle.dispatch_types.specs.declared.dispatch.Dispatch.TheVariants.{Ready, Resumed, GuildCreate, GuildUpdate, GuildDelete, GuildRoleCreate, GuildRoleUpdate, GuildRoleDelete, ChannelCreate, ChannelUpdate, ChannelDelete, ThreadCreate, ThreadUpdate, ThreadDelete, ThreadListSync, ThreadMembersUpdate, GuildMemberAdd, GuildMemberUpdate, GuildMemberRemove, GuildMembersChunk, VoiceStateUpdate, PresenceUpdate, MessageCreate, MessageUpdate, MessageDelete, MessageReactionAdd, MessageReactionRemove, TypingStart}
-use Rattle.dispatch_types.specs.Fold.{Held, user_id, on_open, seen_by, knows, begun, if_unavailable, created, created_view, changed, purge, purged_after, folded, fold_from}
+use Rattle.dispatch_types.specs.Fold.{Held, user_id, on_open, seen_by, knows, begun, changed, purge, purged_after, folded, fold_from}
 
 -- the guild that a dispatch is of
 abbrev pub guild_of : Dispatch → Option ℕ

@@ -1,13 +1,11 @@
 -- What a client that asked for these intents makes of each dispatch, guild by guild (Gateway Events,
 -- Receive Events).
-use Rattle.std.specs.Prelude.{ℕ, ◌+◌, ◌-◌, ◌^◌, min, List, [], ◌∷◌, map, filter, Bool, true, false, not, ◌&&◌, ◌||◌, ◌==◌, Option, Some, None, is_some, if◌then◌else◌, option_map, option_and_then}
+use Rattle.std.specs.Prelude.{ℕ, ◌+◌, ◌-◌, ◌^◌, min, List, [], ◌∷◌, map, filter, Bool, not, ◌==◌, Option, Some, None, is_some, if◌then◌else◌, option_map, option_and_then}
 use Rattle.std.specs.Option.{option_or}
 use Rattle.std.specs.List.{find, filter_map, list_any}
-use Rattle.collections.specs.ById.{find_id, has_id, put_id, put_all, without_id}
+use Rattle.collections.specs.ById.{find_id, put_id, put_all, without_id}
 use Rattle.intent_set.specs.Intents.{guilds, guild_members, guild_presences}
-use Rattle.guild_model.specs.declared.user.User.{User}
 use Rattle.guild_model.specs.declared.role.Role.{Role}
-use Rattle.guild_model.specs.declared.channel.Channel.{Channel}
 use Rattle.guild_model.specs.declared.member.Member.{Member}
 use Rattle.guild_model.specs.declared.thread.ThreadMember.{ThreadMember}
 use Rattle.guild_model.specs.declared.voice.Voice.{Voice}
@@ -20,8 +18,6 @@ use Rattle.dispatch_types.specs.declared.members.MemberObject.{MemberObject}
 use Rattle.dispatch_types.specs.declared.threads.ThreadObject.{ThreadObject}
 use Rattle.dispatch_types.specs.declared.threads.JoinedThread.{JoinedThread}
 use Rattle.dispatch_types.specs.declared.threads.ThreadMemberObject.{ThreadMemberObject}
-use Rattle.dispatch_types.specs.declared.presences.VoiceObject.{VoiceObject}
-use Rattle.dispatch_types.specs.declared.presences.PresenceObject.{PresenceObject}
 use Rattle.dispatch_types.specs.declared.dispatch.GuildCreate.{GuildCreate as Create}
 use Rattle.dispatch_types.specs.declared.dispatch.Dispatch.{Dispatch}
 use Rattle.dispatch_types.specs.declared.dispatch.Dispatch.TheVariants.{Ready, Resumed, GuildCreate, GuildUpdate, GuildDelete, GuildRoleCreate, GuildRoleUpdate, GuildRoleDelete, ChannelCreate, ChannelUpdate, ChannelDelete, ThreadCreate, ThreadUpdate, ThreadDelete, ThreadListSync, ThreadMembersUpdate, GuildMemberAdd, GuildMemberUpdate, GuildMemberRemove, GuildMembersChunk, VoiceStateUpdate, PresenceUpdate, MessageCreate, MessageUpdate, MessageDelete, MessageReactionAdd, MessageReactionRemove, TypingStart}

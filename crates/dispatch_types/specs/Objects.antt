@@ -1,7 +1,7 @@
 -- What is sent of a part of a record, and the part that a client makes of it.
 use Rattle.std.specs.Prelude.{ℕ, ◌++◌, List, [], map, min, length, Bool, true, false, not, Option, Some, None, option_map}
 use Rattle.std.specs.List.{filter_map}
-use Rattle.collections.specs.ById.{find_id, put_all}
+use Rattle.collections.specs.ById.{put_all}
 use Rattle.guild_model.specs.declared.channel.Channel.{Channel}
 use Rattle.guild_model.specs.declared.channel.Overwrite.{Overwrite}
 use Rattle.guild_model.specs.declared.channel.Overwrites.{Overwrites}

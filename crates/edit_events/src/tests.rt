@@ -107,22 +107,50 @@ fn is_update(told: &[Dispatch]) -> bool {
     }
 }
 
+fn opens(
+    alloc: Global,
+    guild: &mut Guild,
+    viewer: &Viewer,
+    at: Moment,
+) -> Result<bool, AllocError> {
+    let told = told(alloc, guild, opening(alloc, at)?, viewer)?;
+    Ok(told.is_empty())
+}
+
+fn joins(
+    alloc: Global,
+    guild: &mut Guild,
+    viewer: &Viewer,
+    at: Moment,
+) -> Result<bool, AllocError> {
+    let told = told(alloc, guild, joining(alloc, at)?, viewer)?;
+    Ok(is_create(&told))
+}
+
+fn renames(alloc: Global, guild: &mut Guild, viewer: &Viewer) -> Result<bool, AllocError> {
+    let told = told(alloc, guild, renaming(alloc)?, viewer)?;
+    Ok(is_update(&told))
+}
+
+// The guild is opened by another user, the bot joins it, and it is renamed.
+fn run(alloc: Global, viewer: &Viewer, at: Moment) -> Result<(bool, bool, bool), AllocError> {
+    let mut guild = Guild::closed(alloc, Snowflake(1));
+    let opens = opens(alloc, &mut guild, viewer, at)?;
+    let joins = joins(alloc, &mut guild, viewer, at)?;
+    let renames = renames(alloc, &mut guild, viewer)?;
+    Ok((opens, joins, renames))
+}
+
 #[test]
 fn worked_example(rt: HostRuntime) -> Result<(), Fail> {
-    let alloc = rt.alloc();
-    let at = Moment::of_millis(0)?;
     let viewer = Viewer {
         user: Snowflake(9),
         intents: Intents::GUILDS,
         shard: None,
         threshold: 50,
     };
-    let mut guild = Guild::closed(alloc, Snowflake(1));
-    let opened = told(alloc, &mut guild, opening(alloc, at)?, &viewer)?;
-    assert_eq!(rt; opened.len(), 0);
-    let joined = told(alloc, &mut guild, joining(alloc, at)?, &viewer)?;
-    assert!(rt; is_create(&joined));
-    let renamed = told(alloc, &mut guild, renaming(alloc)?, &viewer)?;
-    assert!(rt; is_update(&renamed));
+    let at = Moment::of_millis(0)?;
+    let seen = run(rt.alloc(), &viewer, at)?;
+    assert_eq!(rt; seen, (true, true, true));
     Ok(())
 }
