@@ -1,5 +1,5 @@
 -- What each change of connections and sessions leaves.
-use Rattle.std.proofs.Common.{◌≡◌, ℕ, ◌+◌, ◌<◌, List, [], ◌∷◌, Bool, true, false, cond, Option, Some, None, is_some, refl, sym, ap, subst, ◌∙◌, arith, nat_eq, ◌↔◌, inl, inr, eqb-true}
+use Rattle.std.proofs.Common.{◌≡◌, ℕ, ◌+◌, ◌<◌, List, Bool, true, false, cond, Option, Some, None, is_some, refl, ap, subst, ◌∙◌, arith, nat_eq, inl, inr, eqb-true}
 use Rattle.std.specs.Option.{option_and_then}
 use Rattle.std.specs.List.{IsDistinct}
 use Rattle.std.specs.Map.{lookup, keys_of}
@@ -7,7 +7,6 @@ use Rattle.std.proofs.lemmas.Bool.{cases_Bool}
 use Rattle.std.proofs.lemmas.Bool.Decides.{nat_tests}
 use Rattle.session_core.specs.declared.kept.Line.{Line}
 use Rattle.session_core.specs.declared.kept.Live.{Live}
-use Rattle.session_core.specs.declared.kept.Hold.{Hold}
 use Rattle.session_core.specs.Kept.{conn_of, session_at, conn_at, Agree, IsKept}
 
 -- ---- how two functions agree

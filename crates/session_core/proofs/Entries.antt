@@ -1,5 +1,5 @@
 -- What is kept by numbers, and the lists that it stands for.
-use Rattle.std.proofs.Common.{◌≡◌, ℕ, List, [], ◌∷◌, ◌++◌, map, filter, not, Bool, true, false, cond, if◌then◌else◌, Option, Some, None, is_some, refl, sym, ap, subst, ◌∙◌, arith, eqb-true, eq-eqb, nat_eq, ◌==◌, inl, inr}
+use Rattle.std.proofs.Common.{◌≡◌, ℕ, List, [], ◌∷◌, ◌++◌, map, filter, not, true, false, if◌then◌else◌, Option, Some, None, is_some, refl, sym, ap, subst, ◌∙◌, arith, eqb-true, eq-eqb, nat_eq, ◌==◌, inl, inr}
 use Rattle.std.specs.List.{find, list_any, IsDistinct, AllByRecursion}
 use Rattle.std.specs.Map.{lookup, keys_of, set_value, remove_entry}
 use Rattle.std.proofs.lemmas.List.{map-append}
@@ -12,7 +12,7 @@ use Rattle.session_core.specs.declared.kept.Live.{Live}
 use Rattle.session_core.specs.declared.kept.Hold.{Hold}
 use Rattle.session_core.specs.declared.kept.Hold.TheVariants as hold
 use Rattle.session_core.specs.State.{Link, Session, Place, is_on, is_live, released}
-use Rattle.session_core.specs.Kept.{place_of, conn_of, link_of, session_of, session_at, conn_at}
+use Rattle.session_core.specs.Kept.{place_of, conn_of, link_of, session_of, conn_at}
 
 -- ---- a number that is there once
 

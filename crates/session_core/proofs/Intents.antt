@@ -1,9 +1,8 @@
 -- Which numbers are sets of intents, and which sets go beyond what a bot may ask for.
-use Rattle.std.proofs.Common.{◌≡◌, ℕ, Bool, true, false, ◌↔◌, IsTrue, refl, sym, ◌∙◌, eqb-true, eq-eqb, arith}
-use Rattle.intent_set.specs.Intents.{HasIntentsAlone, privileged_bits, is_among}
+use Rattle.std.proofs.Common.{ℕ, ◌↔◌, IsTrue, eqb-true, eq-eqb}
+use Rattle.intent_set.specs.Intents.{HasIntentsAlone}
 use Rattle.intent_set.proofs.IntentSets.{intents_alone}
-use Rattle.perm_bits.specs.Bits.{has_bit}
-use Rattle.session_core.specs.Identify.{are_intents, goes_beyond}
+use Rattle.session_core.specs.Identify.{are_intents}
 
 pub are_intents_alone : (n : ℕ) → IsTrue (are_intents n) ↔ HasIntentsAlone n
 unfolding are_intents

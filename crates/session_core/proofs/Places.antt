@@ -1,5 +1,5 @@
 -- Sessions by their places.
-use Rattle.std.proofs.Common.{◌≡◌, ℕ, zero, suc, ◌+◌, List, [], ◌∷◌, map, Option, Some, None, slice_get, slice_set, position, length, subst, refl, sym, ap, ◌∙◌, arith, nat_eq, ◌==◌}
+use Rattle.std.proofs.Common.{◌≡◌, ℕ, zero, suc, List, [], ◌∷◌, map, Some, slice_get, slice_set, position, length, subst, refl, sym, ap, ◌∙◌, arith, nat_eq, ◌==◌}
 use Rattle.std.specs.Option.{option_map}
 use Rattle.std.specs.List.{position_or_len, IsDistinct}
 use Rattle.std.proofs.lemmas.List.{length-map}

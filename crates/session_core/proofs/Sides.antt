@@ -1,13 +1,13 @@
 -- A connection and its session, each seen from the other.
-use Rattle.std.proofs.Common.{◌≡◌, ℕ, ◌+◌, ◌<◌, List, map, filter, Bool, true, false, not, Option, Some, None, is_some, refl, sym, ap, ◌∙◌, arith, nat_eq, ◌==◌}
+use Rattle.std.proofs.Common.{◌≡◌, ℕ, List, map, false, Option, Some, None, is_some, refl, sym, ◌∙◌, nat_eq}
 use Rattle.std.specs.List.{find}
 use Rattle.std.specs.Map.{lookup}
 use Rattle.std.proofs.lemmas.Option.{none-some, same_Some}
 use Rattle.session_core.specs.declared.kept.Line.{Line}
 use Rattle.session_core.specs.declared.kept.Live.{Live}
-use Rattle.session_core.specs.State.{Session, Place, Link, is_on, released}
-use Rattle.session_core.specs.Kept.{link_of, session_of, conn_of, session_at, conn_at, IsKept}
-use Rattle.session_core.proofs.Entries.{on-none, on-some, released-none}
+use Rattle.session_core.specs.State.{Session, is_on}
+use Rattle.session_core.specs.Kept.{session_of, conn_of, session_at, conn_at, IsKept}
+use Rattle.session_core.proofs.Entries.{on-none, on-some}
 
 pub session_at-is : (lines : List (ℕ × Line)) (c : ℕ) (l : Line) → lookup (nat_eq c) lines ≡ Some l → session_at lines c ≡ l.session
 session_at-is lines c l there = rw there refl

@@ -1,5 +1,5 @@
 -- A bot that is found fit begins a session as itself.
-use Rattle.std.proofs.Common.{◌≡◌, ℕ, Bool, true, false, not, nat_lt, if◌then◌else◌, Result, Ok, Err, refl, sym, ap, ◌∙◌, arith}
+use Rattle.std.proofs.Common.{◌≡◌, ℕ, Bool, true, false, not, nat_lt, if◌then◌else◌, Result, Ok, Err, refl}
 use Rattle.dispatch_types.specs.declared.viewer.Viewer.{Viewer}
 use Rattle.gateway_frames.specs.declared.frame.Identify.{Identify}
 use Rattle.session_core.specs.declared.bot.Bot.{Bot}

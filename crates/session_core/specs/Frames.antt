@@ -13,7 +13,7 @@ use Rattle.session_core.specs.declared.fault.SessionFault.{SessionFault}
 use Rattle.session_core.specs.declared.fault.SessionFault.TheVariants as fault
 use Rattle.session_core.specs.declared.reply.Reply.{Reply}
 use Rattle.session_core.specs.declared.reply.Reply.TheVariants.{Send, Close, Begin}
-use Rattle.session_core.specs.State.{State, Place, Detached, has_link, has_session, gone, heard, begun}
+use Rattle.session_core.specs.State.{State, Detached, has_link, has_session, gone, heard, begun}
 use Rattle.session_core.specs.Identify.{identified, viewer_of}
 
 -- what a frame does

@@ -1,5 +1,5 @@
 -- What a dispatch of a session leaves and gives, where its number alone is kept.
-use Rattle.std.specs.Prelude.{ℕ, ◌+◌, List, Option, Some, None, slice_get, slice_set}
+use Rattle.std.specs.Prelude.{ℕ, ◌+◌, Option, Some, None, slice_get, slice_set}
 use Rattle.std.specs.Option.{option_map_or}
 use Rattle.session_core.specs.declared.sessions.Pushed.{Pushed}
 use Rattle.session_core.specs.State.{State, Session, Place, Attached, Detached, Ended}

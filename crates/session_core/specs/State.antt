@@ -1,13 +1,12 @@
 -- The connections and sessions of one worker (Gateway, Connection Lifecycle). What is kept of the
 -- dispatches of a session is a parameter: all of them in the model, what a resume needs in the code.
-use Rattle.std.specs.Prelude.{ℕ, ◌+◌, List, [], ◌∷◌, ◌++◌, Bool, true, false, not, ◌==◌, nat_lt, Option, Some, None, is_some, if◌then◌else◌, length, map, filter}
+use Rattle.std.specs.Prelude.{ℕ, ◌+◌, List, [], ◌∷◌, ◌++◌, Bool, true, false, not, ◌==◌, nat_lt, Option, is_some, if◌then◌else◌, length, map, filter}
 use Rattle.std.specs.List.{find, list_any}
 use Rattle.dispatch_types.specs.declared.viewer.Viewer.{Viewer}
-use Rattle.gateway_frames.specs.declared.out.Out.{Out}
-use Rattle.gateway_frames.specs.declared.out.Out.TheVariants.{Hello, Ack}
+use Rattle.gateway_frames.specs.declared.out.Out.TheVariants.{Hello}
 use Rattle.session_core.specs.declared.bot.Bot.{Bot}
 use Rattle.session_core.specs.declared.reply.Reply.{Reply}
-use Rattle.session_core.specs.declared.reply.Reply.TheVariants.{Send, Close, Begin}
+use Rattle.session_core.specs.declared.reply.Reply.TheVariants.{Send, Close}
 
 -- an open connection, and the moment of its last heartbeat, at first that of its opening
 pub record Link : Type 0 where

@@ -14,3 +14,6 @@ pub use bot::Bot;
 pub use fault::{SessionFault, Spent};
 pub use reply::{Mark, Reply};
 pub use sessions::{Pushed, Sessions};
+
+#[cfg(test)]
+mod tests;

@@ -1,8 +1,8 @@
-use Rattle.std.proofs.Common.{◌≡◌, ◌+◌, nat_eq, None, Some, refl, sym, ap, ◌∙◌, arith}
+use Rattle.std.proofs.Common.{◌≡◌, ◌+◌, nat_eq, None, Some, refl, sym, ◌∙◌, arith}
 use Rattle.std.specs.Map.{lookup}
 use Rattle.indexmap.proofs.CallerLemmas.{insert_entry-new}
 use Rattle.session_core.specs.declared.kept.Line.{Line}
-use Rattle.session_core.specs.Kept.{session_of, new_live, session_at}
+use Rattle.session_core.specs.Kept.{session_of, session_at}
 use Rattle.session_core.proofs.Entries.{open-absent, added-kept, tied-kept}
 use Rattle.session_core.proofs.Changes.{IsKept-tie}
 use Rattle.session_core.proofs.Sides.{free-kept}

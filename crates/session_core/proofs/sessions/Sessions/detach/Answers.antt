@@ -3,7 +3,6 @@ use Rattle.std.specs.Map.{lookup}
 use Rattle.session_core.specs.declared.kept.Live.{Live}
 use Rattle.session_core.specs.declared.kept.Hold.TheVariants as hold
 use Rattle.session_core.specs.State.{Detached}
-use Rattle.session_core.specs.Kept.{session_at}
 use Rattle.session_core.proofs.Entries.{without-kept, released-none, released-kept}
 use Rattle.session_core.proofs.Changes.{IsKept-line, IsKept-cut}
 use Rattle.session_core.proofs.Sides.{session_at-is, session_at-absent, off-kept, only-kept, there-kept, on-kept}

@@ -1,6 +1,5 @@
-use Rattle.std.proofs.Common.{◌≡◌, nat_eq, None, Some, refl, sym, ◌∙◌, ap}
+use Rattle.std.proofs.Common.{◌≡◌, nat_eq, None, Some, refl, sym}
 use Rattle.std.specs.Map.{lookup}
-use Rattle.session_core.specs.declared.kept.Line.{Line}
 use Rattle.session_core.proofs.Entries.{heard-absent, heard-kept}
 use Rattle.session_core.proofs.Changes.{IsKept-heard, heard_line}
 use Rattle.session_core.proofs.sessions.Sessions.hear.Goals as goal

@@ -1,7 +1,6 @@
-use Rattle.std.proofs.Common.{◌≡◌, ◌+◌, Some, slice_get, refl, sym, ap, arith}
+use Rattle.std.proofs.Common.{◌+◌, Some, refl, ap}
 use Rattle.std.proofs.lemmas.Option.{same_Some}
 use Rattle.session_core.specs.declared.kept.Live.{Live}
-use Rattle.session_core.specs.Kept.{session_of}
 use Rattle.session_core.proofs.Places.{set-same, set-kept, at-kept, attached-kept, IsKept-counted}
 use Rattle.session_core.proofs.sessions.Sessions.push_at.Goals as goal
 
