@@ -3,9 +3,10 @@ use Rattle.std.proofs.Common.{◌≡◌, ℕ, List, [], ◌∷◌, Option, Some,
 use Rattle.guild_model.specs.declared.verdict.Verdict.{Verdict}
 use Rattle.guild_model.specs.Record.{Record, closed}
 use Rattle.role_member_edit.specs.declared.RoleMemberEdit.TheVariants.{RoleCreate, RoleUpdate, RoleDelete, MemberAdd, MemberRemove, MemberNick, MemberTimeout, MemberRoleAdd, MemberRoleRemove}
+use Rattle.channel_edit.specs.declared.ChannelEdit.TheVariants.{ChannelCreate, ChannelUpdate, ChannelDelete, OverwriteSet, OverwriteDelete}
 use Rattle.edit_apply.specs.declared.guild.GuildEdit.TheVariants.{GuildOpen, GuildRename, GuildOwner, GuildOutage, GuildBack}
 use Rattle.edit_apply.specs.declared.Edit.{Edit}
-use Rattle.edit_apply.specs.declared.Edit.TheVariants.{Guild, RoleMember}
+use Rattle.edit_apply.specs.declared.Edit.TheVariants.{Guild, RoleMember, Channel}
 use Rattle.edit_apply.specs.Edits.{verdict, applied, after, after_verdict, state_from, state, StaysWell}
 use Rattle.edit_apply.proofs.Well.{stays}
 
@@ -27,6 +28,11 @@ applied_id s (RoleMember (MemberNick user nick)) = refl
 applied_id s (RoleMember (MemberTimeout user until)) = refl
 applied_id s (RoleMember (MemberRoleAdd user role)) = refl
 applied_id s (RoleMember (MemberRoleRemove user role)) = refl
+applied_id s (Channel (ChannelCreate channel kind name parent position sync)) = refl
+applied_id s (Channel (ChannelUpdate channel name parent position)) = refl
+applied_id s (Channel (ChannelDelete channel)) = refl
+applied_id s (Channel (OverwriteSet channel id kind allow deny)) = refl
+applied_id s (Channel (OverwriteDelete channel id kind)) = refl
 
 after_id : (s : Record) (e : Edit) → (after s e).id ≡ s.id
 after_id s e = by_verdict (verdict s e)
