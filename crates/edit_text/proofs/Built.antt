@@ -12,6 +12,8 @@ use Rattle.edit_apply.specs.declared.guild.GuildEdit.{GuildEdit}
 use Rattle.edit_apply.specs.declared.guild.GuildEdit.TheVariants.{GuildOpen, GuildRename, GuildOwner, GuildOutage, GuildBack}
 use Rattle.role_member_edit.specs.declared.RoleMemberEdit.{RoleMemberEdit}
 use Rattle.role_member_edit.specs.declared.RoleMemberEdit.TheVariants.{RoleCreate, RoleUpdate, RoleDelete, MemberAdd, MemberRemove, MemberNick, MemberTimeout, MemberRoleAdd, MemberRoleRemove}
+use Rattle.channel_edit.specs.declared.ChannelEdit.{ChannelEdit}
+use Rattle.channel_edit.specs.declared.ChannelEdit.TheVariants.{ChannelCreate, ChannelUpdate, ChannelDelete, OverwriteSet, OverwriteDelete}
 use Rattle.edit_text.specs.declared.fault.LineFault.{LineFault}
 use Rattle.edit_text.specs.declared.fault.LineFault.TheVariants.{NotJson, NoSuchStep, WrongType, TooLong}
 use Rattle.edit_text.specs.declared.line.Line.{Line}
@@ -24,11 +26,14 @@ use Rattle.edit_text.specs.declared.names.GuildEditName.{GuildEditName}
 use Rattle.edit_text.specs.declared.names.GuildEditName.TheVariants as guild
 use Rattle.edit_text.specs.declared.names.RoleMemberEditName.{RoleMemberEditName}
 use Rattle.edit_text.specs.declared.names.RoleMemberEditName.TheVariants as role_member
+use Rattle.edit_text.specs.declared.names.ChannelEditName.{ChannelEditName}
+use Rattle.edit_text.specs.declared.names.ChannelEditName.TheVariants as channel
 use Rattle.edit_text.specs.declared.reader.StepReader.{StepReader}
-use Rattle.edit_text.specs.Fields.{text_at, id_at, flag_at, number_below, mask_at, moment_at, position_at, nullable_text_at, nullable_moment_at, intents_at}
+use Rattle.edit_text.specs.Fields.{text_at, id_at, flag_at, number_below, mask_at, moment_at, position_at, kind_at, overwrite_kind_at, nullable_text_at, nullable_id_at, nullable_moment_at, intents_at}
 use Rattle.edit_text.specs.Names.{is_built, if_built, built_edit, edit_named}
 use Rattle.edit_text.specs.GuildEdits.{guild_edit_from, guild_edit_name}
 use Rattle.edit_text.specs.RoleMemberEdits.{role_member_edit_from, role_member_edit_name}
+use Rattle.edit_text.specs.ChannelEdits.{channel_edit_from, channel_edit_name}
 use Rattle.edit_text.specs.Edits.{edit_from, edit_name, is_built_edit}
 use Rattle.edit_text.specs.Lines.{has_room, short_token, worker_at, connection_at, fields_from, line_from, object_line_from, is_too_long, is_blank, step_of, some_line, line_of}
 
@@ -55,6 +60,11 @@ each2 : {A B X : Type 0} (P : X → Type 0) (a : Result A LineFault) (b : Result
 each2 P (Ok x) b make h = each1 P b (make x) (h x)
 each2 P (Err e) b make h = tt
 
+each3 : {A B C X : Type 0} (P : X → Type 0) (a : Result A LineFault) (b : Result B LineFault) (c : Result C LineFault) (make : A → B → C → X)
+    → ((x : A) (y : B) (z : C) → P (make x y z)) → IfOk (and_then a (λ x. and_then b (λ y. and_then c (λ z. Ok (make x y z))))) P
+each3 P (Ok x) b c make h = each2 P b c (make x) (h x)
+each3 P (Err e) b c make h = tt
+
 each4 : {A B C D X : Type 0} (P : X → Type 0) (a : Result A LineFault) (b : Result B LineFault) (c : Result C LineFault) (d : Result D LineFault) (make : A → B → C → D → X)
     → ((x : A) (y : B) (z : C) (w : D) → P (make x y z w)) → IfOk (and_then a (λ x. and_then b (λ y. and_then c (λ z. and_then d (λ w. Ok (make x y z w)))))) P
 each4 P (Ok x) (Ok y) c d make h = each2 P c d (make x y) (h x y)
@@ -66,6 +76,12 @@ each5 : {A B C D E X : Type 0} (P : X → Type 0) (a : Result A LineFault) (b : 
     → IfOk (and_then a (λ x. and_then b (λ y. and_then c (λ z. and_then d (λ w. and_then e (λ v. Ok (make x y z w v))))))) P
 each5 P (Ok x) b c d e make h = each4 P b c d e (make x) (h x)
 each5 P (Err f) b c d e make h = tt
+
+each6 : {A B C D E F X : Type 0} (P : X → Type 0) (a : Result A LineFault) (b : Result B LineFault) (c : Result C LineFault) (d : Result D LineFault) (e : Result E LineFault)
+    (f : Result F LineFault) (make : A → B → C → D → E → F → X) → ((x : A) (y : B) (z : C) (w : D) (v : E) (u : F) → P (make x y z w v u))
+    → IfOk (and_then a (λ x. and_then b (λ y. and_then c (λ z. and_then d (λ w. and_then e (λ v. and_then f (λ u. Ok (make x y z w v u)))))))) P
+each6 P (Ok x) b c d e f make h = each5 P b c d e f (make x) (h x)
+each6 P (Err g) b c d e f make h = tt
 
 -- ---- edits have the name by which they were asked for
 
@@ -99,11 +115,28 @@ role_member_named role_member.MemberRoleAdd d =
 role_member_named role_member.MemberRoleRemove d =
     each2 (λ e. role_member_edit_name e ≡ role_member.MemberRoleRemove) (id_at (codes "user") d) (id_at (codes "role") d) MemberRoleRemove (λ x y. refl)
 
+channel_named : (n : ChannelEditName) (d : Data) → IfOk (channel_edit_from n d) (λ e. channel_edit_name e ≡ n)
+channel_named channel.ChannelCreate d =
+    each6 (λ e. channel_edit_name e ≡ channel.ChannelCreate) (id_at (codes "channel") d) (kind_at (codes "type") d) (text_at (codes "name") d) (nullable_id_at (codes "parent") d)
+    (position_at (codes "position") d) (flag_at (codes "sync") d) ChannelCreate (λ x y z w v u. refl)
+channel_named channel.ChannelUpdate d =
+    each4 (λ e. channel_edit_name e ≡ channel.ChannelUpdate) (id_at (codes "channel") d) (text_at (codes "name") d) (nullable_id_at (codes "parent") d) (position_at (codes "position") d)
+    ChannelUpdate (λ x y z w. refl)
+channel_named channel.ChannelDelete d = each1 (λ e. channel_edit_name e ≡ channel.ChannelDelete) (id_at (codes "channel") d) ChannelDelete (λ x. refl)
+channel_named channel.OverwriteSet d =
+    each5 (λ e. channel_edit_name e ≡ channel.OverwriteSet) (id_at (codes "channel") d) (id_at (codes "id") d) (overwrite_kind_at (codes "type") d) (mask_at (codes "allow") d)
+    (mask_at (codes "deny") d) OverwriteSet (λ x y z w v. refl)
+channel_named channel.OverwriteDelete d =
+    each3 (λ e. channel_edit_name e ≡ channel.OverwriteDelete) (id_at (codes "channel") d) (id_at (codes "id") d) (overwrite_kind_at (codes "type") d)
+    OverwriteDelete (λ x y z. refl)
+
 edit_named_so : (n : EditName) (d : Data) → IfOk (edit_from n d) (λ e. edit_name e ≡ n)
 edit_named_so (name.Guild n) d =
     each_of (λ g. guild_edit_name g ≡ n) (λ e. edit_name e ≡ name.Guild n) (guild_edit_from n d) (λ g. Ok (edit.Guild g)) (guild_named n d) (λ g h. ap name.Guild h)
 edit_named_so (name.RoleMember n) d =
     each_of (λ g. role_member_edit_name g ≡ n) (λ e. edit_name e ≡ name.RoleMember n) (role_member_edit_from n d) (λ g. Ok (edit.RoleMember g)) (role_member_named n d) (λ g h. ap name.RoleMember h)
+edit_named_so (name.Channel n) d =
+    each_of (λ g. channel_edit_name g ≡ n) (λ e. edit_name e ≡ name.Channel n) (channel_edit_from n d) (λ g. Ok (edit.Channel g)) (channel_named n d) (λ g h. ap name.Channel h)
 
 -- ---- lines
 

@@ -13,12 +13,22 @@ use Rattle.edit_apply.specs.declared.guild.GuildEdit.{GuildEdit}
 use Rattle.edit_apply.specs.declared.guild.GuildEdit.TheVariants.{GuildOpen, GuildRename, GuildOwner, GuildOutage, GuildBack}
 use Rattle.role_member_edit.specs.declared.RoleMemberEdit.{RoleMemberEdit}
 use Rattle.role_member_edit.specs.declared.RoleMemberEdit.TheVariants.{RoleCreate, RoleUpdate, RoleDelete, MemberAdd, MemberRemove, MemberNick, MemberTimeout, MemberRoleAdd, MemberRoleRemove}
+use Rattle.channel_edit.specs.declared.ChannelEdit.{ChannelEdit}
+use Rattle.channel_edit.specs.declared.ChannelEdit.TheVariants.{ChannelCreate, ChannelUpdate, ChannelDelete, OverwriteSet, OverwriteDelete}
+use Rattle.guild_model.specs.declared.channel.ChannelKind.{ChannelKind}
+use Rattle.guild_model.specs.declared.channel.ChannelKind.TheVariants.{Text, Voice, Category, Announcement, Stage, Forum}
+use Rattle.guild_model.specs.declared.channel.OverwriteKind.{OverwriteKind}
+use Rattle.guild_model.specs.declared.channel.OverwriteKind.TheVariants.{Role, Member}
 use Rattle.edit_text.specs.declared.line.Line.TheVariants.{Edit as EditLine}
-use Rattle.edit_text.specs.Fields.{text_at, id_at}
-use Rattle.edit_text.specs.Fits.{IdFits, MaskFits, MomentFits, NullableMomentFits, GuildEditFits, RoleMemberEditFits, EditFits}
+use Rattle.std.specs.Option.{ok_or}
+use Rattle.edit_text.specs.declared.fault.LineFault.{LineFault}
+use Rattle.edit_text.specs.declared.fault.LineFault.TheVariants.{WrongType}
+use Rattle.edit_text.specs.Fields.{text_at, id_at, channel_kind_numbered, overwrite_kind_numbered}
+use Rattle.edit_text.specs.Members.{channel_kind_number, overwrite_kind_number}
+use Rattle.edit_text.specs.Fits.{IdFits, NullableIdFits, MaskFits, MomentFits, NullableMomentFits, GuildEditFits, RoleMemberEditFits, ChannelEditFits, EditFits}
 use Rattle.edit_text.specs.Names.{name_text}
 use Rattle.edit_text.specs.Edits.{edit_from, edit_name}
-use Rattle.edit_text.specs.Written.{line_data, edit_within, role_member_within}
+use Rattle.edit_text.specs.Written.{line_data, edit_within, role_member_within, channel_within}
 
 -- the line of an edit says so, and names its guild and the edit
 abbrev pub ReadsAs : ℕ → Edit → Data → Type 0
@@ -94,9 +104,69 @@ role_member_back guild (MemberRoleAdd user role) h k p =
 role_member_back guild (MemberRoleRemove user role) h k p =
     (refl, rw (id_of_decimal guild h) refl, refl, rw (id_of_decimal user k.0, id_of_decimal role k.1) refl)
 
+channel_kind_back : (kind : ChannelKind) → channel_kind_numbered (channel_kind_number kind) ≡ Some kind
+unfolding channel_kind_numbered
+channel_kind_back Text = refl
+channel_kind_back Voice = refl
+channel_kind_back Category = refl
+channel_kind_back Announcement = refl
+channel_kind_back Stage = refl
+channel_kind_back Forum = refl
+
+overwrite_kind_back : (kind : OverwriteKind) → overwrite_kind_numbered (overwrite_kind_number kind) ≡ Some kind
+unfolding overwrite_kind_numbered
+overwrite_kind_back Role = refl
+overwrite_kind_back Member = refl
+
+channel_create_back : (guild channel : ℕ) (kind : ChannelKind) (name : List ℕ) (parent : Option ℕ) (position : ℕ) (sync : Bool)
+    → IdFits guild → IdFits channel → NullableIdFits parent → nat_lt position (2 ^ 31) ≡ true
+    → Back guild (edit.Channel (ChannelCreate channel kind name parent position sync))
+unfolding serde_json_on_literals
+channel_create_back guild channel kind name None position sync h k f p =
+    (refl, rw (id_of_decimal guild h) refl, refl, rw (id_of_decimal channel k, channel_kind_back kind, p) refl)
+channel_create_back guild channel kind name (Some parent) position sync h k f p =
+    (refl, rw (id_of_decimal guild h) refl, refl, rw (id_of_decimal channel k, channel_kind_back kind, id_of_decimal parent f, p) refl)
+
+channel_update_back : (guild channel : ℕ) (name : List ℕ) (parent : Option ℕ) (position : ℕ)
+    → IdFits guild → IdFits channel → NullableIdFits parent → nat_lt position (2 ^ 31) ≡ true
+    → Back guild (edit.Channel (ChannelUpdate channel name parent position))
+unfolding serde_json_on_literals
+channel_update_back guild channel name None position h k f p =
+    (refl, rw (id_of_decimal guild h) refl, refl, rw (id_of_decimal channel k, p) refl)
+channel_update_back guild channel name (Some parent) position h k f p =
+    (refl, rw (id_of_decimal guild h) refl, refl, rw (id_of_decimal channel k, id_of_decimal parent f, p) refl)
+
+overwrite_set_back : (guild channel id : ℕ) (kind : OverwriteKind) (allow deny : ℕ)
+    → IdFits guild → IdFits channel → IdFits id → MaskFits allow → MaskFits deny → Back guild (edit.Channel (OverwriteSet channel id kind allow deny))
+unfolding serde_json_on_literals
+overwrite_set_back guild channel id kind allow deny h k i a d = (
+  refl,
+  rw (id_of_decimal guild h) refl,
+  refl,
+  rw (
+    id_of_decimal channel k,
+    id_of_decimal id i,
+    overwrite_kind_back kind,
+    id_of_decimal allow (mask_as_id allow a),
+    mask_below allow a,
+    id_of_decimal deny (mask_as_id deny d),
+    mask_below deny d,
+  ) refl,
+)
+
+channel_back : (guild : ℕ) (e : ChannelEdit) → IdFits guild → ChannelEditFits e → channel_within e ≡ true → Back guild (edit.Channel e)
+unfolding serde_json_on_literals
+channel_back guild (ChannelCreate channel kind name parent position sync) h k p = channel_create_back guild channel kind name parent position sync h k.0 k.1 p
+channel_back guild (ChannelUpdate channel name parent position) h k p = channel_update_back guild channel name parent position h k.0 k.1 p
+channel_back guild (ChannelDelete channel) h k p = (refl, rw (id_of_decimal guild h) refl, refl, rw (id_of_decimal channel k) refl)
+channel_back guild (OverwriteSet channel id kind allow deny) h k p = overwrite_set_back guild channel id kind allow deny h k.0 k.1 k.2 k.3
+channel_back guild (OverwriteDelete channel id kind) h k p =
+    (refl, rw (id_of_decimal guild h) refl, refl, rw (id_of_decimal channel k.0, id_of_decimal id k.1, overwrite_kind_back kind) refl)
+
 pub edit_back : (guild : ℕ) (e : Edit) → IdFits guild → EditFits e → edit_within e ≡ true → Back guild e
 edit_back guild (edit.Guild e) h k p = guild_back guild e h k
 edit_back guild (edit.RoleMember e) h k p = role_member_back guild e h k p
+edit_back guild (edit.Channel e) h k p = channel_back guild e h k p
 
 -- ---- plain values
 
@@ -136,6 +206,27 @@ role_member_plain guild (MemberTimeout user until) = timeout_plain guild user un
 role_member_plain guild (MemberRoleAdd user role) = (omega arith, refl)
 role_member_plain guild (MemberRoleRemove user role) = (omega arith, refl)
 
+channel_create_plain : (guild channel : ℕ) (kind : ChannelKind) (name : List ℕ) (parent : Option ℕ) (position : ℕ) (sync : Bool)
+    → PlainEdit guild (edit.Channel (ChannelCreate channel kind name parent position sync))
+unfolding serde_json_on_literals
+channel_create_plain guild channel kind name None position sync = (omega arith, refl)
+channel_create_plain guild channel kind name (Some parent) position sync = (omega arith, refl)
+
+channel_update_plain : (guild channel : ℕ) (name : List ℕ) (parent : Option ℕ) (position : ℕ)
+    → PlainEdit guild (edit.Channel (ChannelUpdate channel name parent position))
+unfolding serde_json_on_literals
+channel_update_plain guild channel name None position = (omega arith, refl)
+channel_update_plain guild channel name (Some parent) position = (omega arith, refl)
+
+channel_plain : (guild : ℕ) (e : ChannelEdit) → PlainEdit guild (edit.Channel e)
+unfolding serde_json_on_literals
+channel_plain guild (ChannelCreate channel kind name parent position sync) = channel_create_plain guild channel kind name parent position sync
+channel_plain guild (ChannelUpdate channel name parent position) = channel_update_plain guild channel name parent position
+channel_plain guild (ChannelDelete channel) = (omega arith, refl)
+channel_plain guild (OverwriteSet channel id kind allow deny) = (omega arith, refl)
+channel_plain guild (OverwriteDelete channel id kind) = (omega arith, refl)
+
 pub edit_plain : (guild : ℕ) (e : Edit) → PlainEdit guild e
 edit_plain guild (edit.Guild e) = guild_plain guild e
 edit_plain guild (edit.RoleMember e) = role_member_plain guild e
+edit_plain guild (edit.Channel e) = channel_plain guild e

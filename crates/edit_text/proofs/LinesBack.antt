@@ -20,9 +20,10 @@ use Rattle.edit_text.specs.declared.names.EditName.{EditName}
 use Rattle.edit_text.specs.declared.names.EditName.TheVariants as name
 use Rattle.edit_text.specs.declared.names.GuildEditName.TheVariants.{GuildOpen, GuildRename, GuildOwner, GuildOutage, GuildBack}
 use Rattle.edit_text.specs.declared.names.RoleMemberEditName.TheVariants.{RoleCreate, RoleUpdate, RoleDelete, MemberAdd, MemberRemove, MemberNick, MemberTimeout, MemberRoleAdd, MemberRoleRemove}
+use Rattle.edit_text.specs.declared.names.ChannelEditName.TheVariants.{ChannelCreate, ChannelUpdate, ChannelDelete, OverwriteSet, OverwriteDelete}
 use Rattle.edit_text.specs.declared.reader.StepReader.{StepReader}
 use Rattle.edit_text.specs.Fields.{text_at, are_intents}
-use Rattle.edit_text.specs.Names.{step_named, connection_step_named, any_step_named, step_text, guild_edit_named, role_edit_named, member_edit_named, edit_named, name_text, is_built}
+use Rattle.edit_text.specs.Names.{step_named, connection_step_named, any_step_named, step_text, guild_edit_named, role_edit_named, member_edit_named, channel_edit_named, edit_named, name_text, is_built}
 use Rattle.edit_text.specs.Edits.{edit_name, is_built_edit}
 use Rattle.edit_text.specs.Fits.{IdFits, ConnectionFits, EditFits, LineFits}
 use Rattle.edit_text.specs.Lines.{is_allowed, is_blank, fields_from, line_from, line_of}
@@ -44,7 +45,7 @@ step_back step.Closed = refl
 step_back step.Tick = refl
 
 pub named_back : (n : EditName) → edit_named (name_text n) ≡ Some n
-unfolding guild_edit_named role_edit_named member_edit_named
+unfolding guild_edit_named role_edit_named member_edit_named channel_edit_named
 named_back (name.Guild GuildOpen) = refl
 named_back (name.Guild GuildRename) = refl
 named_back (name.Guild GuildOwner) = refl
@@ -59,6 +60,11 @@ named_back (name.RoleMember MemberNick) = refl
 named_back (name.RoleMember MemberTimeout) = refl
 named_back (name.RoleMember MemberRoleAdd) = refl
 named_back (name.RoleMember MemberRoleRemove) = refl
+named_back (name.Channel ChannelCreate) = refl
+named_back (name.Channel ChannelUpdate) = refl
+named_back (name.Channel ChannelDelete) = refl
+named_back (name.Channel OverwriteSet) = refl
+named_back (name.Channel OverwriteDelete) = refl
 
 -- ---- objects
 

@@ -4,7 +4,11 @@ use Rattle.std.specs.Int.RustNames.{bit_and}
 use Rattle.serde_json.specs.Data.{Data}
 use Rattle.std.specs.Option.{ok_or}
 use Rattle.serde_json.specs.Find.{as_str}
-use Rattle.json_view.specs.Fields.{and_then, field, unless_null, whole, text_field, id_field, number_field, flag_field}
+use Rattle.json_view.specs.Fields.{and_then, field, unless_null, whole, text_field, id_value, id_field, number_field, flag_field}
+use Rattle.guild_model.specs.declared.channel.ChannelKind.{ChannelKind}
+use Rattle.guild_model.specs.declared.channel.ChannelKind.TheVariants.{Text, Voice, Category, Announcement, Stage, Forum}
+use Rattle.guild_model.specs.declared.channel.OverwriteKind.{OverwriteKind}
+use Rattle.guild_model.specs.declared.channel.OverwriteKind.TheVariants.{Role, Member}
 use Rattle.guild_model.specs.declared.moment.TheConstants.{END_OF_TIME}
 use Rattle.edit_text.specs.declared.fault.LineFault.{LineFault}
 use Rattle.edit_text.specs.declared.fault.LineFault.TheVariants.{WrongType}
@@ -37,6 +41,30 @@ moment_at name d = number_below END_OF_TIME name d
 abbrev pub position_at : List ℕ → Data → Result ℕ LineFault
 position_at name d = number_below (2 ^ 31) name d
 
+-- the type of a channel (Channels Resource, Channel Types)
+unfoldable pub channel_kind_numbered : ℕ → Option ChannelKind
+channel_kind_numbered n =
+    if n == 0 then Some Text
+    else (if n == 2 then Some Voice
+    else (if n == 4 then Some Category
+    else (if n == 5 then Some Announcement
+    else (if n == 13 then Some Stage
+    else (if n == 15 then Some Forum
+    else None)))))
+
+-- whom an overwrite is of (Channels Resource, Overwrite Object)
+unfoldable pub overwrite_kind_numbered : ℕ → Option OverwriteKind
+overwrite_kind_numbered n =
+    if n == 0 then Some Role
+    else (if n == 1 then Some Member
+    else None)
+
+abbrev pub kind_at : List ℕ → Data → Result ChannelKind LineFault
+kind_at name d = and_then (faulted (number_field name d)) (λ n. ok_or (channel_kind_numbered n) WrongType)
+
+abbrev pub overwrite_kind_at : List ℕ → Data → Result OverwriteKind LineFault
+overwrite_kind_at name d = and_then (faulted (number_field name d)) (λ n. ok_or (overwrite_kind_numbered n) WrongType)
+
 -- what reads a value, where it is not null
 abbrev pub or_null : {A : Type 0} → (Data → Result A LineFault) → Option Data → Result (Option A) LineFault
 or_null read None = Ok None
@@ -48,6 +76,9 @@ nullable_at read name d = and_then (faulted (field name d)) (λ v. or_null read 
 
 abbrev pub nullable_text_at : List ℕ → Data → Result (Option (List ℕ)) LineFault
 nullable_text_at name d = nullable_at (λ v. ok_or (as_str v) WrongType) name d
+
+abbrev pub nullable_id_at : List ℕ → Data → Result (Option ℕ) LineFault
+nullable_id_at name d = nullable_at (λ v. faulted (id_value v)) name d
 
 abbrev pub moment_from : Data → Result ℕ LineFault
 moment_from v = and_then (ok_or (whole v) WrongType) (λ n. within (nat_lt n END_OF_TIME) n)

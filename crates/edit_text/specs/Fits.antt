@@ -7,12 +7,18 @@ use Rattle.edit_apply.specs.declared.guild.GuildEdit.{GuildEdit}
 use Rattle.edit_apply.specs.declared.guild.GuildEdit.TheVariants.{GuildOpen, GuildRename, GuildOwner, GuildOutage, GuildBack}
 use Rattle.role_member_edit.specs.declared.RoleMemberEdit.{RoleMemberEdit}
 use Rattle.role_member_edit.specs.declared.RoleMemberEdit.TheVariants.{RoleCreate, RoleUpdate, RoleDelete, MemberAdd, MemberRemove, MemberNick, MemberTimeout, MemberRoleAdd, MemberRoleRemove}
+use Rattle.channel_edit.specs.declared.ChannelEdit.{ChannelEdit}
+use Rattle.channel_edit.specs.declared.ChannelEdit.TheVariants.{ChannelCreate, ChannelUpdate, ChannelDelete, OverwriteSet, OverwriteDelete}
 use Rattle.edit_text.specs.declared.line.Line.{Line}
 use Rattle.edit_text.specs.declared.line.Line.TheVariants.{Bot, Guild, Edit as EditLine, Look, Open, Frame, Lost, Closed, Tick}
 use Rattle.edit_text.specs.Fields.{are_intents}
 
 abbrev pub IdFits : ℕ → Type 0
 IdFits id = id < 2 ^ 64
+
+abbrev pub NullableIdFits : Option ℕ → Type 0
+NullableIdFits None = Unit {0}
+NullableIdFits (Some id) = IdFits id
 
 abbrev pub MaskFits : ℕ → Type 0
 MaskFits mask = mask < 2 ^ 53
@@ -45,9 +51,17 @@ RoleMemberEditFits (MemberTimeout user until) = IdFits user × NullableMomentFit
 RoleMemberEditFits (MemberRoleAdd user role) = IdFits user × IdFits role
 RoleMemberEditFits (MemberRoleRemove user role) = IdFits user × IdFits role
 
+abbrev pub ChannelEditFits : ChannelEdit → Type 0
+ChannelEditFits (ChannelCreate channel kind name parent position sync) = IdFits channel × NullableIdFits parent
+ChannelEditFits (ChannelUpdate channel name parent position) = IdFits channel × NullableIdFits parent
+ChannelEditFits (ChannelDelete channel) = IdFits channel
+ChannelEditFits (OverwriteSet channel id kind allow deny) = IdFits channel × IdFits id × MaskFits allow × MaskFits deny
+ChannelEditFits (OverwriteDelete channel id kind) = IdFits channel × IdFits id
+
 abbrev pub EditFits : Edit → Type 0
 EditFits (edit.Guild e) = GuildEditFits e
 EditFits (edit.RoleMember e) = RoleMemberEditFits e
+EditFits (edit.Channel e) = ChannelEditFits e
 
 abbrev pub LineFits : Line → Type 0
 LineFits (Bot token user name privileged) = IdFits user × (are_intents privileged ≡ true)

@@ -4,6 +4,7 @@ pub mod Members
 pub mod Names
 pub mod GuildEdits
 pub mod RoleMemberEdits
+pub mod ChannelEdits
 pub mod Edits
 pub mod Lines
 pub mod Written

@@ -7,8 +7,10 @@ use Rattle.edit_text.specs.declared.names.GuildEditName.{GuildEditName}
 use Rattle.edit_text.specs.declared.names.GuildEditName.TheVariants.{GuildOpen, GuildRename, GuildOwner, GuildOutage, GuildBack}
 use Rattle.edit_text.specs.declared.names.RoleMemberEditName.{RoleMemberEditName}
 use Rattle.edit_text.specs.declared.names.RoleMemberEditName.TheVariants.{RoleCreate, RoleUpdate, RoleDelete, MemberAdd, MemberRemove, MemberNick, MemberTimeout, MemberRoleAdd, MemberRoleRemove}
+use Rattle.edit_text.specs.declared.names.ChannelEditName.{ChannelEditName}
+use Rattle.edit_text.specs.declared.names.ChannelEditName.TheVariants.{ChannelCreate, ChannelUpdate, ChannelDelete, OverwriteSet, OverwriteDelete}
 use Rattle.edit_text.specs.declared.names.EditName.{EditName}
-use Rattle.edit_text.specs.declared.names.EditName.TheVariants.{Guild, RoleMember}
+use Rattle.edit_text.specs.declared.names.EditName.TheVariants.{Guild, RoleMember, Channel}
 
 -- the first of two that is there
 abbrev pub first_named : {A : Type 0} → Option A → Option A → Option A
@@ -100,10 +102,19 @@ member_edit_named s =
     else (if bytes_eq s (codes "member_role_remove") then Some MemberRoleRemove
     else None)))))
 
+unfoldable pub channel_edit_named : List ℕ → Option ChannelEditName
+channel_edit_named s =
+    if bytes_eq s (codes "channel_create") then Some ChannelCreate
+    else (if bytes_eq s (codes "channel_update") then Some ChannelUpdate
+    else (if bytes_eq s (codes "channel_delete") then Some ChannelDelete
+    else (if bytes_eq s (codes "overwrite_set") then Some OverwriteSet
+    else (if bytes_eq s (codes "overwrite_delete") then Some OverwriteDelete
+    else None))))
+
 abbrev pub edit_named : List ℕ → Option EditName
 edit_named s =
     first_named (option_map Guild (guild_edit_named s)) (first_named (option_map RoleMember (role_edit_named s))
-    (option_map RoleMember (member_edit_named s)))
+    (first_named (option_map RoleMember (member_edit_named s)) (option_map Channel (channel_edit_named s))))
 
 abbrev pub guild_edit_text : GuildEditName → List ℕ
 guild_edit_text GuildOpen = codes "guild_open"
@@ -123,9 +134,17 @@ role_member_edit_text MemberTimeout = codes "member_timeout"
 role_member_edit_text MemberRoleAdd = codes "member_role_add"
 role_member_edit_text MemberRoleRemove = codes "member_role_remove"
 
+abbrev pub channel_edit_text : ChannelEditName → List ℕ
+channel_edit_text ChannelCreate = codes "channel_create"
+channel_edit_text ChannelUpdate = codes "channel_update"
+channel_edit_text ChannelDelete = codes "channel_delete"
+channel_edit_text OverwriteSet = codes "overwrite_set"
+channel_edit_text OverwriteDelete = codes "overwrite_delete"
+
 abbrev pub name_text : EditName → List ℕ
 name_text (Guild name) = guild_edit_text name
 name_text (RoleMember name) = role_member_edit_text name
+name_text (Channel name) = channel_edit_text name
 
 -- the edits that may be used
 abbrev pub is_built : EditName → Bool
@@ -143,6 +162,11 @@ is_built (RoleMember MemberNick) = false
 is_built (RoleMember MemberTimeout) = false
 is_built (RoleMember MemberRoleAdd) = false
 is_built (RoleMember MemberRoleRemove) = false
+is_built (Channel ChannelCreate) = false
+is_built (Channel ChannelUpdate) = false
+is_built (Channel ChannelDelete) = false
+is_built (Channel OverwriteSet) = false
+is_built (Channel OverwriteDelete) = false
 
 abbrev pub if_built : EditName → Option EditName
 if_built name = if is_built name then Some name else None

@@ -5,6 +5,8 @@ use Rattle.edit_apply.specs.declared.Edit.{Edit}
 use Rattle.edit_apply.specs.declared.Edit.TheVariants as edit
 use Rattle.role_member_edit.specs.declared.RoleMemberEdit.{RoleMemberEdit}
 use Rattle.role_member_edit.specs.declared.RoleMemberEdit.TheVariants.{RoleCreate, RoleUpdate, RoleDelete, MemberAdd, MemberRemove, MemberNick, MemberTimeout, MemberRoleAdd, MemberRoleRemove}
+use Rattle.channel_edit.specs.declared.ChannelEdit.{ChannelEdit}
+use Rattle.channel_edit.specs.declared.ChannelEdit.TheVariants.{ChannelCreate, ChannelUpdate, ChannelDelete, OverwriteSet, OverwriteDelete}
 use Rattle.edit_text.specs.declared.line.Line.{Line}
 use Rattle.edit_text.specs.declared.line.Line.TheVariants.{Bot, Guild, Edit as EditLine, Look, Open, Frame, Lost, Closed, Tick}
 use Rattle.edit_text.specs.declared.names.StepName.{StepName}
@@ -59,9 +61,17 @@ role_member_within (MemberTimeout user until) = true
 role_member_within (MemberRoleAdd user role) = true
 role_member_within (MemberRoleRemove user role) = true
 
+abbrev pub channel_within : ChannelEdit → Bool
+channel_within (ChannelCreate channel kind name parent position sync) = is_in_place position
+channel_within (ChannelUpdate channel name parent position) = is_in_place position
+channel_within (ChannelDelete channel) = true
+channel_within (OverwriteSet channel id kind allow deny) = true
+channel_within (OverwriteDelete channel id kind) = true
+
 abbrev pub edit_within : Edit → Bool
 edit_within (edit.Guild e) = true
 edit_within (edit.RoleMember e) = role_member_within e
+edit_within (edit.Channel e) = channel_within e
 
 -- within the limits of its fields, after these guilds
 abbrev pub line_within : List ℕ → Line → Bool

@@ -7,6 +7,7 @@ ghost use Rattle.edit_text.specs.Fits.{EditFits};
 ghost use Rattle.edit_text.specs.Members.{put_all};
 ghost use Rattle.edit_text.specs.Edits.{edit_from, edit_name, edit_fields};
 
+mod channel;
 mod guild;
 mod role_member;
 
@@ -25,6 +26,7 @@ pub fn read(alloc: Global, name: EditName, object: &Value) -> Result<Edit, LineF
         EditName::RoleMember(name) => {
             Ok(Edit::RoleMember(role_member::read(alloc, name, object)?))
         }
+        EditName::Channel(name) => Ok(Edit::Channel(channel::read(alloc, name, object)?)),
     }
 }
 
@@ -35,6 +37,7 @@ pub fn name_of(edit: &Edit) -> EditName
     match edit {
         Edit::Guild(edit) => EditName::Guild(guild::name_of(edit)),
         Edit::RoleMember(edit) => EditName::RoleMember(role_member::name_of(edit)),
+        Edit::Channel(edit) => EditName::Channel(channel::name_of(edit)),
     }
 }
 
@@ -50,6 +53,10 @@ pub fn put(alloc: Global, members: &mut Map<String, Value>, edit: &Edit) -> Resu
         }
         Edit::RoleMember(edit) => {
             role_member::put(alloc, members, edit)?;
+            Ok(())
+        }
+        Edit::Channel(edit) => {
+            channel::put(alloc, members, edit)?;
             Ok(())
         }
     }

@@ -9,13 +9,13 @@ ghost use Rattle.guild_model.specs.declared.moment.TheConstants.{END_OF_TIME};
 ghost use Rattle.edit_text.specs.declared.fault.LineFault.TheVariants.{WrongType};
 ghost use Rattle.serde_json.specs.View.{view};
 ghost use Rattle.edit_text.specs.Fault.{UnlessMemory, fault_of};
-ghost use Rattle.edit_text.specs.Fields.{text_at, id_at, flag_at, number_below, within, are_intents, mask_at, moment_at, position_at, nullable_text_at, nullable_moment_at, intents_at};
+ghost use Rattle.edit_text.specs.Fields.{text_at, id_at, flag_at, number_below, within, are_intents, mask_at, moment_at, position_at, channel_kind_numbered, overwrite_kind_numbered, kind_at, overwrite_kind_at, nullable_text_at, nullable_id_at, nullable_moment_at, intents_at};
 
 use crate::LineFault;
 use collections::Text;
-use guild_model::Moment;
+use guild_model::{ChannelKind, Moment, OverwriteKind};
 use intent_set::Intents;
-use json_view::{ViewFault, field_of, flag_of, id_of, number_of, text_of};
+use json_view::{ViewFault, field_of, flag_of, id_from, id_of, number_of, text_of};
 use perm_bits::Perms;
 use serde_json::Value;
 use snowflake_id::Snowflake;
@@ -116,6 +116,58 @@ pub fn position_at(object: &Value, name: &str) -> Result<u32, LineFault>
     }
 }
 
+#[tactic(auto, unfolding(crate::specs::Fields::channel_kind_numbered))]
+fn channel_kind_numbered(number: u64) -> Option<ChannelKind>
+    ensures { result ≡ channel_kind_numbered number }
+{
+    match number {
+        0 => Some(ChannelKind::Text),
+        2 => Some(ChannelKind::Voice),
+        4 => Some(ChannelKind::Category),
+        5 => Some(ChannelKind::Announcement),
+        13 => Some(ChannelKind::Stage),
+        15 => Some(ChannelKind::Forum),
+        _ => None,
+    }
+}
+
+#[tactic(auto, unfolding(crate::specs::Fields::overwrite_kind_numbered))]
+fn overwrite_kind_numbered(number: u64) -> Option<OverwriteKind>
+    ensures { result ≡ overwrite_kind_numbered number }
+{
+    match number {
+        0 => Some(OverwriteKind::Role),
+        1 => Some(OverwriteKind::Member),
+        _ => None,
+    }
+}
+
+/// The type of a channel, as a number (Channels Resource, Channel Types).
+pub fn kind_at(object: &Value, name: &str) -> Result<ChannelKind, LineFault>
+    ensures { result ≡ kind_at name.now (view object.now) }
+{
+    match number_of(object, name) {
+        Err(fault) => Err(fault_of(fault)),
+        Ok(number) => match channel_kind_numbered(number) {
+            None => Err(LineFault::WrongType),
+            Some(kind) => Ok(kind),
+        },
+    }
+}
+
+/// Whom an overwrite is of, as a number (Channels Resource, Overwrite Object).
+pub fn overwrite_kind_at(object: &Value, name: &str) -> Result<OverwriteKind, LineFault>
+    ensures { result ≡ overwrite_kind_at name.now (view object.now) }
+{
+    match number_of(object, name) {
+        Err(fault) => Err(fault_of(fault)),
+        Ok(number) => match overwrite_kind_numbered(number) {
+            None => Err(LineFault::WrongType),
+            Some(kind) => Ok(kind),
+        },
+    }
+}
+
 /// A text or null, which has to be there.
 pub fn nullable_text_at(
     alloc: Global,
@@ -133,6 +185,20 @@ pub fn nullable_text_at(
                 let text = Text::new(alloc, text)?;
                 Ok(Some(text))
             }
+        },
+    }
+}
+
+/// An id or null, which has to be there.
+pub fn nullable_id_at(object: &Value, name: &str) -> Result<Option<Snowflake>, LineFault>
+    ensures { result ≡ nullable_id_at name.now (view object.now) }
+{
+    match field_of(object, name) {
+        Err(fault) => Err(fault_of(fault)),
+        Ok(Value::Null) => Ok(None),
+        Ok(value) => match id_from(value) {
+            Err(fault) => Err(fault_of(fault)),
+            Ok(id) => Ok(Some(Snowflake(id))),
         },
     }
 }

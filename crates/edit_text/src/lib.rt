@@ -17,7 +17,7 @@ mod text;
 
 pub use fault::LineFault;
 pub use line::{FileKind, Line};
-pub use names::{EditName, GuildEditName, RoleMemberEditName};
+pub use names::{ChannelEditName, EditName, GuildEditName, RoleMemberEditName};
 pub use reader::{MAX_LINE_BYTES, MAX_LINES, StepReader};
 
 /// Whatever a reader was given before, an edit of a line has a name that may be used.

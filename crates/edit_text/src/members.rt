@@ -4,11 +4,11 @@ ghost use Rattle.std.specs.Prelude.{◌≡◌, true, OnOk};
 ghost use Rattle.edit_text.specs.Fields.{are_intents};
 ghost use Rattle.serde_json.specs.Data.{boolean, string, put};
 ghost use Rattle.serde_json.specs.View.{members_view};
-ghost use Rattle.edit_text.specs.Fits.{IdFits, MaskFits, MomentFits, NullableMomentFits};
-ghost use Rattle.edit_text.specs.Members.{count, id_data, nullable};
+ghost use Rattle.edit_text.specs.Fits.{IdFits, NullableIdFits, MaskFits, MomentFits, NullableMomentFits};
+ghost use Rattle.edit_text.specs.Members.{count, id_data, nullable, channel_kind_number, overwrite_kind_number};
 
 use collections::Text;
-use guild_model::Moment;
+use guild_model::{ChannelKind, Moment, OverwriteKind};
 use intent_set::Intents;
 use perm_bits::Perms;
 use serde_json::{Map, Value};
@@ -128,6 +128,45 @@ pub fn put_nullable_text(
     match text {
         None => serde_json::put(members, alloc, name, Value::Null),
         Some(text) => put_text(alloc, members, name, text),
+    }
+}
+
+pub fn put_nullable_id(
+    alloc: Global,
+    members: &mut Map<String, Value>,
+    name: &str,
+    id: Option<Snowflake>,
+) -> Result<(), AllocError>
+    ensures put { OnOk result (members_view members.new.entries ≡ put name.now (nullable id_data id) (members_view members.old.entries)) }
+    ensures fits { OnOk result (NullableIdFits id) }
+{
+    match id {
+        None => serde_json::put(members, alloc, name, Value::Null),
+        Some(id) => put_id(alloc, members, name, id),
+    }
+}
+
+/// The number of a type of channels (Channels Resource, Channel Types).
+pub fn channel_kind_number(kind: ChannelKind) -> u64
+    ensures { result ≡ channel_kind_number kind }
+{
+    match kind {
+        ChannelKind::Text => 0,
+        ChannelKind::Voice => 2,
+        ChannelKind::Category => 4,
+        ChannelKind::Announcement => 5,
+        ChannelKind::Stage => 13,
+        ChannelKind::Forum => 15,
+    }
+}
+
+/// The number of a kind of overwrites (Channels Resource, Overwrite Object).
+pub fn overwrite_kind_number(kind: OverwriteKind) -> u64
+    ensures { result ≡ overwrite_kind_number kind }
+{
+    match kind {
+        OverwriteKind::Role => 0,
+        OverwriteKind::Member => 1,
     }
 }
 

@@ -1,7 +1,7 @@
 //! The names of steps and of edits, and which of them may be used.
 
 ghost use Rattle.std.specs.Prelude.{◌≡◌};
-ghost use Rattle.edit_text.specs.Names.{first_named, step_named, connection_step_named, any_step_named, step_text, is_head, is_built_step, guild_edit_named, role_edit_named, member_edit_named, edit_named, guild_edit_text, role_member_edit_text, name_text, is_built, built_edit};
+ghost use Rattle.edit_text.specs.Names.{first_named, step_named, connection_step_named, any_step_named, step_text, is_head, is_built_step, guild_edit_named, role_edit_named, member_edit_named, channel_edit_named, edit_named, guild_edit_text, role_member_edit_text, channel_edit_text, name_text, is_built, built_edit};
 
 /// A step, by its name.
 #[derive(Clone, Copy, PartialEq, Eq, Debug)]
@@ -41,11 +41,22 @@ pub enum RoleMemberEditName {
     MemberRoleRemove,
 }
 
+/// An edit of channels or their overwrites, by its name.
+#[derive(Clone, Copy, PartialEq, Eq, Debug)]
+pub enum ChannelEditName {
+    ChannelCreate,
+    ChannelUpdate,
+    ChannelDelete,
+    OverwriteSet,
+    OverwriteDelete,
+}
+
 /// An edit, by its name.
 #[derive(Clone, Copy, PartialEq, Eq, Debug)]
 pub enum EditName {
     Guild(GuildEditName),
     RoleMember(RoleMemberEditName),
+    Channel(ChannelEditName),
 }
 
 #[tactic(auto, unfolding(crate::specs::Names::step_named))]
@@ -195,6 +206,28 @@ fn member_edit_named(name: &str) -> Option<RoleMemberEditName>
     None
 }
 
+#[tactic(auto, unfolding(crate::specs::Names::channel_edit_named))]
+fn channel_edit_named(name: &str) -> Option<ChannelEditName>
+    ensures { result ≡ channel_edit_named name.now }
+{
+    if name == "channel_create" {
+        return Some(ChannelEditName::ChannelCreate);
+    }
+    if name == "channel_update" {
+        return Some(ChannelEditName::ChannelUpdate);
+    }
+    if name == "channel_delete" {
+        return Some(ChannelEditName::ChannelDelete);
+    }
+    if name == "overwrite_set" {
+        return Some(ChannelEditName::OverwriteSet);
+    }
+    if name == "overwrite_delete" {
+        return Some(ChannelEditName::OverwriteDelete);
+    }
+    None
+}
+
 impl GuildEditName {
     /// The name of an edit.
     pub fn text(self) -> &'static str
@@ -229,6 +262,21 @@ impl RoleMemberEditName {
     }
 }
 
+impl ChannelEditName {
+    /// The name of an edit.
+    pub fn text(self) -> &'static str
+        ensures { result.now ≡ channel_edit_text self }
+    {
+        match self {
+            ChannelEditName::ChannelCreate => "channel_create",
+            ChannelEditName::ChannelUpdate => "channel_update",
+            ChannelEditName::ChannelDelete => "channel_delete",
+            ChannelEditName::OverwriteSet => "overwrite_set",
+            ChannelEditName::OverwriteDelete => "overwrite_delete",
+        }
+    }
+}
+
 impl EditName {
     /// The edit of a name.
     pub fn of(name: &str) -> Option<EditName>
@@ -243,6 +291,9 @@ impl EditName {
         if let Some(edit) = member_edit_named(name) {
             return Some(EditName::RoleMember(edit));
         }
+        if let Some(edit) = channel_edit_named(name) {
+            return Some(EditName::Channel(edit));
+        }
         None
     }
 
@@ -253,6 +304,7 @@ impl EditName {
         match self {
             EditName::Guild(edit) => edit.text(),
             EditName::RoleMember(edit) => edit.text(),
+            EditName::Channel(edit) => edit.text(),
         }
     }
 
@@ -266,6 +318,7 @@ impl EditName {
                 GuildEditName::GuildOpen | GuildEditName::GuildRename
             ),
             EditName::RoleMember(edit) => matches!(edit, RoleMemberEditName::MemberAdd),
+            EditName::Channel(_) => false,
         }
     }
 
