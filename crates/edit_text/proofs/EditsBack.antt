@@ -20,9 +20,6 @@ use Rattle.guild_model.specs.declared.channel.ChannelKind.TheVariants.{Text, Voi
 use Rattle.guild_model.specs.declared.channel.OverwriteKind.{OverwriteKind}
 use Rattle.guild_model.specs.declared.channel.OverwriteKind.TheVariants.{Role, Member}
 use Rattle.edit_text.specs.declared.line.Line.TheVariants.{Edit as EditLine}
-use Rattle.std.specs.Option.{ok_or}
-use Rattle.edit_text.specs.declared.fault.LineFault.{LineFault}
-use Rattle.edit_text.specs.declared.fault.LineFault.TheVariants.{WrongType}
 use Rattle.edit_text.specs.Fields.{text_at, id_at, channel_kind_numbered, overwrite_kind_numbered}
 use Rattle.edit_text.specs.Members.{channel_kind_number, overwrite_kind_number}
 use Rattle.edit_text.specs.Fits.{IdFits, NullableIdFits, MaskFits, MomentFits, NullableMomentFits, GuildEditFits, RoleMemberEditFits, ChannelEditFits, EditFits}
