@@ -1,12 +1,8 @@
 -- The test that tells sets of intents.
-use Rattle.std.proofs.Common.{◌≡◌, ℕ, Bool, true, false, ◌↔◌, Result, Ok, Err, refl, sym, ◌∙◌, eq-eqb, eqb-true, inl, inr, true≢false}
-use Rattle.std.specs.Prelude.{◌==◌}
-use Rattle.std.specs.Result.{IsOk, is_ok}
+use Rattle.std.proofs.Common.{◌≡◌, ℕ, Bool, true, false, Ok, Err, refl, eq-eqb, eqb-true}
 use Rattle.std.specs.Int.RustNames.{bit_and}
-use Rattle.std.proofs.lemmas.Bool.{cases_eq}
 use Rattle.intent_set.specs.Intents.{HasIntentsAlone}
 use Rattle.intent_set.proofs.IntentSets.{intents_alone}
-use Rattle.edit_text.specs.declared.fault.LineFault.{LineFault}
 use Rattle.edit_text.specs.declared.fault.LineFault.TheVariants.{WrongType}
 use Rattle.edit_text.specs.Fields.{are_intents, within}
 

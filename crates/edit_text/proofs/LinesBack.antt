@@ -1,10 +1,10 @@
 -- What a line is written as reads back as that line.
-use Rattle.std.proofs.Common.{◌≡◌, ℕ, ◌<◌, ◌≤◌, ◌^◌, List, length, Bool, true, false, not, ◌&&◌, ◌||◌, Option, Some, None, Result, Ok, Err, IfOk, String, Global, string_bytes, codes, refl, sym, ap, ◌∙◌, subst, arith}
+use Rattle.std.proofs.Common.{◌≡◌, ℕ, ◌<◌, ◌≤◌, ◌^◌, List, length, Bool, true, false, not, ◌&&◌, ◌||◌, Some, Result, Ok, Err, IfOk, String, Global, string_bytes, codes, refl, sym, ap, ◌∙◌, arith}
 use Rattle.std.specs.Prelude.{nat_lt}
 use Rattle.std.specs.declared.alloc.AllocError.{AllocError}
 use Rattle.std.proofs.lemmas.Str.{IsUtf8-string_bytes}
 use Rattle.std.proofs.lemmas.Bool.Decides.{nat_tests}
-use Rattle.serde_json.specs.Data.{Data, depth, object}
+use Rattle.serde_json.specs.Data.{Data, depth}
 use Rattle.serde_json.specs.Read.{read, max_depth}
 use Rattle.serde_json.specs.Written.{has_float, compact_text}
 use Rattle.serde_json.proofs.OnLiterals.{serde_json_on_literals}
@@ -22,10 +22,10 @@ use Rattle.edit_text.specs.declared.names.GuildEditName.TheVariants.{GuildOpen, 
 use Rattle.edit_text.specs.declared.names.RoleMemberEditName.TheVariants.{RoleCreate, RoleUpdate, RoleDelete, MemberAdd, MemberRemove, MemberNick, MemberTimeout, MemberRoleAdd, MemberRoleRemove}
 use Rattle.edit_text.specs.declared.names.ChannelEditName.TheVariants.{ChannelCreate, ChannelUpdate, ChannelDelete, OverwriteSet, OverwriteDelete}
 use Rattle.edit_text.specs.declared.reader.StepReader.{StepReader}
-use Rattle.edit_text.specs.Fields.{text_at, are_intents}
-use Rattle.edit_text.specs.Names.{step_named, connection_step_named, any_step_named, step_text, guild_edit_named, role_edit_named, member_edit_named, channel_edit_named, edit_named, name_text, is_built}
+use Rattle.edit_text.specs.Fields.{text_at}
+use Rattle.edit_text.specs.Names.{step_named, connection_step_named, any_step_named, step_text, guild_edit_named, role_edit_named, member_edit_named, channel_edit_named, edit_named, name_text}
 use Rattle.edit_text.specs.Edits.{edit_name, is_built_edit}
-use Rattle.edit_text.specs.Fits.{IdFits, ConnectionFits, EditFits, LineFits}
+use Rattle.edit_text.specs.Fits.{LineFits}
 use Rattle.edit_text.specs.Lines.{is_allowed, is_blank, fields_from, line_from, line_of}
 use Rattle.edit_text.specs.Written.{step_name, line_data, edit_within, line_within, allows}
 use Rattle.edit_text.proofs.EditsBack.{Plain, Back, edit_back, edit_plain}

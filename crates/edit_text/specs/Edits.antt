@@ -1,5 +1,5 @@
 -- Edits by their names.
-use Rattle.std.specs.Prelude.{ℕ, List, Bool, Result, Ok, Err}
+use Rattle.std.specs.Prelude.{ℕ, List, Bool, Result, Ok}
 use Rattle.serde_json.specs.Data.{Data}
 use Rattle.json_view.specs.Fields.{and_then}
 use Rattle.edit_apply.specs.declared.Edit.{Edit}
