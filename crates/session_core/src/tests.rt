@@ -19,14 +19,25 @@ fn worker(alloc: Global, privileged: u64) -> Result<Sessions, Fail> {
     Ok(Sessions::new(alloc, 0, bots))
 }
 
-// The last reply to a new connection that sends these texts.
-fn last_reply(alloc: Global, privileged: u64, texts: &[&str]) -> Result<Option<Reply>, Fail> {
+// The last reply to the first text of a new connection.
+fn reply(alloc: Global, privileged: u64, text: &str) -> Result<Option<Reply>, Fail> {
     let mut sessions = worker(alloc, privileged)?;
-    let mut replies = sessions.open(1, 0)?;
-    for text in texts {
-        replies = sessions.frame(1, *text, 0)?;
-    }
+    sessions.open(1, 0)?;
+    let mut replies = sessions.frame(1, text, 0)?;
     Ok(replies.pop())
+}
+
+// The last reply to the second text of a new connection.
+fn second_reply(alloc: Global, first: &str, second: &str) -> Result<Option<Reply>, Fail> {
+    let mut sessions = worker(alloc, 0)?;
+    sessions.open(1, 0)?;
+    sessions.frame(1, first, 0)?;
+    let mut replies = sessions.frame(1, second, 0)?;
+    Ok(replies.pop())
+}
+
+fn closed(code: u16) -> Option<Reply> {
+    Some(Reply::Close(1, code))
 }
 
 // A heartbeat with blanks up to this length.
@@ -39,48 +50,49 @@ fn padded(alloc: Global, length: usize) -> Result<String, Fail> {
 }
 
 #[test]
-fn worked_handshakes(rt: HostRuntime) -> Result<(), Fail> {
+fn heartbeats(rt: HostRuntime) -> Result<(), Fail> {
     let alloc = rt.alloc();
+    let ack = Some(Reply::Send(1, Out::Ack));
     let short = padded(alloc, 4096)?;
     let long = padded(alloc, 4097)?;
-    let ack = Reply::Send(1, Out::Ack);
-    let close = |code: u16| Reply::Close(1, code);
-    let cases: [(&[&str], Reply); 13] = [
-        (&[], Reply::Send(1, Out::Hello(41250))),
-        (&["{\"op\":1}"], ack),
-        (&[short.as_str()], ack),
-        (&[long.as_str()], close(4002)),
-        (&["{\"op\":3,\"d\":{\"status\":\"idle\"}}"], close(4003)),
-        (&[IDENTIFY], Reply::Begin(1)),
-        (&[IDENTIFY, IDENTIFY], close(4005)),
-        (
-            &["{\"op\":2,\"d\":{\"token\":\"zz\",\"intents\":1}}"],
-            close(4004),
-        ),
-        (
-            &["{\"op\":2,\"d\":{\"token\":\"t1\",\"intents\":1073741824}}"],
-            close(4013),
-        ),
-        (
-            &["{\"op\":2,\"d\":{\"token\":\"t1\",\"intents\":1,\"shard\":[1,1]}}"],
-            close(4010),
-        ),
-        (
-            &["{\"op\":2,\"d\":{\"token\":\"t1\",\"intents\":2}}"],
-            close(4014),
-        ),
-        (&["{\"op\":7}"], close(4001)),
-        (&["{"], close(4002)),
-    ];
-    for (texts, expected) in cases {
-        assert_eq!(rt; last_reply(alloc, 0, texts)?, Some(expected));
-    }
-    assert_eq!(rt; last_reply(alloc, 0, &["{\"op\":7}", "{\"op\":1}"])?, None);
+    assert_eq!(rt; reply(alloc, 0, "{\"op\":1}")?, ack);
+    assert_eq!(rt; reply(alloc, 0, short.as_str())?, ack);
+    assert_eq!(rt; reply(alloc, 0, long.as_str())?, closed(4002));
+    assert_eq!(rt; second_reply(alloc, "{\"op\":7}", "{\"op\":1}")?, None);
+    Ok(())
+}
+
+#[test]
+fn refused_texts(rt: HostRuntime) -> Result<(), Fail> {
+    let alloc = rt.alloc();
+    let idle = "{\"op\":3,\"d\":{\"status\":\"idle\"}}";
+    assert_eq!(rt; reply(alloc, 0, "{")?, closed(4002));
+    assert_eq!(rt; reply(alloc, 0, "{\"op\":7}")?, closed(4001));
+    assert_eq!(rt; reply(alloc, 0, idle)?, closed(4003));
+    assert_eq!(rt; second_reply(alloc, IDENTIFY, IDENTIFY)?, closed(4005));
+    Ok(())
+}
+
+#[test]
+fn refused_identifies(rt: HostRuntime) -> Result<(), Fail> {
+    let alloc = rt.alloc();
+    let stranger = "{\"op\":2,\"d\":{\"token\":\"zz\",\"intents\":1}}";
+    let bit_30 = "{\"op\":2,\"d\":{\"token\":\"t1\",\"intents\":1073741824}}";
+    let shard = "{\"op\":2,\"d\":{\"token\":\"t1\",\"intents\":1,\"shard\":[1,1]}}";
+    assert_eq!(rt; reply(alloc, 0, stranger)?, closed(4004));
+    assert_eq!(rt; reply(alloc, 0, bit_30)?, closed(4013));
+    assert_eq!(rt; reply(alloc, 0, shard)?, closed(4010));
+    Ok(())
+}
+
+#[test]
+fn sessions_begin(rt: HostRuntime) -> Result<(), Fail> {
+    let alloc = rt.alloc();
     let members = "{\"op\":2,\"d\":{\"token\":\"t1\",\"intents\":2}}";
-    assert_eq!(rt;
-        last_reply(alloc, 33026, &[members])?,
-        Some(Reply::Begin(1))
-    );
+    let begun = Some(Reply::Begin(1));
+    assert_eq!(rt; reply(alloc, 0, IDENTIFY)?, begun);
+    assert_eq!(rt; reply(alloc, 0, members)?, closed(4014));
+    assert_eq!(rt; reply(alloc, 33026, members)?, begun);
     Ok(())
 }
 
