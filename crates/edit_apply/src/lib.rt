@@ -117,6 +117,3 @@ pub fn keeps_well()
 pub fn stays_well()
     ensures { StaysWell }
 {}
-
-#[cfg(test)]
-mod tests;
