@@ -14,7 +14,7 @@ use Rattle.guild_model.specs.declared.voice.Voice.{Voice}
 use Rattle.guild_model.specs.declared.presence.Presence.{Presence}
 use Rattle.guild_model.specs.Record.{own_id, overwrite_id}
 use Rattle.guild_model.specs.Ascending.{HasOrderedOverwrites}
-use Rattle.dispatch_types.specs.declared.channels.OverwriteKind.TheVariants as overwrite
+use Rattle.guild_model.specs.declared.channel.OverwriteKind.TheVariants as overwrite
 use Rattle.dispatch_types.specs.Objects.{overwrite_object, overwrite_objects, role_overwrite, member_overwrite, overwrites_of, channel_object, channel_of, member_object, member_of, voice_object, voice_of, presence_object, presence_of}
 
 -- overwrites and channels

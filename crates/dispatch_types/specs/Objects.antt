@@ -11,8 +11,8 @@ use Rattle.guild_model.specs.declared.thread.ThreadMember.{ThreadMember}
 use Rattle.guild_model.specs.declared.voice.Voice.{Voice}
 use Rattle.guild_model.specs.declared.presence.Presence.{Presence}
 use Rattle.guild_model.specs.Record.{own_id, overwrite_id}
-use Rattle.dispatch_types.specs.declared.channels.OverwriteKind.{OverwriteKind}
-use Rattle.dispatch_types.specs.declared.channels.OverwriteKind.TheVariants as overwrite
+use Rattle.guild_model.specs.declared.channel.OverwriteKind.{OverwriteKind}
+use Rattle.guild_model.specs.declared.channel.OverwriteKind.TheVariants as overwrite
 use Rattle.dispatch_types.specs.declared.channels.OverwriteObject.{OverwriteObject}
 use Rattle.dispatch_types.specs.declared.channels.ChannelObject.{ChannelObject}
 use Rattle.dispatch_types.specs.declared.members.MemberObject.{MemberObject}

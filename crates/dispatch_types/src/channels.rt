@@ -3,17 +3,10 @@ ghost use Rattle.dispatch_types.specs.Objects.{overwrite_object, overwrite_objec
 
 use collections::{Seq, Text};
 use guild_model::channel::{Overwrite, Overwrites};
-use guild_model::{Channel, ChannelKind};
+use guild_model::{Channel, ChannelKind, OverwriteKind};
 use perm_bits::Perms;
 use snowflake_id::Snowflake;
 use std::alloc::{AllocError, Global};
-
-/// Whom an overwrite is of; as a number, 0 and 1.
-#[derive(Clone, Copy, PartialEq, Eq, Debug)]
-pub enum OverwriteKind {
-    Role,
-    Member,
-}
 
 /// An overwrite as it is sent (Channels Resource, Overwrite Object).
 #[derive(Clone, Copy, PartialEq, Eq, Debug)]

@@ -11,7 +11,7 @@ pub mod threads;
 pub mod view;
 pub mod viewer;
 
-pub use channels::{ChannelObject, OverwriteKind, OverwriteObject};
+pub use channels::{ChannelObject, OverwriteObject};
 pub use dispatch::{Dispatch, GuildCreate, MembersChunk, Ready};
 pub use members::MemberObject;
 pub use messages::{MessageObject, Reaction};

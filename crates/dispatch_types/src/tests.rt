@@ -1,8 +1,8 @@
 use super::*;
 use collections::{ById, Text};
 use guild_model::{
-    Channel, ChannelKind, Member, Moment, Overwrite, Overwrites, Thread, ThreadKind, ThreadMember,
-    User,
+    Channel, ChannelKind, Member, Moment, Overwrite, OverwriteKind, Overwrites, Thread, ThreadKind,
+    ThreadMember, User,
 };
 use perm_bits::Perms;
 use snowflake_id::Snowflake;

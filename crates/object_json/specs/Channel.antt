@@ -3,8 +3,8 @@ use Rattle.std.specs.Prelude.{ℕ, codes}
 use Rattle.serde_json.specs.Data.{Data, string, object, member, no_members}
 use Rattle.guild_model.specs.declared.channel.ChannelKind.{ChannelKind}
 use Rattle.guild_model.specs.declared.channel.ChannelKind.TheVariants as kind
-use Rattle.dispatch_types.specs.declared.channels.OverwriteKind.{OverwriteKind}
-use Rattle.dispatch_types.specs.declared.channels.OverwriteKind.TheVariants as overwrite
+use Rattle.guild_model.specs.declared.channel.OverwriteKind.{OverwriteKind}
+use Rattle.guild_model.specs.declared.channel.OverwriteKind.TheVariants as overwrite
 use Rattle.dispatch_types.specs.declared.channels.OverwriteObject.{OverwriteObject}
 use Rattle.dispatch_types.specs.declared.channels.ChannelObject.{ChannelObject}
 use Rattle.object_json.specs.Kinds.{digits, count, list, or_null}

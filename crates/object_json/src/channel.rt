@@ -7,8 +7,8 @@ use crate::field::{
     close, id_field, mask_field, maybe_id_field, number_field, open, small_field, text_field,
 };
 use crate::written::{Written, list_field};
-use dispatch_types::{ChannelObject, OverwriteKind, OverwriteObject};
-use guild_model::ChannelKind;
+use dispatch_types::{ChannelObject, OverwriteObject};
+use guild_model::{ChannelKind, OverwriteKind};
 use json::Writer;
 use std::alloc::{AllocError, Global};
 

@@ -16,13 +16,14 @@ use Rattle.session_core.specs.declared.reply.Reply.TheVariants.{Send, Close, Beg
 use Rattle.session_core.specs.State.{State, Detached, has_link, has_session, gone, heard, begun}
 use Rattle.session_core.specs.Identify.{identified, viewer_of}
 
--- what a frame does
+-- what a frame does: nothing, an answer to a heartbeat, the end of the connection, or a session's begin
 pub data Move : Type 0 where
   Nothing : Move
   Answers : Move
   Shuts : (code : ℕ) → Move
   Begins : (bot : Bot) (viewer : Viewer) → Move
 
+-- the code by which a text is refused that is no frame
 abbrev pub fault_code : FrameFault → ℕ
 fault_code TooLong = 4002
 fault_code NotJson = 4002
@@ -30,6 +31,7 @@ fault_code BadShape = 4002
 fault_code UnknownOp = 4001
 fault_code Memory = 4002
 
+-- what Identify does, by who may begin a session
 abbrev pub identify_move : Asked → Result Bot ℕ → Move
 identify_move i (Ok bot) = Begins bot (viewer_of bot i)
 identify_move i (Err code) = Shuts code
@@ -53,10 +55,12 @@ module _ {A : Type 0} where
   first_move s (Voice ask) = Shuts 4003
   first_move s (Ask ask) = Shuts 4003
 
+  -- what a text does on an open connection, by its reading
   abbrev pub read_move : State A → Bool → Result Frame FrameFault → Move
   read_move s has (Err fault) = Shuts (fault_code fault)
   read_move s has (Ok f) = if has then later_move f else first_move s f
 
+  -- what a text does; nothing where the connection is not open
   abbrev pub move_of : State A → ℕ → List ℕ → Move
   move_of s conn text = if has_link conn s then read_move s (has_session conn s) (frame_of text) else Nothing
 
@@ -67,12 +71,14 @@ module _ {A : Type 0} where
   moved conn now sent (Shuts code) s = gone conn (Detached now) s
   moved conn now sent (Begins bot viewer) s = begun conn bot viewer (sent bot viewer) s
 
+  -- what is to be done then
   abbrev pub move_replies : ℕ → Move → State A → List Reply
   move_replies conn Nothing s = []
   move_replies conn Answers s = Send conn Ack ∷ []
   move_replies conn (Shuts code) s = Close conn code ∷ []
   move_replies conn (Begins bot viewer) s = Begin (s.made + 1) ∷ []
 
+  -- whether the session would have no number
   abbrev pub is_spent : Move → State A → Bool
   is_spent Nothing s = false
   is_spent Answers s = false

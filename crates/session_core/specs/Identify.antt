@@ -9,6 +9,7 @@ use Rattle.gateway_frames.specs.declared.frame.Identify.{Identify}
 use Rattle.session_core.specs.declared.bot.Bot.{Bot}
 use Rattle.session_core.specs.State.{State, live}
 
+-- the bot with this token
 abbrev pub bot_of : List ℕ → List Bot → Option Bot
 bot_of token bots = find (λ (b : Bot). bytes_eq b.token token) bots
 
@@ -16,6 +17,7 @@ bot_of token bots = find (λ (b : Bot). bytes_eq b.token token) bots
 unfoldable pub are_intents : ℕ → Bool
 are_intents bits = bit_and bits (sum (map (λ b. 2 ^ b) intent_bits)) == bits
 
+-- a shard is one of at least one, counted from 0
 abbrev pub is_no_shard : Option (ℕ × ℕ) → Bool
 is_no_shard None = false
 is_no_shard (Some shard) = (shard.1 == 0) || not (nat_lt shard.0 shard.1)
@@ -37,6 +39,7 @@ abbrev pub threshold_of : Option ℕ → ℕ
 threshold_of None = 50
 threshold_of (Some n) = min 250 (max 50 n)
 
+-- whom the dispatches of the session will be for
 abbrev pub viewer_of : Bot → Identify → Viewer
 viewer_of bot i = record { user = bot.user; intents = i.intents; shard = i.shard; threshold = threshold_of i.large_threshold }
 
@@ -53,7 +56,6 @@ abbrev pub judged_of : (sessions : ℕ) → Identify → Option Bot → Result B
 judged_of sessions i None = Err 4004
 judged_of sessions i (Some bot) = judged sessions i bot
 
--- whom its dispatches are for
 abbrev pub viewer_as : Identify → Result Bot ℕ → Result Viewer ℕ
 viewer_as i (Ok bot) = Ok (viewer_of bot i)
 viewer_as i (Err code) = Err code

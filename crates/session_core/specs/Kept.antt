@@ -10,14 +10,17 @@ use Rattle.session_core.specs.declared.kept.Hold.{Hold}
 use Rattle.session_core.specs.declared.kept.Hold.TheVariants as hold
 use Rattle.session_core.specs.State.{Link, Session, Place, Attached, Detached}
 
+-- where a session is
 abbrev pub place_of : Hold → Place
 place_of (hold.Attached conn) = Attached conn
 place_of (hold.Detached since) = Detached since
 
+-- the connection that it has
 abbrev pub conn_of : Hold → Option ℕ
 conn_of (hold.Attached conn) = Some conn
 conn_of (hold.Detached since) = None
 
+-- the connection, and the session, of an entry
 abbrev pub link_of : ℕ × Line → Link
 link_of e = record { number = e.0; heard = e.1.heard }
 
@@ -40,6 +43,7 @@ conn_at sessions number = option_and_then (λ (x : Live). conn_of x.hold) (looku
 abbrev pub Agree : (ℕ → Option ℕ) → (ℕ → Option ℕ) → Type 0
 Agree f g = (c n : ℕ) → (f c ≡ Some n) ↔ (g n ≡ Some c)
 
+-- what is true of all that the code keeps
 pub record IsKept (made : ℕ) (lines : List (ℕ × Line)) (sessions : List (ℕ × Live)) : Type 0 where
   pub links_once : IsDistinct nat_eq (keys_of lines)
   pub sessions_once : IsDistinct nat_eq (keys_of sessions)

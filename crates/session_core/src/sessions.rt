@@ -76,6 +76,13 @@ impl Sessions {
         }
     }
 
+    /// The number of the worker.
+    pub fn worker(&self) -> u8
+        ensures { result ≡ self.now.worker }
+    {
+        self.worker
+    }
+
     pub(crate) fn alloc(&self) -> Global {
         self.alloc
     }

@@ -103,6 +103,7 @@ fn sessions_by_place(rt: HostRuntime) -> Result<(), Fail> {
     let ask =
         "{\"op\":2,\"d\":{\"token\":\"t1\",\"intents\":3,\"shard\":[0,1],\"large_threshold\":999}}";
     sessions.frame(7, ask, 0)?;
+    assert_eq!(rt; sessions.worker(), 0);
     assert_eq!(rt; sessions.place_of(1), Some(0));
     assert_eq!(rt; sessions.place_of(2), None);
     assert_eq!(rt; sessions.number_at(0), Some(1));
