@@ -107,10 +107,10 @@ pub fn events(
     alloc: Global,
     after: &Guild,
     edit: &Edit,
-    was: Was,
+    was: &Was,
     viewer: &Viewer,
 ) -> Result<Vec<Dispatch>, AllocError>
-    ensures { IfOk result (λ list. list.items ≡ due_between after.now viewer.now was.served (served viewer.now after.now) edit.now) }
+    ensures { IfOk result (λ list. list.items ≡ due_between after.now viewer.now was.now.served (served viewer.now after.now) edit.now) }
 {
     match (was.served, served(after, viewer)) {
         (false, None) => Ok(Vec::new(alloc)),

@@ -46,7 +46,7 @@ fn told(
     if apply(alloc, guild, copy)?.is_err() {
         return Ok(Vec::new(alloc));
     }
-    events(alloc, guild, &edit, was, viewer)
+    events(alloc, guild, &edit, &was, viewer)
 }
 
 fn is_first_guild(create: &GuildCreate) -> bool {

@@ -263,6 +263,7 @@ impl Sessions {
         requires { place < length self.old.sessions }
         ensures pushed { IfOk result (λ pushed. option_map pushed_of (slice_get self.old.sessions place) ≡ Some pushed) }
         ensures counted { OnOk result (self.new ≡ counted_at place self.old) }
+        ensures fits { IfOk result (λ pushed. pushed.number < 2 ^ 64) }
         ensures spent { IsErr result ↔ (option_map (λ x. x.sent) (slice_get self.old.sessions place) ≡ Some (2 ^ 64 - 1)) }
         ensures err { OnErr result (self.new ≡ self.old) }
     {

@@ -1,12 +1,12 @@
 -- What a client holds after lists that are joined, and records of logs that grow.
-use Rattle.std.proofs.Common.{◌≡◌, ℕ, List, [], ◌∷◌, ◌++◌, Bool, true, false, refl, sym, ap, subst, map, ◌∙◌, arith}
+use Rattle.std.proofs.Common.{◌≡◌, ℕ, List, [], ◌∷◌, ◌++◌, true, refl, ap, map, ◌∙◌, arith}
 use Rattle.std.specs.Prelude.{◌==◌}
 use Rattle.std.proofs.lemmas.Bool.Decides.{nat_tests}
-use Rattle.guild_model.specs.Record.{Record, closed}
+use Rattle.guild_model.specs.Record.{Record}
 use Rattle.dispatch_types.specs.declared.dispatch.Dispatch.{Dispatch}
 use Rattle.dispatch_types.specs.declared.viewer.Viewer.{Viewer}
 use Rattle.dispatch_types.specs.Fold.{Held, nothing, folded, fold_from}
-use Rattle.edit_apply.specs.Edits.{after, state_from, state}
+use Rattle.edit_apply.specs.Edits.{after, state_from}
 use Rattle.edit_apply.specs.declared.Edit.{Edit}
 use Rattle.session_core.specs.declared.reply.Mark.{Mark}
 use Rattle.worker_core.specs.World.{Cursors, Told, told}

@@ -2,17 +2,16 @@
 use Rattle.edit_events.proofs.Greets.{greeting_holds}
 use Rattle.edit_events.proofs.Others.{projection_stays, greeting_stays}
 use Rattle.worker_core.proofs.Logs.{state_is_well, state_id}
-use Rattle.std.proofs.Common.{◌≡◌, ℕ, List, [], ◌∷◌, ◌++◌, Bool, true, false, not, Option, Some, None, if◌then◌else◌, refl, sym, ap, subst, ◌∙◌, arith, map}
-use Rattle.std.specs.Prelude.{◌==◌, ◌&&◌, ◌||◌, filter, flat_map, is_some}
+use Rattle.std.proofs.Common.{◌≡◌, ℕ, List, [], ◌∷◌, Bool, true, false, not, Option, Some, None, if◌then◌else◌, refl, sym, ap, subst, ◌∙◌, arith}
+use Rattle.std.specs.Prelude.{◌==◌, ◌&&◌, ◌||◌, filter, flat_map}
 use Rattle.std.proofs.lemmas.Bool.{eqb-true}
 use Rattle.perm_bits.specs.Bits.{has_bit}
 use Rattle.intent_set.specs.Intents.{guilds}
-use Rattle.guild_model.specs.Record.{Record, closed}
+use Rattle.guild_model.specs.Record.{Record}
 use Rattle.guild_model.specs.declared.member.Member.{Member}
 use Rattle.dispatch_types.specs.declared.viewer.Viewer.{Viewer}
 use Rattle.dispatch_types.specs.declared.view.GuildView.{GuildView}
 use Rattle.dispatch_types.specs.declared.view.GuildView.TheVariants.{Unavailable}
-use Rattle.dispatch_types.specs.declared.dispatch.Dispatch.{Dispatch}
 use Rattle.dispatch_types.specs.declared.dispatch.Dispatch.TheVariants.{Ready, GuildCreate}
 use Rattle.dispatch_types.specs.Serves.{served, serves}
 use Rattle.dispatch_types.specs.Fold.{Held, nothing, contains, if_unavailable, purge, folded, fold_from}
@@ -22,8 +21,8 @@ use Rattle.edit_apply.specs.declared.Edit.{Edit}
 use Rattle.edit_events.specs.Greeting.{greeting}
 use Rattle.edit_events.specs.Law.{Agrees}
 use Rattle.session_core.specs.declared.bot.Bot.{Bot}
-use Rattle.worker_core.specs.World.{Seen, Worker, listed_guilds, greeting_for, greeting_of, ready, first_dispatches}
-use Rattle.worker_core.proofs.Folds.{fold_join, same_id}
+use Rattle.worker_core.specs.World.{Worker, listed_guilds, greeting_for, greeting_of, ready, first_dispatches}
+use Rattle.worker_core.proofs.Folds.{fold_join}
 
 module _ (w : Worker) (v : Viewer) (h : ℕ) where
   abbrev here : Record

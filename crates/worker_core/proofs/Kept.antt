@@ -1,13 +1,12 @@
 -- What is kept of the sessions moves as they do.
-use Rattle.std.proofs.Common.{◌≡◌, ℕ, ◌+◌, List, [], ◌∷◌, ◌++◌, Bool, true, false, Option, Some, None, Result, Ok, Err, if◌then◌else◌, suc, length, map, refl, sym, ap, ◌∙◌, append_assoc, arith}
+use Rattle.std.proofs.Common.{◌≡◌, ℕ, ◌+◌, List, [], ◌∷◌, ◌++◌, Bool, true, false, Some, Result, Ok, Err, if◌then◌else◌, suc, length, map, refl, sym, ap, ◌∙◌, append_assoc}
 use Rattle.std.specs.Prelude.{◌==◌, ◌||◌, filter, flat_map, nat_lt, is_some}
 use Rattle.std.specs.List.{find, list_any}
 use Rattle.std.proofs.lemmas.List.{length-append, length-map}
-use Rattle.std.proofs.lemmas.Bool.Decides.{nat_tests}
 use Rattle.guild_model.specs.Record.{Record, closed}
 use Rattle.dispatch_types.specs.declared.dispatch.Dispatch.{Dispatch}
 use Rattle.dispatch_types.specs.declared.viewer.Viewer.{Viewer}
-use Rattle.edit_apply.specs.Edits.{after, state_from, state}
+use Rattle.edit_apply.specs.Edits.{after, state}
 use Rattle.edit_apply.specs.declared.Edit.{Edit}
 use Rattle.edit_events.specs.Due.{owed}
 use Rattle.gateway_frames.specs.declared.frame.Frame.{Frame}
@@ -18,17 +17,30 @@ use Rattle.gateway_frames.specs.Read.{frame_of}
 use Rattle.session_core.specs.declared.bot.Bot.{Bot}
 use Rattle.session_core.specs.declared.reply.Mark.{Mark}
 use Rattle.session_core.specs.declared.reply.Mark.TheVariants.{Entry}
-use Rattle.session_core.specs.State.{State, Session, Place, Attached, Detached, Ended, is_on, is_live, has_link, session_on, has_session, live, released, opened, gone, heard, begun}
-use Rattle.session_core.specs.Identify.{judged, judged_of, identified, bot_of}
-use Rattle.session_core.specs.Frames.{Move, Nothing, Answers, Shuts, Begins, identify_move, first_move, later_move, read_move, move_of, moved}
-use Rattle.worker_core.specs.World.{Seen, Cursors, cursors, seen_with, Told, told, Sent, Worker, Output, sends, with_sent, entry_owed, after_entry, entry_sends, entered, looked, look_sends, begins_with, first_dispatches}
-use Rattle.worker_core.specs.Kept.{counted, kept_at, kept_session, kept, told_more, told_sends, kept_looked, kept_sends}
+use Rattle.session_core.specs.State.{State, Session, Place, Attached, Detached, Ended, is_on, is_live, has_link, has_session, released, opened, gone, begun}
+use Rattle.session_core.specs.Identify.{judged_of, identified, bot_of}
+use Rattle.session_core.specs.Frames.{Move, Nothing, Answers, Shuts, Begins, identify_move, first_move, read_move, move_of, moved}
+use Rattle.worker_core.specs.World.{Seen, Cursors, cursors, seen_with, Told, told, Sent, Worker, sends, after_entry, entry_sends, entered, looked, look_sends, begins_with}
+use Rattle.worker_core.specs.Spent.{is_past, entry_spends, look_spends, told_spends, kept_spends}
+use Rattle.worker_core.specs.Kept.{counted, kept_session, kept, told_more, told_sends, kept_looked, kept_sends}
 use Rattle.worker_core.proofs.Lists.{append_none, map_join}
 use Rattle.worker_core.proofs.Folds.{state_join, same_id}
 
 pub flat_map_join : {A B : Type 0} (f : A → List B) (xs ys : List A) → flat_map f (xs ++ ys) ≡ flat_map f xs ++ flat_map f ys
 flat_map_join f [] ys = refl
 flat_map_join f (x ∷ xs) ys = ap (λ zs. f x ++ zs) (flat_map_join f xs ys) ∙ sym (append_assoc (f x) (flat_map f xs) (flat_map f ys))
+
+or_false : (b : Bool) → (b || false) ≡ b
+or_false true = refl
+or_false false = refl
+
+pub any_join : {A : Type 0} (p : A → Bool) (xs ys : List A) → list_any p (xs ++ ys) ≡ (list_any p xs || list_any p ys)
+any_join p [] ys = refl
+any_join p (x ∷ xs) ys = by_test (p x) (any_join p xs ys)
+  where
+    by_test : (b : Bool) → list_any p (xs ++ ys) ≡ (list_any p xs || list_any p ys) → (b || list_any p (xs ++ ys)) ≡ ((b || list_any p xs) || list_any p ys)
+    by_test true rest = refl
+    by_test false rest = rest
 
 length_sent : (ts : List Told) (mark : Mark) (b a : Cursors) (ds : List Dispatch) → length (ts ++ told mark b a ds) ≡ length ts + length ds
 length_sent ts mark b a ds = length-append ts (told mark b a ds) ∙ ap (λ n. length ts + n) (length-map ds (λ d. record { mark = mark; dispatch = d; before = b; after = a }))
@@ -69,6 +81,20 @@ module _ (seen : Seen) (g : ℕ) (e : Edit) where
       ap (λ ys. ys ++ flat_map (entry_sends seen g e) xs) (one_sends x)
       ∙ (ap (λ ys. flat_map (told_sends here e) (kept_session x) ++ ys) (each_sends xs) ∙ sym (flat_map_join (told_sends here e) (kept_session x) (flat_map kept_session xs)))
 
+  one_spends : (x : Session Sent) → entry_spends seen g e x ≡ list_any (told_spends here e) (kept_session x)
+  one_spends x = by_place x.place
+    where
+      by_place : (place : Place) → entry_spends seen g e (record x { place = place }) ≡ list_any (told_spends here e) (kept_session (record x { place = place }))
+      by_place (Attached conn) = sym (or_false (is_past (length x.sent.told) (length (owed here e x.viewer))))
+      by_place (Detached since) = sym (or_false (is_past (length x.sent.told) (length (owed here e x.viewer))))
+      by_place Ended = refl
+
+  each_spends : (xs : List (Session Sent)) → list_any (entry_spends seen g e) xs ≡ list_any (told_spends here e) (flat_map kept_session xs)
+  each_spends [] = refl
+  each_spends (x ∷ xs) =
+      ap (λ b. b || list_any (entry_spends seen g e) xs) (one_spends x)
+      ∙ (ap (λ b. list_any (told_spends here e) (kept_session x) || b) (each_spends xs) ∙ sym (any_join (told_spends here e) (kept_session x) (flat_map kept_session xs)))
+
   state_entered : state g (seen_with seen g e g) ≡ after here e
   state_entered = simp (same_id g) (state_join (closed g) (seen g) (e ∷ []))
 
@@ -88,6 +114,15 @@ look_sent (e ∷ es) w g =
     (look_sent es (entered w g e) g
     ∙ (ap (λ s. kept_sends s es (flat_map kept_session (map (after_entry w.seen g e) w.core.sessions))) (state_entered w.seen g e)
     ∙ ap (λ xs. kept_sends (after (state g (w.seen g)) e) es xs) (each_told w.seen g e w.core.sessions)))
+
+pub look_spent : (es : List Edit) (w : Worker) (g : ℕ) → look_spends w g es ≡ kept_spends (state g (w.seen g)) es (flat_map kept_session w.core.sessions)
+look_spent [] w g = refl
+look_spent (e ∷ es) w g =
+    ap (λ b. b || look_spends (entered w g e) g es) (each_spends w.seen g e w.core.sessions)
+    ∙ ap (λ b. list_any (told_spends (state g (w.seen g)) e) (flat_map kept_session w.core.sessions) || b)
+    (look_spent es (entered w g e) g
+    ∙ (ap (λ s. kept_spends s es (flat_map kept_session (map (after_entry w.seen g e) w.core.sessions))) (state_entered w.seen g e)
+    ∙ ap (λ xs. kept_spends (after (state g (w.seen g)) e) es xs) (each_told w.seen g e w.core.sessions)))
 
 -- the session of a connection is kept
 has_kept : (conn : ℕ) (xs : List (Session Sent)) → is_some (find (λ (x : Session Sent). is_on conn x.place) xs) ≡ is_some (find (λ (x : Session ℕ). is_on conn x.place) (flat_map kept_session xs))

@@ -8,3 +8,6 @@ pub mod Worlds
 pub mod Sends
 pub mod Kept
 pub mod Standing
+pub mod Telling
+pub mod Looking
+pub mod Moving

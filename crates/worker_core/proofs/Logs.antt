@@ -41,7 +41,7 @@ after_id s e = by_verdict (verdict s e)
     by_verdict None = applied_id s e
     by_verdict (Some v) = refl
 
-from_id : (s : Record) (es : List Edit) → (state_from s es).id ≡ s.id
+pub from_id : (s : Record) (es : List Edit) → (state_from s es).id ≡ s.id
 from_id s [] = refl
 from_id s (e ∷ es) = from_id (after s e) es ∙ after_id s e
 

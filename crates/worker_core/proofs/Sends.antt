@@ -1,5 +1,5 @@
 -- Each dispatch that goes out has its number in the session that the connection has.
-use Rattle.std.proofs.Common.{◌≡◌, ℕ, ◌+◌, List, [], ◌∷◌, ◌++◌, Bool, true, false, Option, Some, None, if◌then◌else◌, length, map, refl, sym, ap, subst, ◌∙◌, append_assoc, inl, inr}
+use Rattle.std.proofs.Common.{◌≡◌, ℕ, ◌+◌, List, [], ◌∷◌, ◌++◌, Bool, true, false, if◌then◌else◌, length, map, refl, sym, ap, subst, ◌∙◌, append_assoc, inl, inr}
 use Rattle.std.specs.Prelude.{All, flat_map, nat_lt}
 use Rattle.std.proofs.lemmas.List.Elements.{All-append, All-cons, All-nil, All-weaker}
 use Rattle.std.proofs.lemmas.List.{length-append, length-map}
@@ -7,13 +7,12 @@ use Rattle.dispatch_types.specs.declared.dispatch.Dispatch.{Dispatch}
 use Rattle.dispatch_types.specs.declared.viewer.Viewer.{Viewer}
 use Rattle.dispatch_types.specs.Fold.{contains}
 use Rattle.edit_apply.specs.declared.Edit.{Edit}
-use Rattle.gateway_frames.specs.declared.out.Out.{Out}
 use Rattle.gateway_frames.specs.declared.out.Out.TheVariants.{Hello, Ack}
 use Rattle.session_core.specs.declared.bot.Bot.{Bot}
 use Rattle.session_core.specs.declared.reply.Mark.TheVariants.{Start, Entry}
 use Rattle.session_core.specs.State.{State, Session, Place, Attached, Detached, Ended, is_on, has_link, opened, gone}
 use Rattle.session_core.specs.Frames.{Move, Nothing, Answers, Shuts, Begins, move_of}
-use Rattle.worker_core.specs.World.{Seen, Cursors, cursors, seen_with, Told, told, Sent, Worker, Output, Says, Tells, Closes, sends, after_entry, entry_owed, entry_sends, entered, looked, look_sends, first_dispatches, begins_with, Look, Open, Frame, framed, frame_sends, open_sends}
+use Rattle.worker_core.specs.World.{Seen, cursors, seen_with, Told, told, Sent, Worker, Output, Says, Tells, Closes, sends, after_entry, entry_owed, entry_sends, entered, looked, look_sends, first_dispatches, begins_with, Look, Open, Frame, framed, frame_sends, open_sends}
 use Rattle.worker_core.specs.Law.{dispatch_of, IsNumber, HasSent, OutputHolds, EachSendHolds}
 use Rattle.worker_core.proofs.Lists.{map_join}
 use Rattle.worker_core.proofs.Folds.{dispatches_told, same_id}

@@ -1,32 +1,33 @@
 -- Each step of a worker's value, on what it keeps, is that of each worker that it stands for.
 use Rattle.worker_core.proofs.Logs.{state_id}
-use Rattle.std.proofs.Common.{◌≡◌, ℕ, ◌+◌, List, [], ◌∷◌, ◌++◌, Bool, true, false, Option, Some, None, if◌then◌else◌, length, map, refl, sym, ap, subst, ◌∙◌, arith}
+use Rattle.std.proofs.Common.{◌≡◌, ℕ, ◌+◌, List, [], ◌∷◌, ◌++◌, Bool, true, false, Option, Some, None, if◌then◌else◌, length, map, refl, sym, ap, subst, ◌∙◌}
 use Rattle.std.specs.Prelude.{◌==◌, ◌||◌, filter, flat_map, is_some, option_map}
 use Rattle.std.proofs.lemmas.Bool.{eqb-true}
-use Rattle.std.proofs.lemmas.Bool.Decides.{nat_tests}
-use Rattle.std.proofs.lemmas.List.{length-append, length-map}
+use Rattle.std.proofs.lemmas.List.{length-map}
 use Rattle.collections.specs.ById.{find_id, put_id, has_id, IsById}
 use Rattle.collections.proofs.Ids.{IsById-put}
 use Rattle.collections.proofs.Finds.{same_by_id, find-put, find-map, IsById-map, key-found}
-use Rattle.guild_model.specs.Record.{Record, closed, own_id}
+use Rattle.guild_model.specs.Record.{closed, own_id}
 use Rattle.perm_bits.specs.Bits.{has_bit}
 use Rattle.intent_set.specs.Intents.{guilds}
 use Rattle.dispatch_types.specs.declared.viewer.Viewer.{Viewer}
 use Rattle.dispatch_types.specs.Serves.{serves}
 use Rattle.dispatch_types.specs.Fold.{contains}
-use Rattle.edit_apply.specs.Edits.{state_from, state}
+use Rattle.edit_apply.specs.Edits.{state}
 use Rattle.edit_apply.specs.declared.Edit.{Edit}
 use Rattle.session_core.specs.declared.bot.Bot.{Bot}
-use Rattle.session_core.specs.State.{State, Session, Attached, opened, begun}
-use Rattle.session_core.specs.Frames.{Move, Nothing, Answers, Shuts, Begins, move_of, moved}
+use Rattle.session_core.specs.State.{State, Attached, opened, begun}
+use Rattle.session_core.specs.Frames.{Move, Nothing, Answers, Shuts, Begins, move_of, moved, is_spent}
 use Rattle.worker_core.specs.declared.replica.Replica.{Replica}
-use Rattle.worker_core.specs.World.{Seen, Worker, entered, looked, look_sends, Look, Open, Frame, taken, outputs, framed, frame_sends, open_sends, begins_with, first_dispatches, listed_guilds, greeting_of, ready, sends, Output}
+use Rattle.worker_core.specs.World.{Seen, Worker, Input, entered, looked, look_sends, Look, Open, Frame, framed, frame_sends, open_sends, first_dispatches, listed_guilds, greeting_of, ready, sends, Output}
 use Rattle.worker_core.specs.Kept.{kept, kept_session, kept_looked, kept_sends}
-use Rattle.worker_core.specs.Stands.{replica_id, replica, looked_replica, KeptWorker, Stands, after_look, after_open, after_frame, kept_listed, kept_greeting, kept_ready, kept_first, kept_count, kept_frame_sends, LooksStand, OpensStand, FramesStand}
-use Rattle.worker_core.proofs.Lists.{append_none}
+use Rattle.worker_core.specs.Stands.{replica_id, replica, looked_replica, KeptWorker, Stands, after_look, after_open, after_frame, kept_listed, kept_greeting, kept_ready, kept_first, kept_count, kept_frame_sends, kept_frame_spends, IsStep, Steps, LooksStand, LooksPast, OpensStand, FramesStand}
+use Rattle.worker_core.specs.Outputs.{all_written}
+use Rattle.worker_core.specs.declared.io.Output.{Output as Written}
+use Rattle.worker_core.specs.Spent.{is_past, look_spends, frame_spends, kept_spends}
 use Rattle.worker_core.proofs.Folds.{state_join, same_id}
 use Rattle.worker_core.proofs.Worlds.{looked_seen}
-use Rattle.worker_core.proofs.Kept.{look_kept, look_sent, move_kept, moved_kept, opened_kept, begins_count}
+use Rattle.worker_core.proofs.Kept.{look_kept, look_sent, look_spent, move_kept, moved_kept, opened_kept, begins_count}
 
 -- a list of ids contains what it finds
 contains_found : (id : ℕ) (gs : List ℕ) → contains id gs ≡ has_id own_id id gs
@@ -69,15 +70,19 @@ looked_core es w g = fields es w g ∙ ap (λ xs. record (kept w.core) { session
     fields (e ∷ es) w g = fields es (entered w g e) g
 
 -- the replica of the guild that was looked at
+abbrev made : ℕ → List Edit → Replica
+made g es = record { guild = state g es }
+
 replica_looked : (es : List Edit) (w : Worker) (g : ℕ) → looked_replica (replica w.seen g) es ≡ replica (looked w g es).seen g
 replica_looked es w g =
     let now : (looked w g es).seen g ≡ w.seen g ++ es = looked_seen es w g g ∙ simp (same_id g) refl in
-    ap (λ n. record { cursor = n; guild = state_from (state g (w.seen g)) es }) (sym (length-append (w.seen g) es))
-    ∙ (ap (λ s. record { cursor = length (w.seen g ++ es); guild = s }) (sym (state_join (closed g) (w.seen g) es))
-    ∙ ap (λ xs. record { cursor = length xs; guild = state g xs }) (sym now))
+    ap (λ s. record { guild = s }) (sym (state_join (closed g) (w.seen g) es))
+    ∙ ap (made g) (sym now)
 
 other_looked : (es : List Edit) (w : Worker) (g h : ℕ) → (g == h) ≡ false → replica (looked w g es).seen h ≡ replica w.seen h
-other_looked es w g h differ = ap (λ xs. record { cursor = length xs; guild = state h xs }) (looked_seen es w g h ∙ simp differ refl)
+other_looked es w g h differ =
+    let same : (looked w g es).seen h ≡ w.seen h = looked_seen es w g h ∙ simp differ refl in
+    ap (made h) same
 
 -- the replicas after a look
 replicas_looked : (es : List Edit) (w : Worker) (g : ℕ) → IsById own_id w.guilds → contains g w.guilds ≡ true
@@ -110,23 +115,24 @@ replicas_looked es w g h there =
 -- each step, on what is kept, is that of the worker
 module _ (k : KeptWorker) (w : Worker) (stands : Stands k w) where
   -- the guild is not there
-  pub looks_at_none : (g : ℕ) (es : List Edit) → find_id replica_id g k.replicas ≡ None → Stands k (taken w (Look g es)) × (outputs w (Look g es) ≡ [])
+  pub looks_at_none : (g : ℕ) (es : List Edit) → find_id replica_id g k.replicas ≡ None → IsStep w (Look g es) k [] false
   looks_at_none g es none =
       let lacks : contains g w.guilds ≡ false = contains_found g w.guilds ∙ by_found (find_id own_id g w.guilds) refl in
-      (simp lacks stands, simp lacks refl)
+      (simp lacks stands, (simp lacks refl, simp lacks refl))
     where
       by_found : (o : Option ℕ) → find_id own_id g w.guilds ≡ o → is_some o ≡ false
       by_found None e = refl
       by_found (Some n) e = absurd (cc (none, ap (λ rs. find_id replica_id g rs) stands.replicas, find_replica w.seen g w.guilds, ap (λ o. option_map (replica w.seen) o) e))
 
   pub looks_at_one : (g : ℕ) (es : List Edit) (r : Replica) → find_id replica_id g k.replicas ≡ Some r
-      → Stands (after_look k r es) (taken w (Look g es)) × (outputs w (Look g es) ≡ kept_sends r.guild es k.core.sessions)
+      → IsStep w (Look g es) (after_look k r es) (kept_sends r.guild es k.core.sessions) (kept_spends r.guild es k.core.sessions)
   looks_at_one g es r found = by_found (find_id own_id g w.guilds) refl
     where
       here : find_id replica_id g (map (replica w.seen) w.guilds) ≡ Some r
       here = ap (λ rs. find_id replica_id g rs) (sym stands.replicas) ∙ found
 
-      by_found : (o : Option ℕ) → find_id own_id g w.guilds ≡ o → Stands (after_look k r es) (taken w (Look g es)) × (outputs w (Look g es) ≡ kept_sends r.guild es k.core.sessions)
+      by_found : (o : Option ℕ) → find_id own_id g w.guilds ≡ o
+          → IsStep w (Look g es) (after_look k r es) (kept_sends r.guild es k.core.sessions) (kept_spends r.guild es k.core.sessions)
       by_found None e = absurd (cc (here, find_replica w.seen g w.guilds, ap (λ o. option_map (replica w.seen) o) e))
       by_found (Some n) e =
           let one : n ≡ g = key-found own_id g w.guilds n e in
@@ -134,8 +140,9 @@ module _ (k : KeptWorker) (w : Worker) (stands : Stands k w) where
           let some : Some (replica w.seen n) ≡ Some r = sym (find_replica w.seen g w.guilds ∙ ap (λ o. option_map (replica w.seen) o) e) ∙ here in
           let found : replica w.seen n ≡ r = cc some in
           let is : replica w.seen g ≡ r = ap (λ n. replica w.seen n) (sym one) ∙ found in
-          let whole : Stands (after_look k r es) (looked w g es) × (look_sends w g es ≡ kept_sends r.guild es k.core.sessions) = (
+          let whole : Stands (after_look k r es) (looked w g es) × ((look_sends w g es ≡ kept_sends r.guild es k.core.sessions) × (look_spends w g es ≡ kept_spends r.guild es k.core.sessions)) = (
             record {
+              goes_on = stands.goes_on;
               url = stands.url ∙ sym (looked_url es w g);
               now = stands.now ∙ sym (looked_now es w g);
               guilds = subst (λ (gs : List ℕ). IsById own_id gs) (sym (looked_guilds es w g)) stands.guilds;
@@ -146,22 +153,28 @@ module _ (k : KeptWorker) (w : Worker) (stands : Stands k w) where
                   ∙ (ap (λ (r : Replica). record (kept w.core) { sessions = kept_looked r.guild es (flat_map kept_session w.core.sessions) }) (sym is)
                   ∙ sym (looked_core es w g));
             },
-            look_sent es w g
-                ∙ (ap (λ (r : Replica). kept_sends r.guild es (flat_map kept_session w.core.sessions)) is
-                ∙ ap (λ (c : State ℕ). kept_sends r.guild es c.sessions) (sym stands.core)),
+            (
+              look_sent es w g
+                  ∙ (ap (λ (r : Replica). kept_sends r.guild es (flat_map kept_session w.core.sessions)) is
+                  ∙ ap (λ (c : State ℕ). kept_sends r.guild es c.sessions) (sym stands.core)),
+              look_spent es w g
+                  ∙ (ap (λ (r : Replica). kept_spends r.guild es (flat_map kept_session w.core.sessions)) is
+                  ∙ ap (λ (c : State ℕ). kept_spends r.guild es c.sessions) (sym stands.core)),
+            ),
           ) in
           simp there whole
 
-  pub opens : (conn : ℕ) → Stands (after_open k conn) (taken w (Open conn)) × (outputs w (Open conn) ≡ open_sends conn k.core)
+  pub opens : (conn : ℕ) → IsStep w (Open conn) (after_open k conn) (open_sends conn k.core) false
   opens conn = (
     record {
+      goes_on = stands.goes_on;
       url = stands.url;
       now = stands.now;
       guilds = stands.guilds;
       replicas = stands.replicas;
       core = ap (λ c. opened conn k.now c) stands.core ∙ (ap (λ n. opened conn n (kept w.core)) stands.now ∙ sym (opened_kept w.core conn w.now));
     },
-    sym (ap (λ (c : State ℕ). open_sends conn c) stands.core),
+    (sym (ap (λ (c : State ℕ). open_sends conn c) stands.core), refl),
   )
 
   -- the first dispatches of a session
@@ -183,10 +196,10 @@ module _ (k : KeptWorker) (w : Worker) (stands : Stands k w) where
   listed v = ap (λ ids. if has_bit v.intents guilds then ids else [])
       (ap (λ rs. map replica_id (filter (λ (r : Replica). serves v r.guild) rs)) stands.replicas ∙ served_ids v w.guilds)
 
-  pub first_kept : (v : Viewer) (bot : Bot) (n : ℕ) → kept_first k v bot n ≡ first_dispatches w v bot n
+  pub first_kept : (v : Viewer) (bot : Bot) (n : ℕ) → kept_first k v bot.name n ≡ first_dispatches w v bot n
   first_kept v bot n =
       let creates : flat_map (kept_greeting v) k.replicas ≡ flat_map (greeting_of w v) w.guilds = ap (λ rs. flat_map (kept_greeting v) rs) stands.replicas ∙ greetings v w.guilds in
-      let same : kept_ready k v bot n ≡ ready w v bot n = cc (listed v, stands.url, ap (λ (c : State ℕ). c.worker) stands.core) in
+      let same : kept_ready k v bot.name n ≡ ready w v bot n = cc (listed v, stands.url, ap (λ (c : State ℕ). c.worker) stands.core) in
       cc (creates, same)
 
   frames_move : (conn : ℕ) (text : List ℕ) → move_of k.core conn text ≡ move_of w.core conn text
@@ -217,22 +230,38 @@ module _ (k : KeptWorker) (w : Worker) (stands : Stands k w) where
       ap (λ (c : State ℕ). sends (Attached conn) 0 (first_dispatches w v bot (c.made + 1))) (sym stands.core)
       ∙ ap (λ ds. sends (Attached conn) 0 ds) (sym (first_kept v bot (k.core.made + 1)))
 
+  spent_by : (move : Move) → frame_spends w move ≡ kept_frame_spends k move
+  spent_by Nothing = refl
+  spent_by Answers = refl
+  spent_by (Shuts code) = refl
+  spent_by (Begins bot v) =
+      ap (λ (c : State ℕ). is_spent (Begins bot v) c || is_past 0 (length (first_dispatches w v bot (c.made + 1)))) (sym stands.core)
+      ∙ ap (λ ds. is_spent (Begins bot v) k.core || is_past 0 (length ds)) (sym (first_kept v bot (k.core.made + 1)))
+
   pub frames : (conn : ℕ) (text : List ℕ) → let move = move_of k.core conn text in
-      Stands (after_frame k conn move (kept_count k)) (taken w (Frame conn text)) × (outputs w (Frame conn text) ≡ kept_frame_sends k conn move)
+      IsStep w (Frame conn text) (after_frame k conn move (kept_count k)) (kept_frame_sends k conn move) (kept_frame_spends k move)
   frames conn text = (
     record {
+      goes_on = stands.goes_on;
       url = stands.url;
       now = stands.now;
       guilds = stands.guilds;
       replicas = stands.replicas;
       core = ap (λ m. moved conn k.now (kept_count k) m k.core) (frames_move conn text) ∙ moved_by conn (move_of w.core conn text);
     },
-    ap (λ m. frame_sends w conn m) (sym (frames_move conn text)) ∙ sent_by conn (move_of k.core conn text),
+    (
+      ap (λ m. frame_sends w conn m) (sym (frames_move conn text)) ∙ sent_by conn (move_of k.core conn text),
+      ap (λ m. frame_spends w m) (sym (frames_move conn text)) ∙ spent_by (move_of k.core conn text),
+    ),
   )
 
 pub looks_stand : LooksStand
 unfolding LooksStand
 looks_stand k w stands g es r found = looks_at_one k w stands g es r found
+
+pub looks_past : LooksPast
+unfolding LooksPast
+looks_past k w stands g es none = looks_at_none k w stands g es none
 
 pub opens_stand : OpensStand
 unfolding OpensStand
@@ -241,3 +270,7 @@ opens_stand k w stands conn = opens k w stands conn
 pub frames_stand : FramesStand
 unfolding FramesStand
 frames_stand k w stands conn text = frames k w stands conn text
+
+-- a step on what is kept, with what goes out
+pub step_made : (w : Worker) (i : Input) (new : KeptWorker) (sent : List Output) (out : List Written) → IsStep w i new sent false → out ≡ all_written sent → Steps w i new out
+step_made w i new sent out step is = (step.0, (is ∙ ap all_written (sym step.1.0), step.1.1))

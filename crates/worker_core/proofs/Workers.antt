@@ -2,7 +2,7 @@
 use Rattle.edit_events.proofs.Keeps.{edit_keeps}
 use Rattle.edit_events.proofs.Others.{projection_stays, others_stay}
 use Rattle.worker_core.proofs.Logs.{state_is_well, state_id}
-use Rattle.std.proofs.Common.{◌≡◌, ℕ, ◌+◌, ◌≤◌, List, [], ◌∷◌, ◌++◌, Bool, true, false, Option, Some, None, if◌then◌else◌, length, take, map, refl, sym, ap, subst, ◌∙◌, arith, ◌⊎◌, inl}
+use Rattle.std.proofs.Common.{◌≡◌, ℕ, ◌+◌, ◌≤◌, List, [], ◌∷◌, ◌++◌, Bool, true, false, Option, Some, None, if◌then◌else◌, length, take, refl, sym, ap, subst, ◌∙◌, arith, ◌⊎◌, inl}
 use Rattle.std.specs.Prelude.{All, ◌==◌, nat_lt}
 use Rattle.std.proofs.lemmas.List.Elements.{All-map, All-weaker, All-nil, All-push, All-head, All-tail}
 use Rattle.std.proofs.lemmas.List.{take-append-le, length-append}
@@ -19,11 +19,11 @@ use Rattle.edit_events.specs.Law.{Agrees, is_built, is_built_viewer}
 use Rattle.session_core.specs.declared.bot.Bot.{Bot}
 use Rattle.session_core.specs.declared.reply.Mark.{Mark}
 use Rattle.session_core.specs.declared.reply.Mark.TheVariants.{Start, Entry}
-use Rattle.session_core.specs.State.{State, Session, Place, Attached, Detached, Ended, is_on, is_live, has_link, released, opened, gone, heard, begun}
-use Rattle.session_core.specs.Frames.{Move, Nothing, Answers, Shuts, Begins, move_of, moved}
-use Rattle.worker_core.specs.World.{Seen, Cursors, cursors, seen_with, Told, told, Sent, Worker, with_sent, entry_owed, after_entry, entered, looked, first_dispatches, begins_with, Input, Look, Open, Frame, framed, taken}
+use Rattle.session_core.specs.State.{Session, Place, Attached, Detached, Ended, is_live, has_link, released, opened, gone, begun}
+use Rattle.session_core.specs.Frames.{Move, Nothing, Answers, Shuts, Begins, move_of}
+use Rattle.worker_core.specs.World.{Seen, Cursors, cursors, seen_with, Told, told, Sent, Worker, after_entry, entered, looked, first_dispatches, begins_with, Input, Look, Open, Frame, framed, taken}
 use Rattle.worker_core.specs.Law.{held, last_cursors}
-use Rattle.worker_core.proofs.Folds.{held_join, state_join, same_id}
+use Rattle.worker_core.proofs.Folds.{held_join, state_join}
 use Rattle.worker_core.proofs.Sessions.{Meets, grown, more_sent}
 use Rattle.worker_core.proofs.Greetings.{first_agrees}
 

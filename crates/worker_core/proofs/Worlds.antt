@@ -1,6 +1,6 @@
 -- What was sent to each session of each worker holds in each world that a list of steps makes.
-use Rattle.std.proofs.Common.{◌≡◌, ℕ, ◌≤◌, List, [], ◌∷◌, ◌++◌, Bool, true, false, if◌then◌else◌, length, take, map, drop, refl, sym, ap, subst, ◌∙◌, append_assoc, arith}
-use Rattle.std.specs.Prelude.{All, ◌==◌, nat_lt}
+use Rattle.std.proofs.Common.{◌≡◌, ℕ, ◌≤◌, List, [], ◌∷◌, ◌++◌, Bool, true, false, if◌then◌else◌, length, take, drop, refl, sym, ap, subst, ◌∙◌, append_assoc, arith}
+use Rattle.std.specs.Prelude.{All, ◌==◌}
 use Rattle.std.proofs.lemmas.List.Elements.{All-map, All-weaker, All-nil, All-append, All-cons, All-drop, All-head, All-tail}
 use Rattle.std.proofs.lemmas.List.{take-append-le, length-append}
 use Rattle.std.proofs.Math.Seq.{drop-append_seam}
@@ -9,13 +9,13 @@ use Rattle.dispatch_types.specs.Fold.{contains}
 use Rattle.edit_apply.specs.declared.Edit.{Edit}
 use Rattle.edit_events.specs.Law.{is_built}
 use Rattle.session_core.specs.declared.bot.Bot.{Bot}
-use Rattle.session_core.specs.State.{State, Session, has_link, opened}
-use Rattle.session_core.specs.Frames.{Move, Nothing, Answers, Shuts, Begins, move_of}
-use Rattle.worker_core.specs.World.{Seen, Cursors, cursors, seen_with, Sent, Worker, entered, looked, Input, Look, Open, Frame, framed, taken, World, Step, Edits, Looks, Opens, Frames, at_worker, stepped, run, first_worker}
+use Rattle.session_core.specs.State.{Session}
+use Rattle.session_core.specs.Frames.{Move}
+use Rattle.worker_core.specs.World.{Seen, Cursors, cursors, seen_with, Sent, Worker, entered, looked, Look, Open, Frame, framed, taken, World, Step, Edits, Looks, Opens, Frames, at_worker, stepped, run}
 use Rattle.worker_core.specs.Law.{SessionHolds, WorkerHolds, EachRunHolds, last_cursors, IsBuilt, first_of, first_world}
 use Rattle.worker_core.proofs.Lists.{append_none}
 use Rattle.worker_core.proofs.Sessions.{Meets, grown}
-use Rattle.worker_core.proofs.Workers.{SessionMeets, Follows, InputIsBuilt, taken_follows}
+use Rattle.worker_core.proofs.Workers.{SessionMeets, Follows, taken_follows}
 
 abbrev AreBuilt : List Edit → Type 0
 AreBuilt es = All (λ e. is_built e ≡ true) es

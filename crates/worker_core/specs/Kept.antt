@@ -1,14 +1,12 @@
 -- What a worker's value keeps of the worker that it stands for: of a session that has not ended how many
 -- dispatches it was sent, and of a log that was looked at its length and the record.
-use Rattle.std.specs.Prelude.{◌≡◌, ℕ, ◌+◌, List, [], ◌∷◌, ◌++◌, Option, Some, None, length, map, flat_map}
-use Rattle.collections.specs.ById.{IsById}
-use Rattle.guild_model.specs.Record.{Record, own_id}
-use Rattle.dispatch_types.specs.declared.dispatch.Dispatch.{Dispatch}
-use Rattle.edit_apply.specs.Edits.{after, state}
+use Rattle.std.specs.Prelude.{ℕ, ◌+◌, List, [], ◌∷◌, ◌++◌, length, map, flat_map}
+use Rattle.guild_model.specs.Record.{Record}
+use Rattle.edit_apply.specs.Edits.{after}
 use Rattle.edit_apply.specs.declared.Edit.{Edit}
 use Rattle.edit_events.specs.Due.{owed}
 use Rattle.session_core.specs.State.{State, Session, Place, Attached, Detached, Ended}
-use Rattle.worker_core.specs.World.{Seen, Sent, Output, Tells, sends}
+use Rattle.worker_core.specs.World.{Sent, Output, sends}
 
 -- a session by the number of its dispatches
 abbrev pub counted : Session Sent → Session ℕ

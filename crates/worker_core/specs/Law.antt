@@ -1,16 +1,14 @@
 -- What each session was sent, against the logs.
-use Rattle.std.specs.Prelude.{◌≡◌, ℕ, ◌+◌, ◌≤◌, List, [], ◌∷◌, ◌++◌, Option, Some, None, true, ◌⊎◌, length, map, take, All, unwrap_or}
-use Rattle.gateway_frames.specs.declared.out.Out.{Out}
+use Rattle.std.specs.Prelude.{◌≡◌, ℕ, ◌+◌, ◌≤◌, List, [], ◌∷◌, ◌++◌, true, ◌⊎◌, length, map, take, All, unwrap_or}
 use Rattle.dispatch_types.specs.declared.viewer.Viewer.{Viewer}
 use Rattle.dispatch_types.specs.declared.dispatch.Dispatch.{Dispatch}
-use Rattle.dispatch_types.specs.Projection.{projection}
 use Rattle.dispatch_types.specs.Fold.{Held, fold}
 use Rattle.edit_apply.specs.Edits.{state}
 use Rattle.edit_apply.specs.declared.Edit.{Edit}
 use Rattle.edit_events.specs.Law.{Agrees, is_built, is_built_viewer}
 use Rattle.session_core.specs.declared.bot.Bot.{Bot}
 use Rattle.session_core.specs.State.{Session, is_on}
-use Rattle.worker_core.specs.World.{Seen, Cursors, cursors, Told, Sent, Worker, World, Step, Edits, Looks, Opens, Frames, Output, Says, Tells, Closes, Input, taken, outputs, run, first_worker}
+use Rattle.worker_core.specs.World.{Cursors, cursors, Told, Sent, Worker, World, Step, Edits, Looks, Opens, Frames, Output, Says, Tells, Closes, Input, taken, outputs, run, first_worker}
 
 abbrev pub dispatch_of : Told → Dispatch
 dispatch_of t = t.dispatch

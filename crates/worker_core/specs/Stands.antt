@@ -1,13 +1,16 @@
 -- Which workers of the model a worker's value stands for.
-use Rattle.std.specs.Prelude.{◌≡◌, ℕ, ◌+◌, List, [], ◌∷◌, length, map, filter, flat_map, Bool, true, Some, if◌then◌else◌}
+use Rattle.std.specs.Prelude.{◌≡◌, ℕ, ◌+◌, List, [], ◌∷◌, ◌++◌, length, map, filter, flat_map, Bool, true, false, ◌||◌, Option, Some, None, if◌then◌else◌}
 use Rattle.collections.specs.ById.{IsById, find_id, put_id}
 use Rattle.guild_model.specs.Record.{own_id}
 use Rattle.edit_apply.specs.Edits.{state_from, state}
 use Rattle.edit_apply.specs.declared.Edit.{Edit}
 use Rattle.dispatch_types.specs.declared.viewer.Viewer.{Viewer}
 use Rattle.session_core.specs.declared.bot.Bot.{Bot}
-use Rattle.session_core.specs.State.{State, Attached, opened}
-use Rattle.session_core.specs.Frames.{Move, Nothing, Answers, Shuts, Begins, move_of, moved}
+use Rattle.session_core.specs.declared.reply.Reply.{Reply}
+use Rattle.session_core.specs.declared.reply.Reply.TheVariants as reply
+use Rattle.session_core.specs.State.{State, Session, Attached, opened}
+use Rattle.session_core.specs.Frames.{Move, Nothing, Answers, Shuts, Begins, move_of, moved, is_spent}
+use Rattle.worker_core.specs.declared.io.StepFault.{StepFault}
 use Rattle.worker_core.specs.declared.replica.Replica.{Replica}
 use Rattle.perm_bits.specs.Bits.{has_bit}
 use Rattle.intent_set.specs.Intents.{guilds}
@@ -16,27 +19,33 @@ use Rattle.dispatch_types.specs.declared.dispatch.Dispatch.{Dispatch}
 use Rattle.dispatch_types.specs.declared.dispatch.Dispatch.TheVariants.{Ready}
 use Rattle.dispatch_types.specs.declared.dispatch.Ready.{Ready as Greeted}
 use Rattle.gateway_frames.specs.declared.out.Out.TheVariants.{Ack}
-use Rattle.worker_core.specs.World.{Seen, Worker, Look, Open, Frame, taken, outputs, open_sends, Output, Says, Closes, sends, session_id, greeting_for}
+use Rattle.worker_core.specs.World.{Seen, Worker, Input, Look, Open, Frame, taken, outputs, open_sends, Output, Says, Closes, sends, session_id, greeting_for}
 use Rattle.worker_core.specs.Kept.{kept, kept_looked, kept_sends}
+use Rattle.worker_core.specs.Spent.{is_past, kept_spends, spends}
+use Rattle.worker_core.specs.Outputs.{written, all_written}
+use Rattle.worker_core.specs.Telling.{FaultBy, kept_with, further}
+use Rattle.worker_core.specs.declared.io.Output.{Output as Written}
 
 abbrev pub replica_id : Replica → ℕ
 replica_id r = r.guild.id
 
 abbrev pub replica : Seen → ℕ → Replica
-replica seen g = record { cursor = length (seen g); guild = state g (seen g) }
+replica seen g = record { guild = state g (seen g) }
 
 -- what a look makes of a replica
 abbrev pub looked_replica : Replica → List Edit → Replica
-looked_replica r es = record { cursor = r.cursor + length es; guild = state_from r.guild es }
+looked_replica r es = record { guild = state_from r.guild es }
 
--- what a worker's value keeps
+-- what a worker's value keeps, and the fault by which it is finished, if it is
 pub record KeptWorker : Type 0 where
+  pub finished : Option StepFault
   pub url : List ℕ
   pub now : ℕ
   pub replicas : List Replica
   pub core : State ℕ
 
 pub record Stands (k : KeptWorker) (w : Worker) : Type 0 where
+  pub goes_on : k.finished ≡ None
   pub url : k.url ≡ w.url
   pub now : k.now ≡ w.now
   pub guilds : IsById own_id w.guilds
@@ -61,37 +70,82 @@ kept_listed k v = if has_bit v.intents guilds then map replica_id (filter (λ (r
 abbrev pub kept_greeting : Viewer → Replica → List Dispatch
 kept_greeting v r = greeting_for v r.guild (served v r.guild)
 
-abbrev pub kept_ready : KeptWorker → Viewer → Bot → ℕ → Greeted
-kept_ready k v bot n = record {
-  user = record { id = v.user; name = bot.name; bot = true };
+abbrev pub kept_ready : KeptWorker → Viewer → (name : List ℕ) → ℕ → Greeted
+kept_ready k v name n = record {
+  user = record { id = v.user; name = name; bot = true };
   guilds = kept_listed k v;
   session = session_id k.core.worker n;
   url = k.url;
   shard = v.shard;
 }
 
-abbrev pub kept_first : KeptWorker → Viewer → Bot → ℕ → List Dispatch
-kept_first k v bot n = Ready (kept_ready k v bot n) ∷ flat_map (kept_greeting v) k.replicas
+abbrev pub kept_first : KeptWorker → Viewer → (name : List ℕ) → ℕ → List Dispatch
+kept_first k v name n = Ready (kept_ready k v name n) ∷ flat_map (kept_greeting v) k.replicas
 
 abbrev pub kept_count : KeptWorker → Bot → Viewer → ℕ → ℕ
-kept_count k bot v n = length (kept_first k v bot n)
+kept_count k bot v n = length (kept_first k v bot.name n)
+
+abbrev pub kept_frame_spends : KeptWorker → Move → Bool
+kept_frame_spends k Nothing = false
+kept_frame_spends k Answers = false
+kept_frame_spends k (Shuts code) = false
+kept_frame_spends k (Begins bot v) = is_spent (Begins bot v) k.core || is_past 0 (kept_count k bot v (k.core.made + 1))
 
 -- what goes out after a frame
 abbrev pub kept_frame_sends : KeptWorker → ℕ → Move → List Output
 kept_frame_sends k conn Nothing = []
 kept_frame_sends k conn Answers = Says conn Ack ∷ []
 kept_frame_sends k conn (Shuts code) = Closes conn code ∷ []
-kept_frame_sends k conn (Begins bot v) = sends (Attached conn) 0 (kept_first k v bot (k.core.made + 1))
+kept_frame_sends k conn (Begins bot v) = sends (Attached conn) 0 (kept_first k v bot.name (k.core.made + 1))
 
--- each step on what is kept is that of every worker that it stands for
+-- a step on what is kept is that of every worker that it stands for: what it becomes, what goes out, and
+-- whether a count would go past what its type holds
+abbrev pub IsStep : Worker → Input → KeptWorker → List Output → Bool → Type 0
+IsStep w i new sent spent = Stands new (taken w i) × ((outputs w i ≡ sent) × (spends w i ≡ spent))
+
 unfoldable pub LooksStand : Type 0
 LooksStand = (k : KeptWorker) (w : Worker) → Stands k w → (g : ℕ) (es : List Edit) (r : Replica) → find_id replica_id g k.replicas ≡ Some r
-    → Stands (after_look k r es) (taken w (Look g es)) × (outputs w (Look g es) ≡ kept_sends r.guild es k.core.sessions)
+    → IsStep w (Look g es) (after_look k r es) (kept_sends r.guild es k.core.sessions) (kept_spends r.guild es k.core.sessions)
+
+-- a look at a guild that is not there
+unfoldable pub LooksPast : Type 0
+LooksPast = (k : KeptWorker) (w : Worker) → Stands k w → (g : ℕ) (es : List Edit) → find_id replica_id g k.replicas ≡ None
+    → IsStep w (Look g es) k [] false
 
 unfoldable pub OpensStand : Type 0
 OpensStand = (k : KeptWorker) (w : Worker) → Stands k w → (conn : ℕ)
-    → Stands (after_open k conn) (taken w (Open conn)) × (outputs w (Open conn) ≡ open_sends conn k.core)
+    → IsStep w (Open conn) (after_open k conn) (open_sends conn k.core) false
 
 unfoldable pub FramesStand : Type 0
 FramesStand = (k : KeptWorker) (w : Worker) → Stands k w → (conn : ℕ) (text : List ℕ) → let move = move_of k.core conn text in
-    Stands (after_frame k conn move (kept_count k)) (taken w (Frame conn text)) × (outputs w (Frame conn text) ≡ kept_frame_sends k conn move)
+    IsStep w (Frame conn text) (after_frame k conn move (kept_count k)) (kept_frame_sends k conn move) (kept_frame_spends k move)
+
+-- the value of a worker, and what goes out, after a step
+abbrev pub Steps : Worker → Input → KeptWorker → List Written → Type 0
+Steps w i new out = Stands new (taken w i) × ((out ≡ all_written (outputs w i)) × (spends w i ≡ false))
+
+abbrev pub Fails : Worker → Input → StepFault → Type 0
+Fails w i fault = FaultBy (spends w i) fault
+
+-- what a session that has begun is sent first, on what is kept: it is the last one, and its name is its bot's
+abbrev pub greeted : KeptWorker → ℕ → Session ℕ → List Dispatch
+greeted k n x = kept_first k x.viewer x.name n
+
+abbrev pub Greets : KeptWorker → ℕ → KeptWorker → List Written → List Written → Type 0
+Greets old n new before out = (front : List (Session ℕ)) (x : Session ℕ) → old.core.sessions ≡ front ++ x ∷ []
+    → (new ≡ record old { core = kept_with (front ++ further (length (greeted old n x)) x ∷ []) old.core })
+    × ((out ≡ before ++ all_written (sends x.place x.sent (greeted old n x))) × (is_past x.sent (length (greeted old n x)) ≡ false))
+
+abbrev pub GreetsNot : KeptWorker → ℕ → StepFault → Type 0
+GreetsNot old n fault = (front : List (Session ℕ)) (x : Session ℕ) → old.core.sessions ≡ front ++ x ∷ [] → FaultBy (is_past x.sent (length (greeted old n x))) fault
+
+-- what is left after one reply
+abbrev pub Replies : Reply → KeptWorker → KeptWorker → List Written → List Written → Type 0
+Replies (reply.Send conn payload) old new before out = (new ≡ old) × (out ≡ before ++ written (Says conn payload) ∷ [])
+Replies (reply.Close conn code) old new before out = (new ≡ old) × (out ≡ before ++ written (Closes conn code) ∷ [])
+Replies (reply.Begin n) old new before out = Greets old n new before out
+
+abbrev pub RepliesNot : Reply → KeptWorker → StepFault → Type 0
+RepliesNot (reply.Send conn payload) old fault = FaultBy false fault
+RepliesNot (reply.Close conn code) old fault = FaultBy false fault
+RepliesNot (reply.Begin n) old fault = GreetsNot old n fault

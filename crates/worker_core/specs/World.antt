@@ -1,10 +1,9 @@
 -- Workers that follow the logs of guilds, their sessions, and what a list of steps makes of them
 -- (Gateway, Connection Lifecycle).
-use Rattle.std.specs.Prelude.{ℕ, ◌+◌, List, [], ◌∷◌, ◌++◌, Bool, true, false, not, ◌==◌, ◌&&◌, Option, Some, None, is_some, if◌then◌else◌, length, nat_lt, map, filter, drop, flat_map, decimal, codes}
+use Rattle.std.specs.Prelude.{ℕ, ◌+◌, List, [], ◌∷◌, ◌++◌, true, not, ◌==◌, ◌&&◌, Option, Some, None, if◌then◌else◌, length, nat_lt, map, filter, drop, flat_map, decimal, codes}
 use Rattle.collections.specs.ById.{put_all}
 use Rattle.perm_bits.specs.Bits.{has_bit}
 use Rattle.intent_set.specs.Intents.{guilds}
-use Rattle.intent_set.specs.Asks.{asks}
 use Rattle.guild_model.specs.Record.{Record, own_id}
 use Rattle.guild_model.specs.declared.member.Member.{Member}
 use Rattle.dispatch_types.specs.declared.viewer.Viewer.{Viewer}

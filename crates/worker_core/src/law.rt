@@ -1,6 +1,6 @@
 //! The laws over every run, as functions whose contracts are the statements.
 ghost use Rattle.worker_core.specs.Law.{EachRunHolds, EachSendHolds};
-ghost use Rattle.worker_core.specs.Stands.{LooksStand, OpensStand, FramesStand};
+ghost use Rattle.worker_core.specs.Stands.{LooksStand, LooksPast, OpensStand, FramesStand};
 
 /// Whatever steps come, what a session was sent folds to the projection of one prefix of each log.
 pub fn projection_of_a_prefix()
@@ -15,6 +15,11 @@ pub fn sends_are_of_sessions()
 /// A look, on what a worker keeps, is that of every worker that it stands for.
 pub fn looks_stand()
     ensures { LooksStand }
+{}
+
+/// The same of a look at a guild that is not there.
+pub fn looks_past()
+    ensures { LooksPast }
 {}
 
 /// The same of a connection that opens.

@@ -1,8 +1,15 @@
 //! Workers that follow the logs of guilds and serve sessions: the model of a world of them, the laws over
-//! every run, and what a worker keeps.
+//! every run, and the worker itself.
 #![tactic(auto)]
 
+mod greet;
+pub mod io;
 pub mod law;
+mod look;
 pub mod replica;
+mod tell;
+pub mod worker;
 
+pub use io::{Input, Output, StepFault};
 pub use replica::Replica;
+pub use worker::Worker;

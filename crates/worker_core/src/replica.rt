@@ -1,11 +1,9 @@
 use collections::Keyed;
 use guild_model::Guild;
 
-/// What a worker keeps of a guild: how many entries of its log it has handled, and the record
-/// after them.
+/// What a worker keeps of a guild: the record after the entries of its log that it has handled.
 #[derive(Drop)]
 pub struct Replica {
-    pub cursor: u64,
     pub guild: Guild,
 }
 

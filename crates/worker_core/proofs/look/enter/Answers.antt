@@ -1,0 +1,19 @@
+-- A refused entry tells nothing.
+use Rattle.std.proofs.Common.{◌≡◌, true, false, Option, Some, None, refl, sym, ap, ◌∙◌}
+use Rattle.std.specs.Option.{is_none}
+use Rattle.std.specs.Result.{is_err}
+use Rattle.guild_model.specs.declared.verdict.Verdict.{Verdict}
+use Rattle.guild_model.specs.Tests.{outcome}
+use Rattle.edit_apply.specs.Edits.{verdict}
+use Rattle.worker_core.proofs.look.enter.Goals as goal
+use Rattle.worker_core.proofs.Looking.{none_told}
+
+refused_by : (v : Option Verdict) → is_err (outcome v) ≡ true → is_none v ≡ false
+refused_by None err = sym err
+refused_by (Some v) err = refl
+
+pub returns-then-is_err-clause-told : goal.returns-then-is_err-clause-told
+returns-then-is_err-clause-told c =
+    let g = c.args.guild.now in
+    let e = c.args.entry.now in
+    none_told g e c.args.sessions.now (refused_by (verdict g e) (ap is_err (sym c.judge.ensures) ∙ (sym c.is_err.ensures.value ∙ c.if-is_err.true))) c.args.out.now.items

@@ -1,0 +1,43 @@
+-- Which steps would raise a count past what its type holds: how many sessions a worker has made (32 bits),
+-- and the number of a session's last dispatch (64 bits).
+use Rattle.std.specs.Prelude.{ℕ, ◌+◌, ◌-◌, ◌^◌, List, [], ◌∷◌, Bool, false, ◌&&◌, ◌||◌, nat_lt, length, map}
+use Rattle.std.specs.List.{list_any}
+use Rattle.guild_model.specs.Record.{Record}
+use Rattle.dispatch_types.specs.Fold.{contains}
+use Rattle.edit_apply.specs.Edits.{after}
+use Rattle.edit_apply.specs.declared.Edit.{Edit}
+use Rattle.edit_events.specs.Due.{owed}
+use Rattle.session_core.specs.State.{Session, is_live}
+use Rattle.session_core.specs.Frames.{Move, Nothing, Answers, Shuts, Begins, move_of, is_spent}
+use Rattle.worker_core.specs.World.{Seen, Sent, Worker, Input, Look, Open, Frame, entry_owed, entered, first_dispatches}
+use Rattle.worker_core.specs.Kept.{told_more}
+
+-- more dispatches than can be counted after this many
+abbrev pub is_past : ℕ → ℕ → Bool
+is_past count more = nat_lt 0 more && nat_lt (2 ^ 64 - 1) (count + more)
+
+abbrev pub entry_spends : Seen → ℕ → Edit → Session Sent → Bool
+entry_spends seen g e x = is_live x.place && is_past (length x.sent.told) (length (entry_owed seen g e x))
+
+abbrev pub look_spends : Worker → ℕ → List Edit → Bool
+look_spends w g [] = false
+look_spends w g (e ∷ es) = list_any (entry_spends w.seen g e) w.core.sessions || look_spends (entered w g e) g es
+
+abbrev pub frame_spends : Worker → Move → Bool
+frame_spends w Nothing = false
+frame_spends w Answers = false
+frame_spends w (Shuts code) = false
+frame_spends w (Begins bot v) = is_spent (Begins bot v) w.core || is_past 0 (length (first_dispatches w v bot (w.core.made + 1)))
+
+abbrev pub spends : Worker → Input → Bool
+spends w (Look g es) = contains g w.guilds && look_spends w g es
+spends w (Open conn) = false
+spends w (Frame conn text) = frame_spends w (move_of w.core conn text)
+
+-- the same of what is kept
+abbrev pub told_spends : Record → Edit → Session ℕ → Bool
+told_spends s e x = is_past x.sent (length (owed s e x.viewer))
+
+abbrev pub kept_spends : Record → List Edit → List (Session ℕ) → Bool
+kept_spends s [] xs = false
+kept_spends s (e ∷ es) xs = list_any (told_spends s e) xs || kept_spends (after s e) es (map (told_more s e) xs)

@@ -1,0 +1,257 @@
+//! A worker: what it keeps, and its step.
+
+ghost use Rattle.std.specs.Prelude.{◌≡◌, [], ◌∷◌, false, true, Some, None, Err, IfOk, OnOk, IsSome, MatchResult, slice_get};
+ghost use Rattle.std.specs.Option.{option_map_or};
+ghost use Rattle.collections.specs.ById.{find_id, put_id};
+ghost use Rattle.guild_model.specs.Record.{closed};
+ghost use Rattle.edit_apply.specs.Edits.{state_from};
+ghost use Rattle.session_core.specs.State.{open_replies};
+ghost use Rattle.session_core.specs.Frames.{move_of, move_replies, is_spent};
+ghost use Rattle.session_core.specs.declared.fault.SessionFault.TheVariants as SessionFault;
+ghost use Rattle.worker_core.specs.World.{Worker as ModelWorker, Look as Looks, Open as Opens, Frame as Frames, Says, first_worker};
+ghost use Rattle.worker_core.specs.Kept.{kept_looked, kept_sends};
+ghost use Rattle.worker_core.specs.Outputs.{input_of, written, all_written};
+ghost use Rattle.worker_core.specs.Spent.{kept_spends};
+ghost use Rattle.worker_core.specs.Telling.{FaultBy, kept_with};
+ghost use Rattle.worker_core.specs.Stands.{Stands, Steps, Fails, Greets, GreetsNot, Replies, RepliesNot, greeted, kept_ready, replica_id, after_open, after_frame};
+
+use crate::greet::{greetings, listed, session_id};
+use crate::io::{Input, Output, StepFault, put};
+use crate::look::look;
+use crate::replica::Replica;
+use crate::tell::tell;
+use collections::{ById, Text};
+use dispatch_types::{Dispatch, Ready, Viewer};
+use edit_apply::Edit;
+use gateway_frames::Out;
+use guild_model::{Guild, User};
+use session_core::{Bot, Reply, SessionFault, Sessions};
+use snowflake_id::Snowflake;
+use std::alloc::{AllocError, Global};
+use std::marker::Model;
+
+/// A worker, which follows the logs of guilds and serves sessions (Gateway, Connection Lifecycle).
+#[derive(Drop)]
+pub struct Worker {
+    alloc: Global,
+    finished: Option<StepFault>,
+    url: Text,
+    clock: u64,
+    replicas: ById<Replica>,
+    sessions: Sessions,
+}
+
+impl Model for Worker {
+    ghost use Rattle.worker_core.specs.Stands.{KeptWorker};
+
+    ghost Value = { KeptWorker };
+
+    ghost view = { λ w. record { finished = w.finished; url = w.url; now = w.clock; replicas = w.replicas; core = w.sessions } };
+}
+
+impl Worker {
+    /// A worker of these bots and guilds, each guild with an empty log, to whose sessions READY names
+    /// this URL. Of a token or a guild that comes twice the first counts.
+    pub fn new(
+        alloc: Global,
+        number: u8,
+        url: Text,
+        bots: Vec<Bot>,
+        guilds: &[Snowflake],
+    ) -> Result<Worker, AllocError>
+        ensures { IfOk result (λ worker. Stands worker (first_worker bots.items guilds.now number url)) }
+    {
+        let mut replicas = ById::new(alloc);
+        for id in guilds {
+            replicas.put(Replica {
+                guild: Guild::closed(alloc, *id),
+            })?;
+        }
+        Ok(Worker {
+            alloc,
+            finished: None,
+            url,
+            clock: 0,
+            replicas,
+            sessions: Sessions::new(alloc, number, bots),
+        })
+    }
+
+    /// What goes out after an input, in order. The entries of a look are those of the guild's log that
+    /// follow the ones that this worker has been given; a guild that is not the worker's is passed over.
+    ///
+    /// `Spent` comes exactly where memory serves and a count of sessions or of a session's dispatches
+    /// would pass its last value. After an `Err` the worker is finished: each later step answers the same.
+    pub fn step(&mut self, input: Input) -> Result<Vec<Output>, StepFault>
+        ensures steps { (w : ModelWorker) → Stands self.old w → MatchResult result (λ out. Steps w (input_of input) self.new out.items) (Fails w (input_of input)) }
+        ensures ended { (fault : StepFault) → result ≡ Err fault → self.new.finished ≡ Some fault }
+        ensures stays { (fault : StepFault) → self.old.finished ≡ Some fault → result ≡ Err fault }
+    {
+        if let Some(fault) = self.finished {
+            return Err(fault);
+        }
+        let given = self.take(input);
+        if let Err(fault) = &given {
+            self.finished = Some(*fault);
+        }
+        given
+    }
+
+    fn take(&mut self, input: Input) -> Result<Vec<Output>, StepFault>
+        ensures { (w : ModelWorker) → Stands self.old w → MatchResult result (λ out. Steps w (input_of input) self.new out.items) (Fails w (input_of input)) }
+    {
+        match input {
+            Input::Look(guild, entries) => self.look(guild, entries.as_slice()),
+            Input::Open(conn) => self.open(conn),
+            Input::Frame(conn, text) => self.frame(conn, text.as_str()),
+        }
+    }
+
+    fn look(&mut self, guild: Snowflake, entries: &[Edit]) -> Result<Vec<Output>, StepFault>
+        ensures { (w : ModelWorker) → Stands self.old w → MatchResult result (λ out. Steps w (Looks guild entries.now) self.new out.items) (Fails w (Looks guild entries.now)) }
+    {
+        let Some(mut replica) = self.take_replica(guild) else {
+            return Ok(Vec::new(self.alloc));
+        };
+        let out = self.follow(&mut replica.guild, entries)?;
+        self.put_replica(replica);
+        Ok(out)
+    }
+
+    /// The replica of a guild, out of the worker, which has an empty one in its place.
+    fn take_replica(&mut self, guild: Snowflake) -> Option<Replica>
+        ensures found { result ≡ find_id replica_id guild self.old.replicas }
+        ensures none { result ≡ None → self.new ≡ self.old }
+        ensures taken { (r : Replica) → result ≡ Some r → self.new ≡ record self.old { replicas = put_id replica_id (record { guild = closed guild }) self.old.replicas } }
+    {
+        if !self.replicas.contains(guild.0) {
+            return None;
+        }
+        let replica = self.replicas.exchange(Replica {
+            guild: Guild::closed(self.alloc, guild),
+        });
+        Some(replica)
+    }
+
+    fn put_replica(&mut self, replica: Replica)
+        requires { IsSome (find_id replica_id (replica_id replica) self.old.replicas) }
+        ensures { self.new ≡ record self.old { replicas = put_id replica_id replica self.old.replicas } }
+    {
+        self.replicas.replace(replica);
+    }
+
+    /// The entries of a guild, for its record and for each session.
+    fn follow(&mut self, guild: &mut Guild, entries: &[Edit]) -> Result<Vec<Output>, StepFault>
+        ensures guild { OnOk result (guild.new ≡ state_from guild.old entries.now) }
+        ensures core { OnOk result (self.new ≡ record self.old { core = kept_with (kept_looked guild.old entries.now self.old.core.sessions) self.old.core }) }
+        ensures out { IfOk result (λ out. out.items ≡ all_written (kept_sends guild.old entries.now self.old.core.sessions)) }
+        ensures spent { MatchResult result (λ _. kept_spends guild.old entries.now self.old.core.sessions ≡ false) (FaultBy (kept_spends guild.old entries.now self.old.core.sessions)) }
+    {
+        let mut out = Vec::new(self.alloc);
+        look(self.alloc, guild, entries, &mut self.sessions, &mut out)?;
+        Ok(out)
+    }
+
+    fn open(&mut self, conn: u32) -> Result<Vec<Output>, StepFault>
+        ensures { (w : ModelWorker) → Stands self.old w → MatchResult result (λ out. Steps w (Opens conn) self.new out.items) (Fails w (Opens conn)) }
+    {
+        let replies = self.open_session(conn)?;
+        self.reply_each(replies.as_slice())
+    }
+
+    fn open_session(&mut self, conn: u32) -> Result<Vec<Reply>, AllocError>
+        ensures replies { IfOk result (λ replies. replies.items ≡ open_replies conn self.old.core) }
+        ensures opened { OnOk result (self.new ≡ after_open self.old conn) }
+    {
+        self.sessions.open(conn, self.clock)
+    }
+
+    fn frame(&mut self, conn: u32, text: &str) -> Result<Vec<Output>, StepFault>
+        ensures { (w : ModelWorker) → Stands self.old w → MatchResult result (λ out. Steps w (Frames conn text.now) self.new out.items) (Fails w (Frames conn text.now)) }
+    {
+        let replies = self.frame_session(conn, text)?;
+        self.reply_each(replies.as_slice())
+    }
+
+    fn frame_session(&mut self, conn: u32, text: &str) -> Result<Vec<Reply>, SessionFault>
+        ensures replies { IfOk result (λ replies. replies.items ≡ move_replies conn (move_of self.old.core conn text.now) self.old.core) }
+        ensures moved { OnOk result (self.new ≡ after_frame self.old conn (move_of self.old.core conn text.now) (λ bot viewer n. 0)) }
+        ensures counted { OnOk result (is_spent (move_of self.old.core conn text.now) self.old.core ≡ false) }
+        ensures spent { result ≡ Err SessionFault.Spent → is_spent (move_of self.old.core conn text.now) self.old.core ≡ true }
+    {
+        self.sessions.frame(conn, text, self.clock)
+    }
+
+    /// What goes out for the replies of a call, in order.
+    fn reply_each(&mut self, replies: &[Reply]) -> Result<Vec<Output>, StepFault>
+        ensures none { replies.now ≡ [] → MatchResult result (λ out. (self.new ≡ self.old) × (out.items ≡ [])) (FaultBy false) }
+        ensures one { (r : Reply) → replies.now ≡ r ∷ [] → MatchResult result (λ out. Replies r self.old self.new [] out.items) (RepliesNot r self.old) }
+    {
+        let mut out = Vec::new(self.alloc);
+        for reply in replies {
+            self.reply(*reply, &mut out)?;
+        }
+        Ok(out)
+    }
+
+    fn reply(&mut self, reply: Reply, out: &mut Vec<Output>) -> Result<(), StepFault>
+        ensures { MatchResult result (λ _. Replies reply self.old self.new out.old.items out.new.items) (RepliesNot reply self.old) }
+    {
+        match reply {
+            Reply::Send(conn, payload) => put(out, said(self.alloc, conn, payload)?)?,
+            Reply::Close(conn, code) => put(out, Output::Close(conn, code))?,
+            Reply::Begin(session) => self.greet(session, out)?,
+        }
+        Ok(())
+    }
+
+    /// The first dispatches of the session that has begun last.
+    fn greet(&mut self, session: u32, out: &mut Vec<Output>) -> Result<(), StepFault>
+        ensures { MatchResult result (λ _. Greets self.old session self.new out.old.items out.new.items) (GreetsNot self.old session) }
+    {
+        let Some(place) = self.sessions.len().checked_sub(1) else {
+            return Ok(());
+        };
+        let first = self.first_dispatches(session, place)?;
+        tell(self.alloc, &mut self.sessions, place, first.as_slice(), out)
+    }
+
+    fn first_dispatches(&self, session: u32, place: usize) -> Result<Vec<Dispatch>, AllocError>
+        ensures { IfOk result (λ list. option_map_or (greeted self.now session) (slice_get self.now.core.sessions place) [] ≡ list.items) }
+    {
+        let mut list = Vec::new(self.alloc);
+        let (Some(viewer), Some(name)) = (
+            self.sessions.viewer_at(place),
+            self.sessions.name_at(place),
+        ) else {
+            return Ok(list);
+        };
+        list.push(Dispatch::Ready(self.ready(viewer, name, session)?))?;
+        greetings(self.alloc, self.replicas.as_slice(), viewer, &mut list)?;
+        Ok(list)
+    }
+
+    fn ready(&self, viewer: &Viewer, name: &str, session: u32) -> Result<Ready, AllocError>
+        ensures { IfOk result (λ ready. ready ≡ kept_ready self.now viewer.now name.now session) }
+    {
+        Ok(Ready {
+            user: User {
+                id: viewer.user,
+                name: Text::new(self.alloc, name)?,
+                bot: true,
+            },
+            guilds: listed(self.alloc, self.replicas.as_slice(), viewer)?,
+            session: session_id(self.alloc, self.sessions.worker(), session)?,
+            url: self.url.copy(self.alloc)?,
+            shard: viewer.shard,
+        })
+    }
+}
+
+// The text of a payload for a connection.
+fn said(alloc: Global, conn: u32, payload: Out) -> Result<Output, AllocError>
+    ensures { IfOk result (λ output. output ≡ written (Says conn payload)) }
+{
+    let text = payload.text(alloc)?;
+    Ok(Output::Send(conn, Text::from_string(text)))
+}
