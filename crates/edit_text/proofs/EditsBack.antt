@@ -16,12 +16,10 @@ use Rattle.role_member_edit.specs.declared.RoleMemberEdit.TheVariants.{RoleCreat
 use Rattle.channel_edit.specs.declared.ChannelEdit.{ChannelEdit}
 use Rattle.channel_edit.specs.declared.ChannelEdit.TheVariants.{ChannelCreate, ChannelUpdate, ChannelDelete, OverwriteSet, OverwriteDelete}
 use Rattle.guild_model.specs.declared.channel.ChannelKind.{ChannelKind}
-use Rattle.guild_model.specs.declared.channel.ChannelKind.TheVariants.{Text, Voice, Category, Announcement, Stage, Forum}
 use Rattle.guild_model.specs.declared.channel.OverwriteKind.{OverwriteKind}
-use Rattle.guild_model.specs.declared.channel.OverwriteKind.TheVariants.{Role, Member}
+use Rattle.guild_model.proofs.Numbers.{channel_kind_back, overwrite_kind_back}
 use Rattle.edit_text.specs.declared.line.Line.TheVariants.{Edit as EditLine}
-use Rattle.edit_text.specs.Fields.{text_at, id_at, channel_kind_numbered, overwrite_kind_numbered}
-use Rattle.edit_text.specs.Members.{channel_kind_number, overwrite_kind_number}
+use Rattle.edit_text.specs.Fields.{text_at, id_at}
 use Rattle.edit_text.specs.Fits.{IdFits, NullableIdFits, MaskFits, MomentFits, NullableMomentFits, GuildEditFits, RoleMemberEditFits, ChannelEditFits, EditFits}
 use Rattle.edit_text.specs.Names.{name_text}
 use Rattle.edit_text.specs.Edits.{edit_from, edit_name}
@@ -100,20 +98,6 @@ role_member_back guild (MemberRoleAdd user role) h k p =
     (refl, rw (id_of_decimal guild h) refl, refl, rw (id_of_decimal user k.0, id_of_decimal role k.1) refl)
 role_member_back guild (MemberRoleRemove user role) h k p =
     (refl, rw (id_of_decimal guild h) refl, refl, rw (id_of_decimal user k.0, id_of_decimal role k.1) refl)
-
-channel_kind_back : (kind : ChannelKind) → channel_kind_numbered (channel_kind_number kind) ≡ Some kind
-unfolding channel_kind_numbered
-channel_kind_back Text = refl
-channel_kind_back Voice = refl
-channel_kind_back Category = refl
-channel_kind_back Announcement = refl
-channel_kind_back Stage = refl
-channel_kind_back Forum = refl
-
-overwrite_kind_back : (kind : OverwriteKind) → overwrite_kind_numbered (overwrite_kind_number kind) ≡ Some kind
-unfolding overwrite_kind_numbered
-overwrite_kind_back Role = refl
-overwrite_kind_back Member = refl
 
 channel_create_back : (guild channel : ℕ) (kind : ChannelKind) (name : List ℕ) (parent : Option ℕ) (position : ℕ) (sync : Bool)
     → IdFits guild → IdFits channel → NullableIdFits parent → nat_lt position (2 ^ 31) ≡ true

@@ -2,13 +2,14 @@
 use Rattle.std.specs.Prelude.{ℕ, List, [], ◌∷◌, Result, Ok, codes}
 use Rattle.serde_json.specs.Data.{Data, boolean, string}
 use Rattle.json_view.specs.Fields.{and_then}
+use Rattle.guild_model.specs.Numbers.{channel_kind_number, overwrite_kind_number}
 use Rattle.channel_edit.specs.declared.ChannelEdit.{ChannelEdit}
 use Rattle.channel_edit.specs.declared.ChannelEdit.TheVariants.{ChannelCreate, ChannelUpdate, ChannelDelete, OverwriteSet, OverwriteDelete}
 use Rattle.edit_text.specs.declared.fault.LineFault.{LineFault}
 use Rattle.edit_text.specs.declared.names.ChannelEditName.{ChannelEditName}
 use Rattle.edit_text.specs.declared.names.ChannelEditName.TheVariants as named
 use Rattle.edit_text.specs.Fields.{text_at, id_at, flag_at, mask_at, position_at, kind_at, overwrite_kind_at, nullable_id_at}
-use Rattle.edit_text.specs.Members.{count, id_data, nullable, channel_kind_number, overwrite_kind_number}
+use Rattle.edit_text.specs.Members.{count, id_data, nullable}
 
 -- ---- reading
 

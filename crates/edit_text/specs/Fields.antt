@@ -6,9 +6,8 @@ use Rattle.std.specs.Option.{ok_or}
 use Rattle.serde_json.specs.Find.{as_str}
 use Rattle.json_view.specs.Fields.{and_then, field, unless_null, whole, text_field, id_value, id_field, number_field, flag_field}
 use Rattle.guild_model.specs.declared.channel.ChannelKind.{ChannelKind}
-use Rattle.guild_model.specs.declared.channel.ChannelKind.TheVariants.{Text, Voice, Category, Announcement, Stage, Forum}
 use Rattle.guild_model.specs.declared.channel.OverwriteKind.{OverwriteKind}
-use Rattle.guild_model.specs.declared.channel.OverwriteKind.TheVariants.{Role, Member}
+use Rattle.guild_model.specs.Numbers.{channel_kind_numbered, overwrite_kind_numbered}
 use Rattle.guild_model.specs.declared.moment.TheConstants.{END_OF_TIME}
 use Rattle.edit_text.specs.declared.fault.LineFault.{LineFault}
 use Rattle.edit_text.specs.declared.fault.LineFault.TheVariants.{WrongType}
@@ -42,26 +41,10 @@ abbrev pub position_at : List ℕ → Data → Result ℕ LineFault
 position_at name d = number_below (2 ^ 31) name d
 
 -- the type of a channel (Channels Resource, Channel Types)
-unfoldable pub channel_kind_numbered : ℕ → Option ChannelKind
-channel_kind_numbered n =
-    if n == 0 then Some Text
-    else (if n == 2 then Some Voice
-    else (if n == 4 then Some Category
-    else (if n == 5 then Some Announcement
-    else (if n == 13 then Some Stage
-    else (if n == 15 then Some Forum
-    else None)))))
-
--- whom an overwrite is of (Channels Resource, Overwrite Object)
-unfoldable pub overwrite_kind_numbered : ℕ → Option OverwriteKind
-overwrite_kind_numbered n =
-    if n == 0 then Some Role
-    else (if n == 1 then Some Member
-    else None)
-
 abbrev pub kind_at : List ℕ → Data → Result ChannelKind LineFault
 kind_at name d = and_then (faulted (number_field name d)) (λ n. ok_or (channel_kind_numbered n) WrongType)
 
+-- whom an overwrite is of (Channels Resource, Overwrite Object)
 abbrev pub overwrite_kind_at : List ℕ → Data → Result OverwriteKind LineFault
 overwrite_kind_at name d = and_then (faulted (number_field name d)) (λ n. ok_or (overwrite_kind_numbered n) WrongType)
 

@@ -9,7 +9,7 @@ ghost use Rattle.guild_model.specs.declared.moment.TheConstants.{END_OF_TIME};
 ghost use Rattle.edit_text.specs.declared.fault.LineFault.TheVariants.{WrongType};
 ghost use Rattle.serde_json.specs.View.{view};
 ghost use Rattle.edit_text.specs.Fault.{UnlessMemory, fault_of};
-ghost use Rattle.edit_text.specs.Fields.{text_at, id_at, flag_at, number_below, within, are_intents, mask_at, moment_at, position_at, channel_kind_numbered, overwrite_kind_numbered, kind_at, overwrite_kind_at, nullable_text_at, nullable_id_at, nullable_moment_at, intents_at};
+ghost use Rattle.edit_text.specs.Fields.{text_at, id_at, flag_at, number_below, within, are_intents, mask_at, moment_at, position_at, kind_at, overwrite_kind_at, nullable_text_at, nullable_id_at, nullable_moment_at, intents_at};
 
 use crate::LineFault;
 use collections::Text;
@@ -116,39 +116,13 @@ pub fn position_at(object: &Value, name: &str) -> Result<u32, LineFault>
     }
 }
 
-#[tactic(auto, unfolding(crate::specs::Fields::channel_kind_numbered))]
-fn channel_kind_numbered(number: u64) -> Option<ChannelKind>
-    ensures { result ≡ channel_kind_numbered number }
-{
-    match number {
-        0 => Some(ChannelKind::Text),
-        2 => Some(ChannelKind::Voice),
-        4 => Some(ChannelKind::Category),
-        5 => Some(ChannelKind::Announcement),
-        13 => Some(ChannelKind::Stage),
-        15 => Some(ChannelKind::Forum),
-        _ => None,
-    }
-}
-
-#[tactic(auto, unfolding(crate::specs::Fields::overwrite_kind_numbered))]
-fn overwrite_kind_numbered(number: u64) -> Option<OverwriteKind>
-    ensures { result ≡ overwrite_kind_numbered number }
-{
-    match number {
-        0 => Some(OverwriteKind::Role),
-        1 => Some(OverwriteKind::Member),
-        _ => None,
-    }
-}
-
 /// The type of a channel, as a number (Channels Resource, Channel Types).
 pub fn kind_at(object: &Value, name: &str) -> Result<ChannelKind, LineFault>
     ensures { result ≡ kind_at name.now (view object.now) }
 {
     match number_of(object, name) {
         Err(fault) => Err(fault_of(fault)),
-        Ok(number) => match channel_kind_numbered(number) {
+        Ok(number) => match ChannelKind::of_number(number) {
             None => Err(LineFault::WrongType),
             Some(kind) => Ok(kind),
         },
@@ -161,7 +135,7 @@ pub fn overwrite_kind_at(object: &Value, name: &str) -> Result<OverwriteKind, Li
 {
     match number_of(object, name) {
         Err(fault) => Err(fault_of(fault)),
-        Ok(number) => match overwrite_kind_numbered(number) {
+        Ok(number) => match OverwriteKind::of_number(number) {
             None => Err(LineFault::WrongType),
             Some(kind) => Ok(kind),
         },

@@ -5,10 +5,10 @@ ghost use Rattle.edit_text.specs.Fields.{are_intents};
 ghost use Rattle.serde_json.specs.Data.{boolean, string, put};
 ghost use Rattle.serde_json.specs.View.{members_view};
 ghost use Rattle.edit_text.specs.Fits.{IdFits, NullableIdFits, MaskFits, MomentFits, NullableMomentFits};
-ghost use Rattle.edit_text.specs.Members.{count, id_data, nullable, channel_kind_number, overwrite_kind_number};
+ghost use Rattle.edit_text.specs.Members.{count, id_data, nullable};
 
 use collections::Text;
-use guild_model::{ChannelKind, Moment, OverwriteKind};
+use guild_model::Moment;
 use intent_set::Intents;
 use perm_bits::Perms;
 use serde_json::{Map, Value};
@@ -143,30 +143,6 @@ pub fn put_nullable_id(
     match id {
         None => serde_json::put(members, alloc, name, Value::Null),
         Some(id) => put_id(alloc, members, name, id),
-    }
-}
-
-/// The number of a type of channels (Channels Resource, Channel Types).
-pub fn channel_kind_number(kind: ChannelKind) -> u64
-    ensures { result ≡ channel_kind_number kind }
-{
-    match kind {
-        ChannelKind::Text => 0,
-        ChannelKind::Voice => 2,
-        ChannelKind::Category => 4,
-        ChannelKind::Announcement => 5,
-        ChannelKind::Stage => 13,
-        ChannelKind::Forum => 15,
-    }
-}
-
-/// The number of a kind of overwrites (Channels Resource, Overwrite Object).
-pub fn overwrite_kind_number(kind: OverwriteKind) -> u64
-    ensures { result ≡ overwrite_kind_number kind }
-{
-    match kind {
-        OverwriteKind::Role => 0,
-        OverwriteKind::Member => 1,
     }
 }
 

@@ -8,11 +8,11 @@ use Rattle.serde_json.specs.View.{items_of}
 use Rattle.serde_json.specs.Written.{has_float, items_have_float}
 use Rattle.serde_json.proofs.OnLiterals.{serde_json_on_literals}
 use Rattle.snowflake_id.proofs.Texts.{id_of_decimal}
+use Rattle.guild_model.specs.declared.presence.Status.{Status}
+use Rattle.guild_model.proofs.Statuses.{status_back}
 use Rattle.gateway_frames.specs.declared.frame.Frame.{Frame}
 use Rattle.gateway_frames.specs.declared.frame.Frame.TheVariants as frame
 use Rattle.gateway_frames.specs.declared.frame.Identify.{Identify}
-use Rattle.gateway_frames.specs.declared.frame.Status.{Status}
-use Rattle.gateway_frames.specs.declared.frame.Status.TheVariants.{Online, Idle, Dnd, Invisible, Offline}
 use Rattle.gateway_frames.specs.declared.frame.VoiceAsk.{VoiceAsk}
 use Rattle.gateway_frames.specs.declared.frame.Resume.{Resume}
 use Rattle.gateway_frames.specs.declared.frame.Ask.{Ask}
@@ -63,11 +63,7 @@ identify_back token intents (Some t) (Some p) = (refl, (omega arith, refl))
 
 presence_back : (s : Status) → (presence_from (presence_data s) ≡ Ok s) × Plain (presence_data s)
 unfolding serde_json_on_literals
-presence_back Online = (refl, (omega arith, refl))
-presence_back Idle = (refl, (omega arith, refl))
-presence_back Dnd = (refl, (omega arith, refl))
-presence_back Invisible = (refl, (omega arith, refl))
-presence_back Offline = (refl, (omega arith, refl))
+presence_back s = (rw (status_back s) refl, (omega arith, refl))
 
 voice_back : (guild : ℕ) (channel : Option ℕ) (mute deaf : Bool) → IdFits guild → ChannelFits channel →
     let v : VoiceAsk = record { guild = guild; channel = channel; self_mute = mute; self_deaf = deaf } in

@@ -1,18 +1,17 @@
 -- The shape of `d` by opcode (Gateway Events, Send Events).
 use Rattle.std.specs.Prelude.{ℕ, List, [], ◌∷◌, Bool, false, nat_lt, if◌then◌else◌, Option, Some, None, unwrap_or, option_and_then, Result, Ok, Err, codes}
 use Rattle.std.specs.Option.{ok_or}
-use Rattle.std.specs.Str.{bytes_eq}
 use Rattle.serde_json.specs.Data.{Data, Items, no_items, item}
 use Rattle.serde_json.specs.Find.{get, as_bool, as_str, as_array}
 use Rattle.serde_json.specs.Events.{items_len}
 use Rattle.json_view.specs.Fields.{and_then, field, given, whole, number_field, text_field, id_field, id_value}
+use Rattle.guild_model.specs.declared.presence.Status.{Status}
+use Rattle.guild_model.specs.Statuses.{status_named}
 use Rattle.gateway_frames.specs.declared.fault.FrameFault.{FrameFault}
 use Rattle.gateway_frames.specs.declared.fault.FrameFault.TheVariants.{BadShape}
 use Rattle.gateway_frames.specs.declared.frame.Frame.{Frame}
 use Rattle.gateway_frames.specs.declared.frame.Frame.TheVariants.{Heartbeat}
 use Rattle.gateway_frames.specs.declared.frame.Identify.{Identify}
-use Rattle.gateway_frames.specs.declared.frame.Status.{Status}
-use Rattle.gateway_frames.specs.declared.frame.Status.TheVariants.{Online, Idle, Dnd, Invisible, Offline}
 use Rattle.gateway_frames.specs.declared.frame.VoiceAsk.{VoiceAsk}
 use Rattle.gateway_frames.specs.declared.frame.Resume.{Resume}
 use Rattle.gateway_frames.specs.declared.frame.Ask.{Ask}
@@ -78,13 +77,7 @@ identify_from d =
 -- ---- Update Presence: `since`, `activities` and `afk` are not read
 
 abbrev pub status_from : List ℕ → Result Status FrameFault
-status_from s =
-    if bytes_eq s (codes "online") then Ok Online
-    else (if bytes_eq s (codes "idle") then Ok Idle
-    else (if bytes_eq s (codes "dnd") then Ok Dnd
-    else (if bytes_eq s (codes "invisible") then Ok Invisible
-    else (if bytes_eq s (codes "offline") then Ok Offline
-    else Err BadShape))))
+status_from s = ok_or (status_named s) BadShape
 
 abbrev pub presence_from : Data → Result Status FrameFault
 presence_from d = and_then (text_at (codes "status") d) status_from

@@ -2,11 +2,11 @@
 use Rattle.std.specs.Prelude.{◌≤◌, ℕ, List, [], ◌∷◌, length, map, Option, Some, None, option_map, codes, decimal}
 use Rattle.serde_json.specs.Data.{Data, null, boolean, number, unsigned, string, array, object, Members, no_members, member, put}
 use Rattle.serde_json.specs.View.{items_of}
+use Rattle.guild_model.specs.declared.presence.Status.{Status}
+use Rattle.guild_model.specs.Statuses.{status_name}
 use Rattle.gateway_frames.specs.declared.frame.Frame.{Frame}
 use Rattle.gateway_frames.specs.declared.frame.Frame.TheVariants as frame
 use Rattle.gateway_frames.specs.declared.frame.Identify.{Identify}
-use Rattle.gateway_frames.specs.declared.frame.Status.{Status}
-use Rattle.gateway_frames.specs.declared.frame.Status.TheVariants.{Online, Idle, Dnd, Invisible, Offline}
 use Rattle.gateway_frames.specs.declared.frame.VoiceAsk.{VoiceAsk}
 use Rattle.gateway_frames.specs.declared.frame.Resume.{Resume}
 use Rattle.gateway_frames.specs.declared.frame.Ask.{Ask}
@@ -52,13 +52,6 @@ identify_data i =
     ∷ (codes "properties", Some (object no_members)) ∷ (codes "shard", option_map pair_data i.shard) ∷ (codes "token", Some (string i.token)) ∷ [])
 
 -- ---- Update Presence
-
-abbrev pub status_name : Status → List ℕ
-status_name Online = codes "online"
-status_name Idle = codes "idle"
-status_name Dnd = codes "dnd"
-status_name Invisible = codes "invisible"
-status_name Offline = codes "offline"
 
 abbrev pub presence_data : Status → Data
 presence_data s = object (member (codes "status") (string (status_name s)) no_members)

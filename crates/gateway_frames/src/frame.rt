@@ -1,4 +1,5 @@
 use collections::{Seq, Text};
+use guild_model::Status;
 use snowflake_id::Snowflake;
 
 /// What a client sends (Gateway Events, Send Events).
@@ -29,16 +30,6 @@ pub struct Identify {
     pub large_threshold: Option<u64>,
     /// The shard's id and the number of shards.
     pub shard: Option<(u64, u64)>,
-}
-
-/// A status that a client may show (Gateway Events, Update Presence).
-#[derive(Clone, Copy, Debug, PartialEq, Eq)]
-pub enum Status {
-    Online,
-    Idle,
-    Dnd,
-    Invisible,
-    Offline,
 }
 
 /// A wish to join, to move or to leave (Gateway Events, Update Voice State).

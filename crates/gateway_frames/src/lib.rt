@@ -14,5 +14,6 @@ mod text;
 mod values;
 
 pub use fault::FrameFault;
-pub use frame::{Ask, Find, Frame, Identify, Resume, Status, VoiceAsk};
+pub use frame::{Ask, Find, Frame, Identify, Resume, VoiceAsk};
+pub use guild_model::Status;
 pub use out::Out;

@@ -47,22 +47,10 @@ pub fn identify_from(alloc: Global, object: &Value) -> Result<Identify, FrameFau
 fn status_from(text: &str) -> Result<Status, FrameFault>
     ensures { result ≡ status_from text.now }
 {
-    if text == "online" {
-        return Ok(Status::Online);
+    match Status::of_name(text) {
+        None => Err(FrameFault::BadShape),
+        Some(status) => Ok(status),
     }
-    if text == "idle" {
-        return Ok(Status::Idle);
-    }
-    if text == "dnd" {
-        return Ok(Status::Dnd);
-    }
-    if text == "invisible" {
-        return Ok(Status::Invisible);
-    }
-    if text == "offline" {
-        return Ok(Status::Offline);
-    }
-    Err(FrameFault::BadShape)
 }
 
 pub fn presence_from(object: &Value) -> Result<Status, FrameFault>

@@ -4,7 +4,7 @@ ghost use Rattle.std.specs.Prelude.{◌≡◌, IfOk, OnOk, option_map};
 ghost use Rattle.serde_json.specs.Data.{string};
 ghost use Rattle.serde_json.specs.View.{view, members_view};
 ghost use Rattle.gateway_frames.specs.Fits.{IdFits, IdsFit, ChannelFits, VoiceFits, FindFits, AskFits, FrameFits};
-ghost use Rattle.gateway_frames.specs.Written.{put_given, id_data, nullable_id_data, nullable_count, ids_data, pair_data, identify_data, status_name, presence_data, voice_data, resume_data, limit_in, query_in, users_in, ask_data, payload_data, frame_data};
+ghost use Rattle.gateway_frames.specs.Written.{put_given, id_data, nullable_id_data, nullable_count, ids_data, pair_data, identify_data, presence_data, voice_data, resume_data, limit_in, query_in, users_in, ask_data, payload_data, frame_data};
 
 use crate::{Ask, Find, Frame, Identify, Resume, Status, VoiceAsk};
 use collections::Text;
@@ -96,22 +96,10 @@ fn identify_value(alloc: Global, identify: &Identify) -> Result<Value, AllocErro
     Ok(Value::Object(members))
 }
 
-fn status_name(status: Status) -> &'static str
-    ensures { result.now ≡ status_name status }
-{
-    match status {
-        Status::Online => "online",
-        Status::Idle => "idle",
-        Status::Dnd => "dnd",
-        Status::Invisible => "invisible",
-        Status::Offline => "offline",
-    }
-}
-
 fn presence_value(alloc: Global, status: Status) -> Result<Value, AllocError>
     ensures { IfOk result (λ v. view v ≡ presence_data status) }
 {
-    json!(in alloc; {"status": status_name(status)})
+    json!(in alloc; {"status": status.name()})
 }
 
 fn channel_value(alloc: Global, channel: Option<Snowflake>) -> Result<Value, AllocError>

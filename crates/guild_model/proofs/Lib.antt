@@ -1,2 +1,4 @@
 pub mod Kept
+pub mod Numbers
+pub mod Statuses
 pub mod Tests

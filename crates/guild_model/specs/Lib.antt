@@ -1,5 +1,7 @@
 pub mod Heads
 pub mod Record
+pub mod Numbers
+pub mod Statuses
 pub mod Consistent
 pub mod Permissions
 pub mod Sight

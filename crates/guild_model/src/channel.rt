@@ -1,4 +1,5 @@
-ghost use Rattle.std.specs.Prelude.{◌≡◌, [], IfOk};
+ghost use Rattle.std.specs.Prelude.{◌≡◌, [], IfOk, Some};
+ghost use Rattle.guild_model.specs.Numbers.{channel_kind_number, channel_kind_numbered, overwrite_kind_number, overwrite_kind_numbered};
 
 use collections::{ById, Duplicate, Keyed, Text};
 use perm_bits::Perms;
@@ -16,11 +17,71 @@ pub enum ChannelKind {
     Forum,
 }
 
+impl ChannelKind {
+    /// The number of the type (Channels Resource, Channel Types).
+    #[tactic(auto, unfolding(crate::specs::Numbers::channel_kind_numbered))]
+    pub fn number(self) -> u64
+        ensures number { result ≡ channel_kind_number self }
+        ensures back { channel_kind_numbered result ≡ Some self }
+    {
+        match self {
+            ChannelKind::Text => 0,
+            ChannelKind::Voice => 2,
+            ChannelKind::Category => 4,
+            ChannelKind::Announcement => 5,
+            ChannelKind::Stage => 13,
+            ChannelKind::Forum => 15,
+        }
+    }
+
+    /// The type of a number, and nothing exactly where it is that of none.
+    #[tactic(auto, unfolding(crate::specs::Numbers::channel_kind_numbered))]
+    pub fn of_number(number: u64) -> Option<ChannelKind>
+        ensures { result ≡ channel_kind_numbered number }
+    {
+        match number {
+            0 => Some(ChannelKind::Text),
+            2 => Some(ChannelKind::Voice),
+            4 => Some(ChannelKind::Category),
+            5 => Some(ChannelKind::Announcement),
+            13 => Some(ChannelKind::Stage),
+            15 => Some(ChannelKind::Forum),
+            _ => None,
+        }
+    }
+}
+
 /// Whom an overwrite is of; as a number, 0 and 1 (Channels Resource, Overwrite Object).
 #[derive(Clone, Copy, PartialEq, Eq, Debug)]
 pub enum OverwriteKind {
     Role,
     Member,
+}
+
+impl OverwriteKind {
+    /// The number of the kind (Channels Resource, Overwrite Object).
+    #[tactic(auto, unfolding(crate::specs::Numbers::overwrite_kind_numbered))]
+    pub fn number(self) -> u64
+        ensures number { result ≡ overwrite_kind_number self }
+        ensures back { overwrite_kind_numbered result ≡ Some self }
+    {
+        match self {
+            OverwriteKind::Role => 0,
+            OverwriteKind::Member => 1,
+        }
+    }
+
+    /// The kind of a number, and nothing exactly where it is that of none.
+    #[tactic(auto, unfolding(crate::specs::Numbers::overwrite_kind_numbered))]
+    pub fn of_number(number: u64) -> Option<OverwriteKind>
+        ensures { result ≡ overwrite_kind_numbered number }
+    {
+        match number {
+            0 => Some(OverwriteKind::Role),
+            1 => Some(OverwriteKind::Member),
+            _ => None,
+        }
+    }
 }
 
 /// What a channel allows and denies to a role or a member (Channels Resource, Overwrite Object).

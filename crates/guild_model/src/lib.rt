@@ -22,7 +22,7 @@ pub use guild::Guild;
 pub use member::Member;
 pub use message::{MessageHead, MessageHeads};
 pub use moment::{BadMoment, Moment};
-pub use presence::{Activity, Presence};
+pub use presence::{Activity, Presence, Status};
 pub use role::Role;
 pub use thread::{Thread, ThreadKind, ThreadMember};
 pub use user::User;

@@ -1,4 +1,5 @@
-ghost use Rattle.std.specs.Prelude.{◌≡◌, IfOk};
+ghost use Rattle.std.specs.Prelude.{◌≡◌, IfOk, Some};
+ghost use Rattle.guild_model.specs.Numbers.{thread_kind_number, thread_kind_numbered};
 
 use crate::moment::Moment;
 use collections::{ById, Duplicate, Keyed, Text};
@@ -11,6 +12,34 @@ pub enum ThreadKind {
     Announcement,
     Public,
     Private,
+}
+
+impl ThreadKind {
+    /// The number of the type (Channels Resource, Channel Types).
+    #[tactic(auto, unfolding(crate::specs::Numbers::thread_kind_numbered))]
+    pub fn number(self) -> u64
+        ensures number { result ≡ thread_kind_number self }
+        ensures back { thread_kind_numbered result ≡ Some self }
+    {
+        match self {
+            ThreadKind::Announcement => 10,
+            ThreadKind::Public => 11,
+            ThreadKind::Private => 12,
+        }
+    }
+
+    /// The type of a number, and nothing exactly where it is that of none.
+    #[tactic(auto, unfolding(crate::specs::Numbers::thread_kind_numbered))]
+    pub fn of_number(number: u64) -> Option<ThreadKind>
+        ensures { result ≡ thread_kind_numbered number }
+    {
+        match number {
+            10 => Some(ThreadKind::Announcement),
+            11 => Some(ThreadKind::Public),
+            12 => Some(ThreadKind::Private),
+            _ => None,
+        }
+    }
 }
 
 /// A user in a thread, with the moment at which it joined (Channels Resource, Thread Member Object).

@@ -1,17 +1,11 @@
 -- Channels Resource, Thread Member Object; Threads, Thread Fields.
 use Rattle.std.specs.Prelude.{ℕ, codes, Bool, false, Option, option_map}
 use Rattle.serde_json.specs.Data.{Data, boolean, string, object, Members, member, no_members}
-use Rattle.guild_model.specs.declared.thread.ThreadKind.{ThreadKind}
-use Rattle.guild_model.specs.declared.thread.ThreadKind.TheVariants.{Announcement, Public, Private}
+use Rattle.guild_model.specs.Numbers.{thread_kind_number}
 use Rattle.dispatch_types.specs.declared.threads.ThreadMemberObject.{ThreadMemberObject}
 use Rattle.dispatch_types.specs.declared.threads.ThreadObject.{ThreadObject}
 use Rattle.dispatch_types.specs.declared.threads.JoinedThread.{JoinedThread}
 use Rattle.object_json.specs.Kinds.{digits, count, time, member_if, true_if}
-
-abbrev pub thread_number : ThreadKind → ℕ
-thread_number Announcement = 10
-thread_number Public = 11
-thread_number Private = 12
 
 abbrev pub thread_member_data : ThreadMemberObject → Data
 thread_member_data m =
@@ -43,7 +37,7 @@ thread_rest newly t =
     (member (codes "owner_id") (digits t.owner)
     (member (codes "parent_id") (digits t.parent)
     (member (codes "thread_metadata") (metadata_data t.archived)
-    (member (codes "type") (count (thread_number t.kind))
+    (member (codes "type") (count (thread_kind_number t.kind))
     no_members))))))
 
 abbrev pub thread_data : Option Data → Bool → ThreadObject → Data

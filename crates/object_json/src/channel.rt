@@ -1,6 +1,6 @@
-ghost use Rattle.std.specs.Prelude.{◌≡◌, codes};
+ghost use Rattle.std.specs.Prelude.{codes};
 ghost use Rattle.object_json.specs.Added.{AddsTokens, member_tokens};
-ghost use Rattle.object_json.specs.Channel.{channel_number, overwrite_number};
+ghost use Rattle.guild_model.specs.Numbers.{channel_kind_number, overwrite_kind_number};
 ghost use Rattle.object_json.specs.Kinds.{count};
 
 use crate::field::{
@@ -12,39 +12,17 @@ use guild_model::{ChannelKind, OverwriteKind};
 use json::Writer;
 use std::alloc::{AllocError, Global};
 
-fn overwrite_number(kind: OverwriteKind) -> u64
-    ensures { result ≡ overwrite_number kind }
-{
-    match kind {
-        OverwriteKind::Role => 0,
-        OverwriteKind::Member => 1,
-    }
-}
-
-fn channel_number(kind: ChannelKind) -> u64
-    ensures { result ≡ channel_number kind }
-{
-    match kind {
-        ChannelKind::Text => 0,
-        ChannelKind::Voice => 2,
-        ChannelKind::Category => 4,
-        ChannelKind::Announcement => 5,
-        ChannelKind::Stage => 13,
-        ChannelKind::Forum => 15,
-    }
-}
-
 fn overwrite_kind_field(out: &mut Writer, kind: OverwriteKind) -> Result<(), AllocError>
-    ensures { AddsTokens result out.old out.new (member_tokens (codes "type") (count (overwrite_number kind))) }
+    ensures { AddsTokens result out.old out.new (member_tokens (codes "type") (count (overwrite_kind_number kind))) }
 {
-    number_field(out, "type", overwrite_number(kind))?;
+    number_field(out, "type", kind.number())?;
     Ok(())
 }
 
 fn channel_kind_field(out: &mut Writer, kind: ChannelKind) -> Result<(), AllocError>
-    ensures { AddsTokens result out.old out.new (member_tokens (codes "type") (count (channel_number kind))) }
+    ensures { AddsTokens result out.old out.new (member_tokens (codes "type") (count (channel_kind_number kind))) }
 {
-    number_field(out, "type", channel_number(kind))?;
+    number_field(out, "type", kind.number())?;
     Ok(())
 }
 

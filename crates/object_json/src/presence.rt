@@ -1,32 +1,22 @@
-ghost use Rattle.std.specs.Prelude.{◌≡◌, codes};
+ghost use Rattle.std.specs.Prelude.{codes};
 ghost use Rattle.serde_json.specs.Data.{string};
 ghost use Rattle.object_json.specs.Added.{AddsTokens, member_tokens};
-ghost use Rattle.object_json.specs.Presence.{status_text, partial_user_data};
+ghost use Rattle.guild_model.specs.Statuses.{status_name, shown_status};
+ghost use Rattle.object_json.specs.Presence.{partial_user_data};
 
 use crate::field::{close, empty_field, id_field, key, open};
 use crate::written::Written;
 use dispatch_types::PresenceObject;
-use guild_model::Activity;
+use guild_model::{Activity, Status};
 use json::Writer;
 use snowflake_id::Snowflake;
 use std::alloc::{AllocError, Global};
 
-fn status_text(status: Option<Activity>) -> &'static str
-    ensures { result.now ≡ status_text status }
-{
-    match status {
-        Some(Activity::Online) => "online",
-        Some(Activity::Idle) => "idle",
-        Some(Activity::DoNotDisturb) => "dnd",
-        None => "offline",
-    }
-}
-
-fn status_field(out: &mut Writer, status: Option<Activity>) -> Result<(), AllocError>
-    ensures { AddsTokens result out.old out.new (member_tokens (codes "status") (string (status_text status))) }
+fn status_field(out: &mut Writer, activity: Option<Activity>) -> Result<(), AllocError>
+    ensures { AddsTokens result out.old out.new (member_tokens (codes "status") (string (status_name (shown_status activity)))) }
 {
     key(out, "status")?;
-    out.string(status_text(status))?;
+    out.string(Status::shown(activity).name())?;
     Ok(())
 }
 

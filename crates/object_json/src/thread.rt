@@ -1,8 +1,9 @@
-ghost use Rattle.std.specs.Prelude.{◌≡◌, ◌++◌, ◌∷◌, [], codes, option_map};
+ghost use Rattle.std.specs.Prelude.{◌++◌, ◌∷◌, [], codes, option_map};
 ghost use Rattle.json.specs.Token.{begin_object};
 ghost use Rattle.object_json.specs.Added.{Adds, AddsTokens, Ends, member_tokens, member_tokens_if};
 ghost use Rattle.object_json.specs.Kinds.{digits, count};
-ghost use Rattle.object_json.specs.Thread.{thread_number, thread_data, thread_rest, thread_member_data, joined_data, metadata_data};
+ghost use Rattle.guild_model.specs.Numbers.{thread_kind_number};
+ghost use Rattle.object_json.specs.Thread.{thread_data, thread_rest, thread_member_data, joined_data, metadata_data};
 
 use crate::field::{
     close, flag_field, id_field, key, number_field, open, small_field, text_field, time_field,
@@ -14,21 +15,11 @@ use guild_model::{Moment, ThreadKind};
 use json::Writer;
 use std::alloc::{AllocError, Global};
 
-fn thread_number(kind: ThreadKind) -> u64
-    ensures { result ≡ thread_number kind }
-{
-    match kind {
-        ThreadKind::Announcement => 10,
-        ThreadKind::Public => 11,
-        ThreadKind::Private => 12,
-    }
-}
-
 /// Writes a thread's type under its key.
 pub fn thread_kind_field(out: &mut Writer, kind: ThreadKind) -> Result<(), AllocError>
-    ensures { AddsTokens result out.old out.new (member_tokens (codes "type") (count (thread_number kind))) }
+    ensures { AddsTokens result out.old out.new (member_tokens (codes "type") (count (thread_kind_number kind))) }
 {
-    number_field(out, "type", thread_number(kind))?;
+    number_field(out, "type", kind.number())?;
     Ok(())
 }
 

@@ -12,7 +12,7 @@ use crate::fields::{
     flag_at, id_at, kind_at, mask_at, nullable_id_at, overwrite_kind_at, position_at, text_at,
 };
 use crate::members::{
-    channel_kind_number, overwrite_kind_number, put_flag, put_id, put_mask, put_nullable_id,
+    put_flag, put_id, put_mask, put_nullable_id,
     put_number, put_text,
 };
 use crate::names::ChannelEditName;
@@ -135,7 +135,7 @@ pub fn put(
             sync,
         } => {
             put_id(alloc, members, "channel", *channel)?;
-            put_number(alloc, members, "type", channel_kind_number(*kind))?;
+            put_number(alloc, members, "type", kind.number())?;
             put_text(alloc, members, "name", name)?;
             put_nullable_id(alloc, members, "parent", *parent)?;
             put_number(alloc, members, "position", u64::from(*position))?;
@@ -167,7 +167,7 @@ pub fn put(
         } => {
             put_id(alloc, members, "channel", *channel)?;
             put_id(alloc, members, "id", *id)?;
-            put_number(alloc, members, "type", overwrite_kind_number(*kind))?;
+            put_number(alloc, members, "type", kind.number())?;
             put_mask(alloc, members, "allow", *allow)?;
             put_mask(alloc, members, "deny", *deny)?;
             Ok(())
@@ -175,7 +175,7 @@ pub fn put(
         ChannelEdit::OverwriteDelete { channel, id, kind } => {
             put_id(alloc, members, "channel", *channel)?;
             put_id(alloc, members, "id", *id)?;
-            put_number(alloc, members, "type", overwrite_kind_number(*kind))?;
+            put_number(alloc, members, "type", kind.number())?;
             Ok(())
         }
     }

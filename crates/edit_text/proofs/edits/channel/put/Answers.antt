@@ -10,7 +10,7 @@ returns-in_ok-put_flag-in-ChannelCreate-clause-put c =
       c.in_ok-put_nullable_id-in-ChannelCreate.ensures.put,
       c.in_ok-put_text-in-ChannelCreate.ensures,
       c.in_ok-put_number-in-ChannelCreate.ensures,
-      c.channel_kind_number.ensures,
+      c.number.ensures.number,
       c.in_ok-put_id-in-ChannelCreate.ensures.put,
       c.in-ChannelCreate.is,
     ) refl
