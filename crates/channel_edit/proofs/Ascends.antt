@@ -15,8 +15,9 @@ use Rattle.guild_model.specs.declared.channel.OverwriteKind.TheVariants.{Role, M
 use Rattle.guild_model.specs.declared.thread.Thread.{Thread}
 use Rattle.guild_model.specs.Record.{Record, overwrite_id, channel_id, thread_id, thread_member_id, voice_id}
 use Rattle.guild_model.specs.Ascending.{IsAscending, HasOrderedOverwrites}
+use Rattle.guild_model.proofs.Recent.{recent_left}
 use Rattle.channel_edit.specs.Channels.{first_overwrites, overwrites_there, new_channel, channel_created, with_settings, with_channel_changed, channel_updated}
-use Rattle.channel_edit.specs.ChannelEnd.{orphaned, is_outside, speaks_outside, channel_deleted}
+use Rattle.channel_edit.specs.ChannelEnd.{orphaned, is_outside, speaks_outside, stands_outside, channel_deleted}
 use Rattle.channel_edit.specs.OverwriteEdits.{with_overwrite, overwrite_was_set, without_overwrite, overwrite_deleted}
 
 -- overwrites in the order of their ids
@@ -50,6 +51,7 @@ module _ (g : Record) (a : IsAscending g) where
         held = a.held;
         overwrites = All-put channel_id HasOrderedOverwrites n g.channels ordered a.overwrites;
         joined = a.joined;
+        messages = a.messages;
       }
 
   pub channel_changed : (at : ℕ) (f : Channel → Channel) → ((c : Channel) → channel_id (f c) ≡ channel_id c) → ((c : Channel) → HasOrderedOverwrites c → HasOrderedOverwrites (f c)) → IsAscending (with_channel_changed g at f)
@@ -63,6 +65,7 @@ module _ (g : Record) (a : IsAscending g) where
     held = a.held;
     overwrites = All-changed channel_id HasOrderedOverwrites at f g.channels keeps a.overwrites;
     joined = a.joined;
+    messages = a.messages;
   }
 
   pub updated : (channel : ℕ) (name : List ℕ) (parent : Option ℕ) (position : ℕ) → IsAscending (channel_updated g channel name parent position)
@@ -101,4 +104,5 @@ module _ (g : Record) (a : IsAscending g) where
             (All-weaker HasOrderedOverwrites (λ c. HasOrderedOverwrites (orphaned channel c)) (λ c o. record { roles = o.roles; members = o.members }) (filter others g.channels)
             (All-filter others HasOrderedOverwrites g.channels a.overwrites));
         joined = All-filter (is_outside channel) (λ (t : Thread). IsById thread_member_id t.members) g.threads a.joined;
+        messages = recent_left (stands_outside g.threads channel) g.messages a.messages;
       }

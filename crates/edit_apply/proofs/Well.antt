@@ -64,6 +64,7 @@ module _ (guild : ℕ) (name : List ℕ) (owner : ℕ) (owner_name : List ℕ) (
     held = All-cons (λ (m : Member). IsById own_id m.roles) first_member [] tt (All-nil _);
     overwrites = All-nil HasOrderedOverwrites;
     joined = All-nil (λ (t : Thread). IsById thread_member_id t.members);
+    messages = record { apart = tt; few = omega arith };
   }
 
 opened_well : (g : Record) (name : List ℕ) (owner : ℕ) (owner_name : List ℕ) (perms at : ℕ) → g.opened ≡ false → IsWell g → IsWell (guild_opened g name owner owner_name perms at)
@@ -92,6 +93,7 @@ same_lists g opened outage name owner a = record {
   held = a.held;
   overwrites = a.overwrites;
   joined = a.joined;
+  messages = a.messages;
 }
 
 guild_well : (g : Record) (edit : GuildEdit) → IsWell g → guild_verdict g edit ≡ None → IsWell (guild_applied g edit)
@@ -140,6 +142,7 @@ closed_well guild = record {
     held = All-nil (λ (m : Member). IsById own_id m.roles);
     overwrites = All-nil HasOrderedOverwrites;
     joined = All-nil (λ (t : Thread). IsById thread_member_id t.members);
+    messages = record { apart = tt; few = omega arith };
   };
   consistent = record {
     empty = λ _. refl;

@@ -1,14 +1,16 @@
 -- What holds between the lists of a record still holds where one list of it has changed.
 use Rattle.std.proofs.Common.{◌≡◌, ℕ, Bool, true, false, ◌||◌, List, Some, sym, ap, ◌∙◌}
-use Rattle.std.specs.Prelude.{◌==◌}
+use Rattle.std.specs.Prelude.{◌==◌, All}
 use Rattle.std.proofs.lemmas.List.Elements.{All-weaker}
 use Rattle.collections.specs.ById.{find_id, has_id, put_id}
 use Rattle.collections.proofs.Has.{has-kept}
 use Rattle.guild_model.specs.declared.role.Role.{Role}
 use Rattle.guild_model.specs.declared.member.Member.{Member}
 use Rattle.guild_model.specs.declared.channel.Channel.{Channel}
+use Rattle.guild_model.specs.declared.voice.Voice.{Voice}
+use Rattle.guild_model.specs.declared.presence.Presence.{Presence}
 use Rattle.guild_model.specs.declared.message.MessageHead.{MessageHead}
-use Rattle.guild_model.specs.Record.{Record, own_id, role_id, member_id, overwrite_id, channel_id, thread_id}
+use Rattle.guild_model.specs.Record.{Record, own_id, role_id, member_id, overwrite_id, channel_id, thread_id, voice_id, presence_id}
 use Rattle.guild_model.specs.Consistent.{IsConsistent, is_parent, is_place}
 
 module _ (g : Record) (is_open : g.opened ≡ true) (h : IsConsistent g) where
@@ -109,4 +111,55 @@ module _ (g : Record) (is_open : g.opened ≡ true) (h : IsConsistent g) where
     apart = λ id there. h.apart id (sym (same id) ∙ there);
     places = All-weaker (λ (m : MessageHead). is_place g m.place ≡ true) (λ (m : MessageHead). is_place (record g { channels = cs }) m.place ≡ true)
         (λ m there. ap (λ b. b || has_id thread_id m.place g.threads) (same m.place) ∙ there) g.messages h.places;
+  }
+
+  -- the voice states have changed: each is of a member, in a channel
+  pub voices_changed : (vs : List Voice) → ((user : ℕ) (v : Voice) → find_id voice_id user vs ≡ Some v → (has_id member_id user g.members ≡ true) × (has_id channel_id v.channel g.channels ≡ true))
+      → IsConsistent (record g { voices = vs })
+  voices_changed vs there = record {
+    empty = λ closed. absurd (cc (is_open, closed));
+    everyone = h.everyone;
+    owner = h.owner;
+    held = h.held;
+    overwritten = h.overwritten;
+    voices = there;
+    presences = h.presences;
+    parents = h.parents;
+    joined = h.joined;
+    apart = h.apart;
+    places = h.places;
+  }
+
+  -- the presences have changed: each is of a member
+  pub presences_changed : (ps : List Presence) → ((user : ℕ) → has_id presence_id user ps ≡ true → has_id member_id user g.members ≡ true)
+      → IsConsistent (record g { presences = ps })
+  presences_changed ps there = record {
+    empty = λ closed. absurd (cc (is_open, closed));
+    everyone = h.everyone;
+    owner = h.owner;
+    held = h.held;
+    overwritten = h.overwritten;
+    voices = h.voices;
+    presences = there;
+    parents = h.parents;
+    joined = h.joined;
+    apart = h.apart;
+    places = h.places;
+  }
+
+  -- the messages have changed: each stands in a channel or a thread
+  pub messages_changed : (ms : List MessageHead) → All (λ (m : MessageHead). is_place g m.place ≡ true) ms
+      → IsConsistent (record g { messages = ms })
+  messages_changed ms there = record {
+    empty = λ closed. absurd (cc (is_open, closed));
+    everyone = h.everyone;
+    owner = h.owner;
+    held = h.held;
+    overwritten = h.overwritten;
+    voices = h.voices;
+    presences = h.presences;
+    parents = h.parents;
+    joined = h.joined;
+    apart = h.apart;
+    places = there;
   }

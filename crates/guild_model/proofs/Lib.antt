@@ -1,4 +1,5 @@
 pub mod Kept
 pub mod Numbers
+pub mod Recent
 pub mod Statuses
 pub mod Tests

@@ -1,10 +1,11 @@
--- Each list of a record ascends by id, and no id stands twice in one.
+-- Each list of a record ascends by id, but messages stand in order of arrival; no id stands twice in one.
 use Rattle.std.specs.Prelude.{All}
 use Rattle.collections.specs.ById.{IsById}
 use Rattle.guild_model.specs.declared.member.Member.{Member}
 use Rattle.guild_model.specs.declared.channel.Channel.{Channel}
 use Rattle.guild_model.specs.declared.thread.Thread.{Thread}
 use Rattle.guild_model.specs.Record.{Record, own_id, role_id, member_id, overwrite_id, channel_id, thread_id, thread_member_id, voice_id, presence_id}
+use Rattle.guild_model.specs.Heads.{AreRecent}
 use Rattle.guild_model.specs.Consistent.{IsConsistent}
 
 pub record HasOrderedOverwrites (c : Channel) : Type 0 where
@@ -21,6 +22,7 @@ pub record IsAscending (g : Record) : Type 0 where
   pub held : All (λ (m : Member). IsById own_id m.roles) g.members
   pub overwrites : All HasOrderedOverwrites g.channels
   pub joined : All (λ (t : Thread). IsById thread_member_id t.members) g.threads
+  pub messages : AreRecent g.messages
 
 -- what holds of every record that edits make
 pub record IsWell (g : Record) : Type 0 where

@@ -3,7 +3,8 @@ use Rattle.std.specs.Prelude.{ℕ, nat_lt, length, List, [], ◌∷◌, Bool, no
 use Rattle.std.specs.Option.{option_or}
 use Rattle.collections.specs.ById.{has_id}
 use Rattle.guild_model.specs.declared.verdict.Verdict.{Verdict}
-use Rattle.guild_model.specs.declared.verdict.Verdict.TheVariants.{UnknownRole, UnknownMember, UnknownChannel, TooMany, TooLong}
+use Rattle.guild_model.specs.declared.verdict.Verdict.TheVariants.{UnknownRole, UnknownMember, UnknownChannel, UnknownMessage, TooMany, TooLong}
+use Rattle.guild_model.specs.Heads.{has_head}
 use Rattle.guild_model.specs.Record.{Record, role_id, member_id, channel_id}
 
 -- a test that refuses
@@ -36,3 +37,6 @@ unknown_member g user = refused_if (not (has_id member_id user g.members)) Unkno
 
 abbrev pub unknown_channel : Record → ℕ → Option Verdict
 unknown_channel g channel = refused_if (not (has_id channel_id channel g.channels)) UnknownChannel
+
+abbrev pub unknown_message : Record → ℕ → Option Verdict
+unknown_message g message = refused_if (not (has_head message g.messages)) UnknownMessage

@@ -17,3 +17,24 @@ pub const NAME_BYTES: u32 = 100;
 
 /// Bytes of a member's nickname.
 pub const NICK_BYTES: u32 = 32;
+
+/// Messages of a guild that are kept: the latest.
+pub const MESSAGES: u32 = 16_384;
+
+/// Bytes of the content of a message.
+pub const CONTENT_BYTES: u32 = 2000;
+
+/// Bytes of the name of an emoji.
+pub const EMOJI_BYTES: u32 = 32;
+
+/// Users that a message mentions.
+pub const MENTIONS: u32 = 100;
+
+/// Embeds, attachments or components of a message, of each at most so many.
+pub const PARTS: u8 = 10;
+
+/// Threads of a guild that are not archived.
+pub const ACTIVE_THREADS: u32 = 1000;
+
+/// Threads of a guild, archived ones too.
+pub const THREADS: u32 = 4096;

@@ -1,7 +1,7 @@
 //! Tests that several edits share; an edit calls its tests in order and stops at the first refusal.
 
 ghost use Rattle.std.specs.Prelude.{◌≡◌};
-ghost use Rattle.guild_model.specs.Tests.{outcome, too_long, too_many, unknown_role, unknown_member, unknown_channel};
+ghost use Rattle.guild_model.specs.Tests.{outcome, too_long, too_many, unknown_role, unknown_member, unknown_channel, unknown_message};
 
 use crate::guild::Guild;
 use crate::verdict::Verdict;
@@ -54,6 +54,16 @@ pub fn knows_channel(guild: &Guild, channel: Snowflake) -> Result<(), Verdict>
 {
     if !guild.channels.contains(channel.0) {
         return Err(Verdict::UnknownChannel);
+    }
+    Ok(())
+}
+
+/// Refuses a message that is not kept.
+pub fn knows_message(guild: &Guild, message: Snowflake) -> Result<(), Verdict>
+    ensures { result ≡ outcome (unknown_message guild.now message) }
+{
+    if !guild.messages.contains(message) {
+        return Err(Verdict::UnknownMessage);
     }
     Ok(())
 }

@@ -38,6 +38,7 @@ module _ (g : Record) (a : IsAscending g) where
     held = a.held;
     overwrites = a.overwrites;
     joined = a.joined;
+    messages = a.messages;
   }
 
   ordered_left : (role : ℕ) (c : Channel) → HasOrderedOverwrites c → HasOrderedOverwrites (without_role_overwrite role c)
@@ -56,6 +57,7 @@ module _ (g : Record) (a : IsAscending g) where
     overwrites = All-map HasOrderedOverwrites (without_role_overwrite role) g.channels
         (All-weaker HasOrderedOverwrites (λ c. HasOrderedOverwrites (without_role_overwrite role c)) (ordered_left role) g.channels a.overwrites);
     joined = a.joined;
+    messages = a.messages;
   }
 
   pub added : (user : ℕ) (name : List ℕ) (bot : Bool) (at : ℕ) → IsAscending (member_added g user name bot at)
@@ -69,6 +71,7 @@ module _ (g : Record) (a : IsAscending g) where
     held = All-put member_id HoldsInOrder (new_member user name bot at) g.members tt a.held;
     overwrites = a.overwrites;
     joined = a.joined;
+    messages = a.messages;
   }
 
   pub member_gone : (user : ℕ) → IsAscending (member_removed g user)
@@ -83,6 +86,7 @@ module _ (g : Record) (a : IsAscending g) where
     overwrites = a.overwrites;
     joined = All-map HasInOrder (without_user user) g.threads
         (All-weaker HasInOrder (λ t. HasInOrder (without_user user t)) (λ t h. IsById-without thread_member_id user t.members h) g.threads a.joined);
+    messages = a.messages;
   }
 
   pub member_changed : (at : ℕ) (f : Member → Member) → ((m : Member) → member_id (f m) ≡ member_id m) → ((m : Member) → HoldsInOrder m → HoldsInOrder (f m)) → IsAscending (with_member_changed g at f)
@@ -96,6 +100,7 @@ module _ (g : Record) (a : IsAscending g) where
     held = All-changed member_id HoldsInOrder at f g.members keeps a.held;
     overwrites = a.overwrites;
     joined = a.joined;
+    messages = a.messages;
   }
 
   pub nicked : (user : ℕ) (nick : Option (List ℕ)) → IsAscending (with_member_changed g user (with_nick nick))
