@@ -1,0 +1,58 @@
+-- A record in which the lists hold together stays so under each edit of messages.
+use Rattle.std.proofs.Common.{◌≡◌, ℕ, Bool, true, false, not, ◌∷◌, [], List, drop, Option, Some, None, if◌then◌else◌, refl, length}
+use Rattle.std.specs.Prelude.{◌==◌, All, nat_lt, is_some}
+use Rattle.std.proofs.lemmas.List.Elements.{All-push, All-drop, All-filter}
+use Rattle.collections.proofs.Has.{All-changed}
+use Rattle.guild_model.specs.declared.message.MessageHead.{MessageHead}
+use Rattle.guild_model.specs.declared.verdict.Verdict.TheVariants.{IdTaken, UnknownChannel}
+use Rattle.guild_model.specs.Record.{Record}
+use Rattle.guild_model.specs.Heads.{head_id, find_head, has_head, arrived, with_mentions}
+use Rattle.guild_model.specs.Consistent.{IsConsistent, is_place}
+use Rattle.guild_model.specs.Tests.{refused_if, unknown_member, too_long}
+use Rattle.guild_model.proofs.Tests.{first_passes, not_refused}
+use Rattle.guild_model.proofs.Kept.{messages_changed}
+use Rattle.message_edit.specs.declared.body.MessageBody.{MessageBody}
+use Rattle.message_edit.specs.Places.{unknown_place, wrong_place, archived_place, no_place, unknown_mention}
+use Rattle.message_edit.specs.Messages.{taken, message_create_verdict, with_head, message_updated, message_deleted}
+
+is_true : (b : Bool) → not b ≡ false → b ≡ true
+is_true true e = refl
+is_true false e = absurd (cc)
+
+is_none : {T : Type 0} (o : Option T) → is_some o ≡ false → o ≡ None
+is_none None e = refl
+is_none (Some x) e = absurd (cc)
+
+-- what the tests let through
+place_there : (g : Record) (place : ℕ) → no_place g place ≡ None → is_place g place ≡ true
+place_there g place e =
+    is_true (is_place g place) (not_refused (not (is_place g place)) UnknownChannel (first_passes (unknown_place g place) (wrong_place g place ∷ archived_place g place ∷ []) e).0)
+
+pub may_come : (g : Record) (message place author : ℕ) (body : MessageBody) → message_create_verdict g message place author body ≡ None
+    → (find_head message g.messages ≡ None) × (is_place g place ≡ true)
+may_come g message place author body e =
+    let long = too_long 2000 body.content in
+    let mention = unknown_mention g body.mentions in
+    let first = first_passes (no_place g place) (unknown_member g author ∷ mention ∷ taken g message ∷ long ∷ []) e in
+    let second = first_passes (unknown_member g author) (mention ∷ taken g message ∷ long ∷ []) first.1 in
+    let third = first_passes mention (taken g message ∷ long ∷ []) second.1 in
+    let free = not_refused (has_head message g.messages) IdTaken (first_passes (taken g message) (long ∷ []) third.1).0 in
+    (is_none (find_head message g.messages) free, place_there g place first.0)
+
+module _ (g : Record) (is_open : g.opened ≡ true) (h : IsConsistent g) where
+  abbrev Stands : MessageHead → Type 0
+  Stands m = is_place g m.place ≡ true
+
+  all_if : (b : Bool) (heads : List MessageHead) → All Stands heads → All Stands (if b then heads else drop 1 heads)
+  all_if true heads all = all
+  all_if false heads all = All-drop Stands 1 heads all
+
+  pub head_came : (head : MessageHead) → is_place g head.place ≡ true → IsConsistent (with_head g head)
+  head_came head there =
+      messages_changed g is_open h (arrived head g.messages) (All-push Stands _ head (all_if (nat_lt (length g.messages) 16384) g.messages h.places) there)
+
+  pub updated : (message : ℕ) (mentions : List ℕ) → IsConsistent (message_updated g message mentions)
+  updated message mentions = messages_changed g is_open h _ (All-changed head_id Stands message (with_mentions mentions) g.messages (λ m there. there) h.places)
+
+  pub deleted : (message : ℕ) → IsConsistent (message_deleted g message)
+  deleted message = messages_changed g is_open h _ (All-filter (λ m. not (head_id m == message)) Stands g.messages h.places)

@@ -1,0 +1,32 @@
+ghost use Rattle.std.specs.Prelude.{◌≡◌, IfOk};
+
+use collections::{Seq, Text};
+use snowflake_id::Snowflake;
+use std::alloc::{AllocError, Global};
+
+/// What a message says (Message Resource, Message Object). Of its embeds, attachments and components
+/// the numbers are kept.
+#[derive(Drop)]
+pub struct MessageBody {
+    pub content: Text,
+    /// The mentioned users, in the order of the message; one may stand twice.
+    pub mentions: Seq<Snowflake>,
+    pub embeds: u8,
+    pub attachments: u8,
+    pub components: u8,
+}
+
+impl MessageBody {
+    /// A body that is equal to this.
+    pub fn copy(&self, alloc: Global) -> Result<MessageBody, AllocError>
+        ensures { IfOk result (λ copy. copy ≡ self.now) }
+    {
+        Ok(MessageBody {
+            content: self.content.copy(alloc)?,
+            mentions: self.mentions.copy(alloc)?,
+            embeds: self.embeds,
+            attachments: self.attachments,
+            components: self.components,
+        })
+    }
+}

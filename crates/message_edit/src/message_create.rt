@@ -1,0 +1,86 @@
+//! `message_create`: a message comes; the oldest kept one goes where there is no room for it (Gateway
+//! Events, Message Create).
+
+ghost use Rattle.std.specs.Prelude.{◌≡◌, None, true, OnOk, OnErr, IfOk, option_map};
+ghost use Rattle.collections.specs.ById.{find_id};
+ghost use Rattle.guild_model.specs.Tests.{outcome};
+ghost use Rattle.guild_model.specs.Record.{member_id};
+ghost use Rattle.guild_model.specs.Consistent.{is_place};
+ghost use Rattle.guild_model.specs.Heads.{find_head};
+ghost use Rattle.message_edit.specs.Messages.{message_create_verdict, member_user, with_head, message_created};
+
+use crate::body::MessageBody;
+use crate::place::{knows_mentioned, takes_words};
+use collections::Duplicate;
+use guild_model::{Guild, MessageHead, User, Verdict, limits, rules};
+use snowflake_id::Snowflake;
+use std::alloc::{AllocError, Global};
+
+/// Refused in this order: `UnknownChannel`, `WrongType` and `Archived` for the place, `UnknownMember`
+/// for the author, then for a mentioned user, `IdTaken` where a kept message has the id, `TooLong`.
+pub fn check(
+    guild: &Guild,
+    message: Snowflake,
+    place: Snowflake,
+    author: Snowflake,
+    body: &MessageBody,
+) -> Result<(), Verdict>
+    ensures { result ≡ outcome (message_create_verdict guild.now message place author body.now) }
+{
+    takes_words(guild, place)?;
+    rules::knows_member(guild, author)?;
+    knows_mentioned(guild, body.mentions.as_slice())?;
+    if guild.messages.contains(message) {
+        return Err(Verdict::IdTaken);
+    }
+    rules::within(&body.content, limits::CONTENT_BYTES)
+}
+
+fn author_of(alloc: Global, guild: &Guild, author: Snowflake) -> Result<Option<User>, AllocError>
+    ensures { IfOk result (λ user. user ≡ option_map member_user (find_id member_id author guild.now.members)) }
+{
+    match guild.members.get(author.0) {
+        Some(member) => Ok(Some(member.user.duplicate(alloc)?)),
+        None => Ok(None),
+    }
+}
+
+fn keep(guild: &mut Guild, head: MessageHead) -> Result<(), AllocError>
+    requires open { guild.old.opened ≡ true }
+    requires free { find_head head.id guild.old.messages ≡ None }
+    requires place { is_place guild.old head.place ≡ true }
+    ensures ok { OnOk result (guild.new ≡ with_head guild.old head) }
+    ensures err { OnErr result (guild.new ≡ guild.old) }
+{
+    guild.messages.push(head)?;
+    Ok(())
+}
+
+/// Keeps the message as the newest, with its author as the member is. Want of memory leaves the
+/// record as before.
+pub fn apply(
+    alloc: Global,
+    guild: &mut Guild,
+    message: Snowflake,
+    place: Snowflake,
+    author: Snowflake,
+    body: MessageBody,
+) -> Result<(), AllocError>
+    requires open { guild.old.opened ≡ true }
+    requires accepted { message_create_verdict guild.old message place author body ≡ None }
+    ensures ok { OnOk result (guild.new ≡ message_created guild.old message place author body.mentions) }
+    ensures err { OnErr result (guild.new ≡ guild.old) }
+{
+    match author_of(alloc, guild, author)? {
+        Some(author) => keep(
+            guild,
+            MessageHead {
+                id: message,
+                place,
+                author,
+                mentions: body.mentions,
+            },
+        ),
+        None => Ok(()),
+    }
+}

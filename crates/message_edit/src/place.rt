@@ -1,0 +1,81 @@
+//! Where messages stand, and whom they mention: the tests that the edits of messages share.
+
+ghost use Rattle.std.specs.Prelude.{◌≡◌};
+ghost use Rattle.std.specs.List.{list_all};
+ghost use Rattle.collections.specs.ById.{find_id, has_id};
+ghost use Rattle.guild_model.specs.Tests.{outcome};
+ghost use Rattle.guild_model.specs.Consistent.{is_place};
+ghost use Rattle.guild_model.specs.Record.{member_id, channel_id, thread_id};
+ghost use Rattle.message_edit.specs.Places.{takes_messages, is_wordless, is_archived, unknown_place, wrong_place, archived_place, no_place, unknown_mention};
+
+use guild_model::{ChannelKind, Guild, Verdict};
+use snowflake_id::Snowflake;
+
+fn for_messages(kind: ChannelKind) -> bool
+    ensures { result ≡ takes_messages kind }
+{
+    match kind {
+        ChannelKind::Category | ChannelKind::Forum => false,
+        ChannelKind::Text
+        | ChannelKind::Voice
+        | ChannelKind::Announcement
+        | ChannelKind::Stage => true,
+    }
+}
+
+fn wordless(guild: &Guild, place: Snowflake) -> bool
+    ensures { result ≡ is_wordless (find_id channel_id place guild.now.channels) }
+{
+    match guild.channels.get(place.0) {
+        Some(channel) => !for_messages(channel.kind),
+        None => false,
+    }
+}
+
+fn archived(guild: &Guild, place: Snowflake) -> bool
+    ensures { result ≡ is_archived (find_id thread_id place guild.now.threads) }
+{
+    match guild.threads.get(place.0) {
+        Some(thread) => thread.archived,
+        None => false,
+    }
+}
+
+fn has_place(guild: &Guild, place: Snowflake) -> bool
+    ensures { result ≡ is_place guild.now place }
+{
+    guild.channels.contains(place.0) || guild.threads.contains(place.0)
+}
+
+/// Refused in this order: `UnknownChannel` where the place is neither a channel nor a thread,
+/// `WrongType` where it is a category or a forum, `Archived` where it is an archived thread.
+pub fn takes_words(guild: &Guild, place: Snowflake) -> Result<(), Verdict>
+    ensures { result ≡ outcome (no_place guild.now place) }
+{
+    if !has_place(guild, place) {
+        return Err(Verdict::UnknownChannel);
+    }
+    if wordless(guild, place) {
+        return Err(Verdict::WrongType);
+    }
+    if archived(guild, place) {
+        return Err(Verdict::Archived);
+    }
+    Ok(())
+}
+
+fn all_members(guild: &Guild, users: &[Snowflake]) -> bool
+    ensures { result ≡ list_all (λ user. has_id member_id user guild.now.members) users.now }
+{
+    users.iter().all(|user| guild.members.contains(user.0))
+}
+
+/// Refuses mentions of users of whom one is no member.
+pub fn knows_mentioned(guild: &Guild, mentions: &[Snowflake]) -> Result<(), Verdict>
+    ensures { result ≡ outcome (unknown_mention guild.now mentions.now) }
+{
+    if !all_members(guild, mentions) {
+        return Err(Verdict::UnknownMember);
+    }
+    Ok(())
+}

@@ -1,0 +1,50 @@
+-- The lists of a record still ascend after each edit of voice states and presences.
+use Rattle.std.proofs.Common.{ℕ, Bool, not, List, Option, Some, None}
+use Rattle.std.specs.Prelude.{◌==◌}
+use Rattle.collections.specs.ById.{IsById}
+use Rattle.collections.proofs.Ids.{IsById-put}
+use Rattle.collections.proofs.Finds.{IsById-filter}
+use Rattle.guild_model.specs.declared.presence.Activity.{Activity}
+use Rattle.guild_model.specs.declared.presence.Presence.{Presence}
+use Rattle.guild_model.specs.declared.voice.Voice.{Voice}
+use Rattle.guild_model.specs.Record.{Record, voice_id, presence_id}
+use Rattle.guild_model.specs.Ascending.{IsAscending}
+use Rattle.voice_presence.specs.Voices.{new_voice, voice_was_set}
+use Rattle.voice_presence.specs.Presences.{new_presence, with_activity}
+
+module _ (g : Record) (a : IsAscending g) where
+  with_voices : (vs : List Voice) → IsById voice_id vs → IsAscending (record g { voices = vs })
+  with_voices vs ascend = record {
+    roles = a.roles;
+    members = a.members;
+    channels = a.channels;
+    threads = a.threads;
+    voices = ascend;
+    presences = a.presences;
+    held = a.held;
+    overwrites = a.overwrites;
+    joined = a.joined;
+    messages = a.messages;
+  }
+
+  with_presences : (ps : List Presence) → IsById presence_id ps → IsAscending (record g { presences = ps })
+  with_presences ps ascend = record {
+    roles = a.roles;
+    members = a.members;
+    channels = a.channels;
+    threads = a.threads;
+    voices = a.voices;
+    presences = ascend;
+    held = a.held;
+    overwrites = a.overwrites;
+    joined = a.joined;
+    messages = a.messages;
+  }
+
+  pub voice_set : (user : ℕ) (channel : Option ℕ) (mute deaf : Bool) → IsAscending (voice_was_set g user channel mute deaf)
+  voice_set user None mute deaf = with_voices _ (IsById-filter voice_id (λ v. not (voice_id v == user)) g.voices a.voices)
+  voice_set user (Some channel) mute deaf = with_voices _ (IsById-put voice_id (new_voice user channel mute deaf) g.voices a.voices)
+
+  pub presence_set : (user : ℕ) (activity : Option Activity) → IsAscending (with_activity g user activity)
+  presence_set user None = with_presences _ (IsById-filter presence_id (λ p. not (presence_id p == user)) g.presences a.presences)
+  presence_set user (Some activity) = with_presences _ (IsById-put presence_id (new_presence user activity) g.presences a.presences)

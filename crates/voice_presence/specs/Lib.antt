@@ -1,0 +1,3 @@
+pub mod Voices
+pub mod Presences
+pub mod VoicePresence
