@@ -1,14 +1,16 @@
 -- A record in which the lists hold together stays so under each edit of messages.
-use Rattle.std.proofs.Common.{◌≡◌, ℕ, Bool, true, false, not, ◌∷◌, [], List, drop, Option, Some, None, if◌then◌else◌, refl, length}
+use Rattle.std.proofs.Common.{◌≡◌, ℕ, Bool, true, false, not, ◌∷◌, [], List, drop, Option, Some, None, Err, if◌then◌else◌, refl, length}
 use Rattle.std.specs.Prelude.{◌==◌, All, nat_lt, is_some}
+use Rattle.std.specs.Option.{option_or}
 use Rattle.std.proofs.lemmas.List.Elements.{All-push, All-drop, All-filter}
 use Rattle.collections.proofs.Has.{All-changed}
 use Rattle.guild_model.specs.declared.message.MessageHead.{MessageHead}
+use Rattle.guild_model.specs.declared.verdict.Verdict.{Verdict}
 use Rattle.guild_model.specs.declared.verdict.Verdict.TheVariants.{IdTaken, UnknownChannel}
 use Rattle.guild_model.specs.Record.{Record}
 use Rattle.guild_model.specs.Heads.{head_id, find_head, has_head, arrived, with_mentions}
 use Rattle.guild_model.specs.Consistent.{IsConsistent, is_place}
-use Rattle.guild_model.specs.Tests.{refused_if, unknown_member, too_long}
+use Rattle.guild_model.specs.Tests.{outcome, refused_if, unknown_member, too_long}
 use Rattle.guild_model.proofs.Tests.{first_passes, not_refused}
 use Rattle.guild_model.proofs.Kept.{messages_changed}
 use Rattle.message_edit.specs.declared.body.MessageBody.{MessageBody}
@@ -22,6 +24,11 @@ is_true false e = absurd (cc)
 is_none : {T : Type 0} (o : Option T) → is_some o ≡ false → o ≡ None
 is_none None e = refl
 is_none (Some x) e = absurd (cc)
+
+-- the first test that fails decides
+pub stopped : (test later : Option Verdict) (v : Verdict) → outcome test ≡ Err v → outcome (option_or test later) ≡ Err v
+stopped None later v e = absurd (cc)
+stopped (Some w) later v e = e
 
 -- what the tests let through
 place_there : (g : Record) (place : ℕ) → no_place g place ≡ None → is_place g place ≡ true

@@ -16,10 +16,8 @@ fn for_messages(kind: ChannelKind) -> bool
 {
     match kind {
         ChannelKind::Category | ChannelKind::Forum => false,
-        ChannelKind::Text
-        | ChannelKind::Voice
-        | ChannelKind::Announcement
-        | ChannelKind::Stage => true,
+        ChannelKind::Text | ChannelKind::Voice | ChannelKind::Announcement | ChannelKind::Stage =>
+            true,
     }
 }
 

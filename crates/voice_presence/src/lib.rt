@@ -7,8 +7,6 @@ ghost use Rattle.guild_model.specs.Tests.{outcome};
 ghost use Rattle.voice_presence.specs.VoicePresence.{voice_presence_verdict, voice_presence_applied};
 
 pub mod presence_set;
-
-
 pub mod voice_set;
 
 use guild_model::{Guild, Status, Verdict};
