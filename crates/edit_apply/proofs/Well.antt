@@ -18,9 +18,13 @@ use Rattle.role_member_edit.specs.Members.{new_member}
 use Rattle.role_member_edit.proofs.Well.{well as role_member_well}
 use Rattle.channel_edit.specs.ChannelEdits.{channel_verdict}
 use Rattle.channel_edit.proofs.Well.{well as channel_well}
+use Rattle.voice_presence.specs.VoicePresence.{voice_presence_verdict}
+use Rattle.voice_presence.proofs.Well.{well as voice_presence_well}
+use Rattle.message_edit.specs.MessageEdits.{message_verdict}
+use Rattle.message_edit.proofs.Well.{well as message_well}
 use Rattle.role_member_edit.specs.RoleMember.{role_member_verdict}
 use Rattle.edit_apply.specs.declared.Edit.{Edit}
-use Rattle.edit_apply.specs.declared.Edit.TheVariants.{Guild, RoleMember, Channel}
+use Rattle.edit_apply.specs.declared.Edit.TheVariants.{Guild, RoleMember, Channel, VoicePresence, Message}
 use Rattle.edit_apply.specs.declared.guild.GuildEdit.{GuildEdit}
 use Rattle.edit_apply.specs.declared.guild.GuildEdit.TheVariants.{GuildOpen, GuildRename, GuildOwner, GuildOutage, GuildBack}
 use Rattle.edit_apply.specs.Guilds.{out_of_service, guild_opened, guild_verdict, guild_applied}
@@ -125,6 +129,14 @@ accepted_well g (Channel edit) w e =
     let tests = channel_verdict g edit ∷ [] in
     let rest = first_passes (channel_verdict g edit) [] (first_passes (out_of_service g) tests e).1 in
     channel_well g edit (in_service_open g tests e) w rest.0
+accepted_well g (VoicePresence edit) w e =
+    let tests = voice_presence_verdict g edit ∷ [] in
+    let rest = first_passes (voice_presence_verdict g edit) [] (first_passes (out_of_service g) tests e).1 in
+    voice_presence_well g edit (in_service_open g tests e) w rest.0
+accepted_well g (Message edit) w e =
+    let tests = message_verdict g edit ∷ [] in
+    let rest = first_passes (message_verdict g edit) [] (first_passes (out_of_service g) tests e).1 in
+    message_well g edit (in_service_open g tests e) w rest.0
 
 by_verdict : (g : Record) (edit : Edit) → IsWell g → (v : Option Verdict) → verdict g edit ≡ v → IsWell (after_verdict v g edit)
 by_verdict g edit w None e = accepted_well g edit w e

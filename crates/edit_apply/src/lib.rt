@@ -7,14 +7,18 @@ ghost use Rattle.edit_apply.specs.Edits.{verdict, applied, after, KeepsWell, Sta
 ghost use Rattle.edit_apply.specs.Guilds.{out_of_service};
 ghost use Rattle.role_member_edit.specs.RoleMember.{role_member_verdict};
 ghost use Rattle.channel_edit.specs.ChannelEdits.{channel_verdict};
+ghost use Rattle.voice_presence.specs.VoicePresence.{voice_presence_verdict};
+ghost use Rattle.message_edit.specs.MessageEdits.{message_verdict};
 
 pub mod guild;
 
 pub use channel_edit::ChannelEdit;
 pub use guild::GuildEdit;
 use guild_model::{Guild, Verdict};
+pub use message_edit::{MessageBody, MessageEdit};
 pub use role_member_edit::RoleMemberEdit;
 use std::alloc::{AllocError, Global};
+pub use voice_presence::VoicePresenceEdit;
 
 /// An edit of a guild.
 #[derive(Drop)]
@@ -25,6 +29,10 @@ pub enum Edit {
     RoleMember(RoleMemberEdit),
     /// Of its channels and their overwrites.
     Channel(ChannelEdit),
+    /// Of its voice states and presences.
+    VoicePresence(VoicePresenceEdit),
+    /// Of its messages, reactions to them, and who types.
+    Message(MessageEdit),
 }
 
 impl Edit {
@@ -36,6 +44,8 @@ impl Edit {
             Edit::Guild(edit) => Ok(Edit::Guild(edit.copy(alloc)?)),
             Edit::RoleMember(edit) => Ok(Edit::RoleMember(edit.copy(alloc)?)),
             Edit::Channel(edit) => Ok(Edit::Channel(edit.copy(alloc)?)),
+            Edit::VoicePresence(edit) => Ok(Edit::VoicePresence(*edit)),
+            Edit::Message(edit) => Ok(Edit::Message(edit.copy(alloc)?)),
         }
     }
 }
@@ -67,6 +77,20 @@ fn judge_channel(guild: &Guild, edit: &ChannelEdit) -> Result<(), Verdict>
     channel_edit::check(guild, edit)
 }
 
+fn judge_voice_presence(guild: &Guild, edit: &VoicePresenceEdit) -> Result<(), Verdict>
+    ensures { result ≡ outcome (first_of (out_of_service guild.now ∷ voice_presence_verdict guild.now edit.now ∷ [])) }
+{
+    in_service(guild)?;
+    voice_presence::check(guild, edit)
+}
+
+fn judge_message(guild: &Guild, edit: &MessageEdit) -> Result<(), Verdict>
+    ensures { result ≡ outcome (first_of (out_of_service guild.now ∷ message_verdict guild.now edit.now ∷ [])) }
+{
+    in_service(guild)?;
+    message_edit::check(guild, edit)
+}
+
 /// Why an edit is refused: the first of its tests that fails. Takes no memory.
 pub fn judge(guild: &Guild, edit: &Edit) -> Result<(), Verdict>
     ensures { result ≡ outcome (verdict guild.now edit.now) }
@@ -75,6 +99,8 @@ pub fn judge(guild: &Guild, edit: &Edit) -> Result<(), Verdict>
         Edit::Guild(edit) => guild::check(guild, edit),
         Edit::RoleMember(edit) => judge_role_member(guild, edit),
         Edit::Channel(edit) => judge_channel(guild, edit),
+        Edit::VoicePresence(edit) => judge_voice_presence(guild, edit),
+        Edit::Message(edit) => judge_message(guild, edit),
     }
 }
 
@@ -87,6 +113,8 @@ fn make(alloc: Global, guild: &mut Guild, edit: Edit) -> Result<(), AllocError>
         Edit::Guild(edit) => guild::apply(alloc, guild, edit),
         Edit::RoleMember(edit) => role_member_edit::apply(alloc, guild, edit),
         Edit::Channel(edit) => channel_edit::apply(alloc, guild, edit),
+        Edit::VoicePresence(edit) => voice_presence::apply(guild, edit),
+        Edit::Message(edit) => message_edit::apply(alloc, guild, edit),
     }
 }
 

@@ -1,10 +1,14 @@
 -- The laws of what an edit owes.
 use Rattle.std.proofs.Common.{◌≡◌, ℕ, Bool, true, false, List, [], ◌∷◌, Option, Some, None, if◌then◌else◌, refl, sym, ap, subst, ◌∙◌}
-use Rattle.std.specs.Prelude.{◌==◌, All}
+use Rattle.std.specs.Prelude.{◌==◌, All, option_map}
 use Rattle.std.proofs.lemmas.List.Elements.{All-nil, All-cons}
+use Rattle.collections.specs.ById.{find_id}
 use Rattle.intent_set.specs.Asks.{asks}
 use Rattle.guild_model.specs.declared.member.Member.{Member}
-use Rattle.guild_model.specs.Record.{Record}
+use Rattle.guild_model.specs.declared.presence.Activity.{Activity}
+use Rattle.guild_model.specs.declared.user.User.{User}
+use Rattle.guild_model.specs.Record.{Record, member_id}
+use Rattle.guild_model.specs.Statuses.{status_activity}
 use Rattle.dispatch_types.specs.declared.viewer.Viewer.{Viewer}
 use Rattle.dispatch_types.specs.declared.dispatch.Dispatch.{Dispatch}
 use Rattle.dispatch_types.specs.declared.dispatch.Dispatch.TheVariants.{GuildCreate, GuildUpdate, GuildDelete}
@@ -13,6 +17,11 @@ use Rattle.dispatch_types.specs.Serves.{served, serves}
 use Rattle.dispatch_types.proofs.Views.{purge-stays}
 use Rattle.dispatch_types.proofs.Folds.{guild_of, folded-elsewhere, fold-elsewhere}
 use Rattle.channel_edit.specs.declared.ChannelEdit.TheVariants.{ChannelCreate, ChannelUpdate, ChannelDelete, OverwriteSet, OverwriteDelete}
+use Rattle.voice_presence.specs.declared.VoicePresenceEdit.TheVariants.{VoiceSet, PresenceSet}
+use Rattle.voice_presence.specs.Voices.{voice_was_set}
+use Rattle.voice_presence.specs.Presences.{with_activity}
+use Rattle.message_edit.specs.declared.MessageEdit.TheVariants.{MessageCreate, MessageUpdate, MessageDelete, ReactionAdd, ReactionRemove, Typing}
+use Rattle.message_edit.specs.Messages.{member_user, written_by}
 use Rattle.role_member_edit.specs.declared.RoleMemberEdit.TheVariants.{RoleCreate, RoleUpdate, RoleDelete, MemberAdd, MemberRemove, MemberNick, MemberTimeout, MemberRoleAdd, MemberRoleRemove}
 use Rattle.edit_apply.specs.declared.guild.GuildEdit.TheVariants.{GuildOpen, GuildRename, GuildOwner, GuildOutage, GuildBack}
 use Rattle.edit_apply.specs.declared.Edit.{Edit}
@@ -27,6 +36,18 @@ pub projection_stays : ProjectionStays
 projection_stays s v h well agrees = purge-stays s v h agrees.view
 
 -- an edit leaves a guild its id
+voice-id : (s : Record) (user : ℕ) (channel : Option ℕ) (mute deaf : Bool) → (voice_was_set s user channel mute deaf).id ≡ s.id
+voice-id s user None mute deaf = refl
+voice-id s user (Some channel) mute deaf = refl
+
+presence-id : (s : Record) (user : ℕ) (activity : Option Activity) → (with_activity s user activity).id ≡ s.id
+presence-id s user None = refl
+presence-id s user (Some activity) = refl
+
+written-id : (s : Record) (author : Option User) (message place : ℕ) (mentions : List ℕ) → (written_by s author message place mentions).id ≡ s.id
+written-id s None message place mentions = refl
+written-id s (Some author) message place mentions = refl
+
 id-kept : (s : Record) (e : Edit) → (applied s e).id ≡ s.id
 id-kept s (edit.Guild (GuildOpen name owner owner_name perms at)) = refl
 id-kept s (edit.Guild (GuildRename name)) = refl
@@ -47,6 +68,14 @@ id-kept s (edit.Channel (ChannelUpdate channel name parent position)) = refl
 id-kept s (edit.Channel (ChannelDelete channel)) = refl
 id-kept s (edit.Channel (OverwriteSet channel id kind allow deny)) = refl
 id-kept s (edit.Channel (OverwriteDelete channel id kind)) = refl
+id-kept s (edit.VoicePresence (VoiceSet user channel mute deaf)) = voice-id s user channel mute deaf
+id-kept s (edit.VoicePresence (PresenceSet user status)) = presence-id s user (status_activity status)
+id-kept s (edit.Message (MessageCreate message place author body)) = written-id s (option_map member_user (find_id member_id author s.members)) message place body.mentions
+id-kept s (edit.Message (MessageUpdate message body)) = refl
+id-kept s (edit.Message (MessageDelete message)) = refl
+id-kept s (edit.Message (ReactionAdd message user emoji)) = refl
+id-kept s (edit.Message (ReactionRemove message user emoji)) = refl
+id-kept s (edit.Message (Typing place user at)) = refl
 
 -- each dispatch that is owed is of the guild
 abbrev pub IsOf : ℕ → Dispatch → Type 0

@@ -11,6 +11,8 @@ use Rattle.edit_apply.specs.declared.Edit.TheVariants as edit
 use Rattle.edit_apply.specs.declared.guild.GuildEdit.TheVariants.{GuildOpen, GuildRename, GuildOwner}
 use Rattle.role_member_edit.specs.declared.RoleMemberEdit.TheVariants.{RoleCreate, RoleUpdate, RoleDelete, MemberAdd, MemberRemove, MemberNick, MemberTimeout, MemberRoleAdd, MemberRoleRemove}
 use Rattle.channel_edit.specs.declared.ChannelEdit.TheVariants.{ChannelCreate, ChannelUpdate, ChannelDelete, OverwriteSet, OverwriteDelete}
+use Rattle.voice_presence.specs.declared.VoicePresenceEdit.TheVariants.{VoiceSet, PresenceSet}
+use Rattle.message_edit.specs.declared.MessageEdit.TheVariants.{MessageCreate, MessageUpdate, MessageDelete, ReactionAdd, ReactionRemove, Typing}
 use Rattle.edit_text.specs.declared.fault.LineFault.{LineFault}
 use Rattle.edit_text.specs.declared.fault.LineFault.TheVariants.{NotJson, NoSuchStep, WrongType, TooLong}
 use Rattle.edit_text.specs.declared.line.Line.{Line}
@@ -25,12 +27,18 @@ use Rattle.edit_text.specs.declared.names.RoleMemberEditName.{RoleMemberEditName
 use Rattle.edit_text.specs.declared.names.RoleMemberEditName.TheVariants as role_member
 use Rattle.edit_text.specs.declared.names.ChannelEditName.{ChannelEditName}
 use Rattle.edit_text.specs.declared.names.ChannelEditName.TheVariants as channel
+use Rattle.edit_text.specs.declared.names.VoicePresenceEditName.{VoicePresenceEditName}
+use Rattle.edit_text.specs.declared.names.VoicePresenceEditName.TheVariants as voice_presence
+use Rattle.edit_text.specs.declared.names.MessageEditName.{MessageEditName}
+use Rattle.edit_text.specs.declared.names.MessageEditName.TheVariants as message
 use Rattle.edit_text.specs.declared.reader.StepReader.{StepReader}
-use Rattle.edit_text.specs.Fields.{text_at, id_at, flag_at, number_below, mask_at, moment_at, position_at, kind_at, overwrite_kind_at, nullable_text_at, nullable_id_at, nullable_moment_at, intents_at}
+use Rattle.edit_text.specs.Fields.{text_at, id_at, flag_at, number_below, mask_at, moment_at, position_at, kind_at, overwrite_kind_at, status_at, nullable_text_at, nullable_id_at, nullable_moment_at, intents_at}
 use Rattle.edit_text.specs.Names.{is_built, if_built, built_edit, edit_named}
 use Rattle.edit_text.specs.GuildEdits.{guild_edit_from, guild_edit_name}
 use Rattle.edit_text.specs.RoleMemberEdits.{role_member_edit_from, role_member_edit_name}
 use Rattle.edit_text.specs.ChannelEdits.{channel_edit_from, channel_edit_name}
+use Rattle.edit_text.specs.VoicePresenceEdits.{voice_presence_edit_from, voice_presence_edit_name}
+use Rattle.edit_text.specs.MessageEdits.{body_from, message_edit_from, message_edit_name}
 use Rattle.edit_text.specs.Edits.{edit_from, edit_name, is_built_edit}
 use Rattle.edit_text.specs.Lines.{has_room, short_token, worker_at, connection_at, fields_from, line_from, object_line_from, is_too_long, is_blank, step_of, some_line, line_of}
 
@@ -127,6 +135,27 @@ channel_named channel.OverwriteDelete d =
     each3 (λ e. channel_edit_name e ≡ channel.OverwriteDelete) (id_at (codes "channel") d) (id_at (codes "id") d) (overwrite_kind_at (codes "type") d)
     OverwriteDelete (λ x y z. refl)
 
+voice_presence_named : (n : VoicePresenceEditName) (d : Data) → IfOk (voice_presence_edit_from n d) (λ e. voice_presence_edit_name e ≡ n)
+voice_presence_named voice_presence.VoiceSet d =
+    each4 (λ e. voice_presence_edit_name e ≡ voice_presence.VoiceSet) (id_at (codes "user") d) (nullable_id_at (codes "channel") d) (flag_at (codes "mute") d) (flag_at (codes "deaf") d)
+    VoiceSet (λ x y z w. refl)
+voice_presence_named voice_presence.PresenceSet d =
+    each2 (λ e. voice_presence_edit_name e ≡ voice_presence.PresenceSet) (id_at (codes "user") d) (status_at (codes "status") d) PresenceSet (λ x y. refl)
+
+message_named : (n : MessageEditName) (d : Data) → IfOk (message_edit_from n d) (λ e. message_edit_name e ≡ n)
+message_named message.MessageCreate d =
+    each4 (λ e. message_edit_name e ≡ message.MessageCreate) (id_at (codes "message") d) (id_at (codes "channel") d) (id_at (codes "author") d) (body_from d)
+    MessageCreate (λ x y z w. refl)
+message_named message.MessageUpdate d =
+    each2 (λ e. message_edit_name e ≡ message.MessageUpdate) (id_at (codes "message") d) (body_from d) MessageUpdate (λ x y. refl)
+message_named message.MessageDelete d = each1 (λ e. message_edit_name e ≡ message.MessageDelete) (id_at (codes "message") d) MessageDelete (λ x. refl)
+message_named message.ReactionAdd d =
+    each3 (λ e. message_edit_name e ≡ message.ReactionAdd) (id_at (codes "message") d) (id_at (codes "user") d) (text_at (codes "emoji") d) ReactionAdd (λ x y z. refl)
+message_named message.ReactionRemove d =
+    each3 (λ e. message_edit_name e ≡ message.ReactionRemove) (id_at (codes "message") d) (id_at (codes "user") d) (text_at (codes "emoji") d) ReactionRemove (λ x y z. refl)
+message_named message.Typing d =
+    each3 (λ e. message_edit_name e ≡ message.Typing) (id_at (codes "channel") d) (id_at (codes "user") d) (moment_at (codes "at") d) Typing (λ x y z. refl)
+
 edit_named_so : (n : EditName) (d : Data) → IfOk (edit_from n d) (λ e. edit_name e ≡ n)
 edit_named_so (name.Guild n) d =
     each_of (λ g. guild_edit_name g ≡ n) (λ e. edit_name e ≡ name.Guild n) (guild_edit_from n d) (λ g. Ok (edit.Guild g)) (guild_named n d) (λ g h. ap name.Guild h)
@@ -134,6 +163,11 @@ edit_named_so (name.RoleMember n) d =
     each_of (λ g. role_member_edit_name g ≡ n) (λ e. edit_name e ≡ name.RoleMember n) (role_member_edit_from n d) (λ g. Ok (edit.RoleMember g)) (role_member_named n d) (λ g h. ap name.RoleMember h)
 edit_named_so (name.Channel n) d =
     each_of (λ g. channel_edit_name g ≡ n) (λ e. edit_name e ≡ name.Channel n) (channel_edit_from n d) (λ g. Ok (edit.Channel g)) (channel_named n d) (λ g h. ap name.Channel h)
+edit_named_so (name.VoicePresence n) d =
+    each_of (λ g. voice_presence_edit_name g ≡ n) (λ e. edit_name e ≡ name.VoicePresence n) (voice_presence_edit_from n d) (λ g. Ok (edit.VoicePresence g)) (voice_presence_named n d)
+    (λ g h. ap name.VoicePresence h)
+edit_named_so (name.Message n) d =
+    each_of (λ g. message_edit_name g ≡ n) (λ e. edit_name e ≡ name.Message n) (message_edit_from n d) (λ g. Ok (edit.Message g)) (message_named n d) (λ g h. ap name.Message h)
 
 -- ---- lines
 

@@ -23,24 +23,10 @@ use Rattle.edit_text.specs.Fields.{text_at, id_at}
 use Rattle.edit_text.specs.Fits.{IdFits, NullableIdFits, MaskFits, MomentFits, NullableMomentFits, GuildEditFits, RoleMemberEditFits, ChannelEditFits, EditFits}
 use Rattle.edit_text.specs.Names.{name_text}
 use Rattle.edit_text.specs.Edits.{edit_from, edit_name}
-use Rattle.edit_text.specs.Written.{line_data, edit_within, role_member_within, channel_within}
-
--- the line of an edit says so, and names its guild and the edit
-abbrev pub ReadsAs : ℕ → Edit → Data → Type 0
-ReadsAs guild e d = (text_at (codes "step") d ≡ Ok (codes "edit")) × (id_at (codes "guild") d ≡ Ok guild)
-    × (text_at (codes "do") d ≡ Ok (name_text (edit_name e))) × (edit_from (edit_name e) d ≡ Ok e)
-
-abbrev pub Back : ℕ → Edit → Type 0
-Back guild e = ReadsAs guild e (line_data (EditLine guild e))
-
-pub mask_below : (mask : ℕ) → MaskFits mask → nat_lt mask (2 ^ 53) ≡ true
-mask_below mask h = grind (arith, nat_tests, h)
-
-mask_as_id : (mask : ℕ) → MaskFits mask → IdFits mask
-mask_as_id mask h = omega (arith, h)
-
-pub moment_below : (at : ℕ) → MomentFits at → nat_lt at END_OF_TIME ≡ true
-moment_below at h = grind (arith, nat_tests, h)
+use Rattle.edit_text.specs.Written.{edit_within, role_member_within, channel_within}
+use Rattle.edit_text.proofs.ReadsBack.{Back, PlainEdit, mask_below, mask_as_id, moment_below}
+use Rattle.edit_text.proofs.VoicesBack.{voice_presence_back, voice_presence_plain}
+use Rattle.edit_text.proofs.MessagesBack.{message_back, message_plain}
 
 guild_open_back : (guild : ℕ) (name : List ℕ) (owner : ℕ) (owner_name : List ℕ) (perms at : ℕ)
     → IdFits guild → IdFits owner → MaskFits perms → MomentFits at → Back guild (edit.Guild (GuildOpen name owner owner_name perms at))
@@ -148,14 +134,10 @@ pub edit_back : (guild : ℕ) (e : Edit) → IdFits guild → EditFits e → edi
 edit_back guild (edit.Guild e) h k p = guild_back guild e h k
 edit_back guild (edit.RoleMember e) h k p = role_member_back guild e h k p
 edit_back guild (edit.Channel e) h k p = channel_back guild e h k p
+edit_back guild (edit.VoicePresence e) h k p = voice_presence_back guild e h k
+edit_back guild (edit.Message e) h k p = message_back guild e h k p
 
 -- ---- plain values
-
-abbrev pub Plain : Data → Type 0
-Plain d = (depth d ≤ 2) × (has_float d ≡ false)
-
-abbrev PlainEdit : ℕ → Edit → Type 0
-PlainEdit guild e = Plain (line_data (EditLine guild e))
 
 guild_plain : (guild : ℕ) (e : GuildEdit) → PlainEdit guild (edit.Guild e)
 unfolding serde_json_on_literals
@@ -211,3 +193,5 @@ pub edit_plain : (guild : ℕ) (e : Edit) → PlainEdit guild e
 edit_plain guild (edit.Guild e) = guild_plain guild e
 edit_plain guild (edit.RoleMember e) = role_member_plain guild e
 edit_plain guild (edit.Channel e) = channel_plain guild e
+edit_plain guild (edit.VoicePresence e) = voice_presence_plain guild e
+edit_plain guild (edit.Message e) = message_plain guild e

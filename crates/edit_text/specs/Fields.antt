@@ -1,12 +1,15 @@
 -- The fields of a line, by their kinds.
-use Rattle.std.specs.Prelude.{ℕ, ◌^◌, ◌==◌, List, Bool, nat_lt, if◌then◌else◌, Option, Some, None, Result, Ok, Err}
+use Rattle.std.specs.Prelude.{ℕ, ◌^◌, ◌==◌, List, [], ◌∷◌, Bool, nat_lt, if◌then◌else◌, Option, Some, None, Result, Ok, Err}
 use Rattle.std.specs.Int.RustNames.{bit_and}
-use Rattle.serde_json.specs.Data.{Data}
+use Rattle.serde_json.specs.Data.{Data, Items, no_items, item}
+use Rattle.serde_json.specs.Events.{items_len}
 use Rattle.std.specs.Option.{ok_or}
-use Rattle.serde_json.specs.Find.{as_str}
+use Rattle.serde_json.specs.Find.{as_str, as_array}
 use Rattle.json_view.specs.Fields.{and_then, field, unless_null, whole, text_field, id_value, id_field, number_field, flag_field}
 use Rattle.guild_model.specs.declared.channel.ChannelKind.{ChannelKind}
 use Rattle.guild_model.specs.declared.channel.OverwriteKind.{OverwriteKind}
+use Rattle.guild_model.specs.declared.presence.Status.{Status}
+use Rattle.guild_model.specs.Statuses.{status_named}
 use Rattle.guild_model.specs.Numbers.{channel_kind_numbered, overwrite_kind_numbered}
 use Rattle.guild_model.specs.declared.moment.TheConstants.{END_OF_TIME}
 use Rattle.edit_text.specs.declared.fault.LineFault.{LineFault}
@@ -47,6 +50,25 @@ kind_at name d = and_then (faulted (number_field name d)) (λ n. ok_or (channel_
 -- whom an overwrite is of (Channels Resource, Overwrite Object)
 abbrev pub overwrite_kind_at : List ℕ → Data → Result OverwriteKind LineFault
 overwrite_kind_at name d = and_then (faulted (number_field name d)) (λ n. ok_or (overwrite_kind_numbered n) WrongType)
+
+-- a status (Gateway Events, Status Types)
+abbrev pub status_at : List ℕ → Data → Result Status LineFault
+status_at name d = and_then (text_at name d) (λ s. ok_or (status_named s) WrongType)
+
+-- how many embeds, attachments or components a message has
+abbrev pub parts_at : List ℕ → Data → Result ℕ LineFault
+parts_at name d = number_below 11 name d
+
+abbrev pub ids_from : Items → Result (List ℕ) LineFault
+ids_from no_items = Ok []
+ids_from (item d ds) = and_then (faulted (id_value d)) (λ id. and_then (ids_from ds) (λ ids. Ok (id ∷ ids)))
+
+-- at most 100 ids
+abbrev pub few_ids_from : Items → Result (List ℕ) LineFault
+few_ids_from ds = if nat_lt 100 (items_len ds) then Err WrongType else ids_from ds
+
+abbrev pub ids_at : List ℕ → Data → Result (List ℕ) LineFault
+ids_at name d = and_then (faulted (field name d)) (λ v. and_then (ok_or (as_array v) WrongType) few_ids_from)
 
 -- what reads a value, where it is not null
 abbrev pub or_null : {A : Type 0} → (Data → Result A LineFault) → Option Data → Result (Option A) LineFault

@@ -1,5 +1,5 @@
 -- Fields within the ranges of their types.
-use Rattle.std.specs.Prelude.{◌≡◌, ℕ, ◌<◌, ◌^◌, true, Option, Some, None}
+use Rattle.std.specs.Prelude.{◌≡◌, ℕ, ◌<◌, ◌^◌, List, [], ◌∷◌, true, Option, Some, None}
 use Rattle.guild_model.specs.declared.moment.TheConstants.{END_OF_TIME}
 use Rattle.edit_apply.specs.declared.Edit.{Edit}
 use Rattle.edit_apply.specs.declared.Edit.TheVariants as edit
@@ -9,6 +9,10 @@ use Rattle.role_member_edit.specs.declared.RoleMemberEdit.{RoleMemberEdit}
 use Rattle.role_member_edit.specs.declared.RoleMemberEdit.TheVariants.{RoleCreate, RoleUpdate, RoleDelete, MemberAdd, MemberRemove, MemberNick, MemberTimeout, MemberRoleAdd, MemberRoleRemove}
 use Rattle.channel_edit.specs.declared.ChannelEdit.{ChannelEdit}
 use Rattle.channel_edit.specs.declared.ChannelEdit.TheVariants.{ChannelCreate, ChannelUpdate, ChannelDelete, OverwriteSet, OverwriteDelete}
+use Rattle.voice_presence.specs.declared.VoicePresenceEdit.{VoicePresenceEdit}
+use Rattle.voice_presence.specs.declared.VoicePresenceEdit.TheVariants.{VoiceSet, PresenceSet}
+use Rattle.message_edit.specs.declared.MessageEdit.{MessageEdit}
+use Rattle.message_edit.specs.declared.MessageEdit.TheVariants.{MessageCreate, MessageUpdate, MessageDelete, ReactionAdd, ReactionRemove, Typing}
 use Rattle.edit_text.specs.declared.line.Line.{Line}
 use Rattle.edit_text.specs.declared.line.Line.TheVariants.{Bot, Guild, Edit as EditLine, Look, Open, Frame, Lost, Closed, Tick}
 use Rattle.edit_text.specs.Fields.{are_intents}
@@ -19,6 +23,10 @@ IdFits id = id < 2 ^ 64
 abbrev pub NullableIdFits : Option ℕ → Type 0
 NullableIdFits None = Unit {0}
 NullableIdFits (Some id) = IdFits id
+
+abbrev pub IdsFit : List ℕ → Type 0
+IdsFit [] = Unit {0}
+IdsFit (id ∷ ids) = IdFits id × IdsFit ids
 
 abbrev pub MaskFits : ℕ → Type 0
 MaskFits mask = mask < 2 ^ 53
@@ -58,10 +66,24 @@ ChannelEditFits (ChannelDelete channel) = IdFits channel
 ChannelEditFits (OverwriteSet channel id kind allow deny) = IdFits channel × IdFits id × MaskFits allow × MaskFits deny
 ChannelEditFits (OverwriteDelete channel id kind) = IdFits channel × IdFits id
 
+abbrev pub VoicePresenceEditFits : VoicePresenceEdit → Type 0
+VoicePresenceEditFits (VoiceSet user channel mute deaf) = IdFits user × NullableIdFits channel
+VoicePresenceEditFits (PresenceSet user status) = IdFits user
+
+abbrev pub MessageEditFits : MessageEdit → Type 0
+MessageEditFits (MessageCreate message place author body) = IdFits message × IdFits place × IdFits author × IdsFit body.mentions
+MessageEditFits (MessageUpdate message body) = IdFits message × IdsFit body.mentions
+MessageEditFits (MessageDelete message) = IdFits message
+MessageEditFits (ReactionAdd message user emoji) = IdFits message × IdFits user
+MessageEditFits (ReactionRemove message user emoji) = IdFits message × IdFits user
+MessageEditFits (Typing place user at) = IdFits place × IdFits user × MomentFits at
+
 abbrev pub EditFits : Edit → Type 0
 EditFits (edit.Guild e) = GuildEditFits e
 EditFits (edit.RoleMember e) = RoleMemberEditFits e
 EditFits (edit.Channel e) = ChannelEditFits e
+EditFits (edit.VoicePresence e) = VoicePresenceEditFits e
+EditFits (edit.Message e) = MessageEditFits e
 
 abbrev pub LineFits : Line → Type 0
 LineFits (Bot token user name privileged) = IdFits user × (are_intents privileged ≡ true)

@@ -5,6 +5,8 @@ pub mod Names
 pub mod GuildEdits
 pub mod RoleMemberEdits
 pub mod ChannelEdits
+pub mod VoicePresenceEdits
+pub mod MessageEdits
 pub mod Edits
 pub mod Lines
 pub mod Written

@@ -1,6 +1,7 @@
 -- The members of a line, put in byte order of their keys.
-use Rattle.std.specs.Prelude.{ℕ, List, [], ◌∷◌, Option, Some, None, decimal}
-use Rattle.serde_json.specs.Data.{Data, null, number, unsigned, string, Members, put}
+use Rattle.std.specs.Prelude.{ℕ, List, [], ◌∷◌, map, Option, Some, None, decimal}
+use Rattle.serde_json.specs.Data.{Data, null, number, unsigned, string, array, Members, put}
+use Rattle.serde_json.specs.View.{items_of}
 
 abbrev pub count : ℕ → Data
 count n = number (unsigned n)
@@ -8,6 +9,9 @@ count n = number (unsigned n)
 -- ids and permissions are written as texts
 abbrev pub id_data : ℕ → Data
 id_data id = string (decimal id)
+
+abbrev pub ids_data : List ℕ → Data
+ids_data ids = array (items_of (map id_data ids))
 
 abbrev pub nullable : {A : Type 0} → (A → Data) → Option A → Data
 nullable data_of None = null

@@ -9,8 +9,12 @@ use Rattle.edit_text.specs.declared.names.RoleMemberEditName.{RoleMemberEditName
 use Rattle.edit_text.specs.declared.names.RoleMemberEditName.TheVariants.{RoleCreate, RoleUpdate, RoleDelete, MemberAdd, MemberRemove, MemberNick, MemberTimeout, MemberRoleAdd, MemberRoleRemove}
 use Rattle.edit_text.specs.declared.names.ChannelEditName.{ChannelEditName}
 use Rattle.edit_text.specs.declared.names.ChannelEditName.TheVariants.{ChannelCreate, ChannelUpdate, ChannelDelete, OverwriteSet, OverwriteDelete}
+use Rattle.edit_text.specs.declared.names.VoicePresenceEditName.{VoicePresenceEditName}
+use Rattle.edit_text.specs.declared.names.VoicePresenceEditName.TheVariants.{VoiceSet, PresenceSet}
+use Rattle.edit_text.specs.declared.names.MessageEditName.{MessageEditName}
+use Rattle.edit_text.specs.declared.names.MessageEditName.TheVariants.{MessageCreate, MessageUpdate, MessageDelete, ReactionAdd, ReactionRemove, Typing}
 use Rattle.edit_text.specs.declared.names.EditName.{EditName}
-use Rattle.edit_text.specs.declared.names.EditName.TheVariants.{Guild, RoleMember, Channel}
+use Rattle.edit_text.specs.declared.names.EditName.TheVariants.{Guild, RoleMember, Channel, VoicePresence, Message}
 
 -- the first of two that is there
 abbrev pub first_named : {A : Type 0} → Option A → Option A → Option A
@@ -111,10 +115,32 @@ channel_edit_named s =
     else (if bytes_eq s (codes "overwrite_delete") then Some OverwriteDelete
     else None))))
 
+unfoldable pub voice_presence_edit_named : List ℕ → Option VoicePresenceEditName
+voice_presence_edit_named s =
+    if bytes_eq s (codes "voice_set") then Some VoiceSet
+    else (if bytes_eq s (codes "presence_set") then Some PresenceSet
+    else None)
+
+unfoldable pub message_edit_named : List ℕ → Option MessageEditName
+message_edit_named s =
+    if bytes_eq s (codes "message_create") then Some MessageCreate
+    else (if bytes_eq s (codes "message_update") then Some MessageUpdate
+    else (if bytes_eq s (codes "message_delete") then Some MessageDelete
+    else None))
+
+unfoldable pub reaction_edit_named : List ℕ → Option MessageEditName
+reaction_edit_named s =
+    if bytes_eq s (codes "reaction_add") then Some ReactionAdd
+    else (if bytes_eq s (codes "reaction_remove") then Some ReactionRemove
+    else (if bytes_eq s (codes "typing") then Some Typing
+    else None))
+
 abbrev pub edit_named : List ℕ → Option EditName
 edit_named s =
     first_named (option_map Guild (guild_edit_named s)) (first_named (option_map RoleMember (role_edit_named s))
-    (first_named (option_map RoleMember (member_edit_named s)) (option_map Channel (channel_edit_named s))))
+    (first_named (option_map RoleMember (member_edit_named s)) (first_named (option_map Channel (channel_edit_named s))
+    (first_named (option_map VoicePresence (voice_presence_edit_named s)) (first_named (option_map Message (message_edit_named s))
+    (option_map Message (reaction_edit_named s)))))))
 
 abbrev pub guild_edit_text : GuildEditName → List ℕ
 guild_edit_text GuildOpen = codes "guild_open"
@@ -141,10 +167,24 @@ channel_edit_text ChannelDelete = codes "channel_delete"
 channel_edit_text OverwriteSet = codes "overwrite_set"
 channel_edit_text OverwriteDelete = codes "overwrite_delete"
 
+abbrev pub voice_presence_edit_text : VoicePresenceEditName → List ℕ
+voice_presence_edit_text VoiceSet = codes "voice_set"
+voice_presence_edit_text PresenceSet = codes "presence_set"
+
+abbrev pub message_edit_text : MessageEditName → List ℕ
+message_edit_text MessageCreate = codes "message_create"
+message_edit_text MessageUpdate = codes "message_update"
+message_edit_text MessageDelete = codes "message_delete"
+message_edit_text ReactionAdd = codes "reaction_add"
+message_edit_text ReactionRemove = codes "reaction_remove"
+message_edit_text Typing = codes "typing"
+
 abbrev pub name_text : EditName → List ℕ
 name_text (Guild name) = guild_edit_text name
 name_text (RoleMember name) = role_member_edit_text name
 name_text (Channel name) = channel_edit_text name
+name_text (VoicePresence name) = voice_presence_edit_text name
+name_text (Message name) = message_edit_text name
 
 -- the edits that may be used
 abbrev pub is_built : EditName → Bool
@@ -167,6 +207,14 @@ is_built (Channel ChannelUpdate) = false
 is_built (Channel ChannelDelete) = false
 is_built (Channel OverwriteSet) = false
 is_built (Channel OverwriteDelete) = false
+is_built (VoicePresence VoiceSet) = false
+is_built (VoicePresence PresenceSet) = false
+is_built (Message MessageCreate) = false
+is_built (Message MessageUpdate) = false
+is_built (Message MessageDelete) = false
+is_built (Message ReactionAdd) = false
+is_built (Message ReactionRemove) = false
+is_built (Message Typing) = false
 
 abbrev pub if_built : EditName → Option EditName
 if_built name = if is_built name then Some name else None

@@ -7,6 +7,9 @@ use Rattle.role_member_edit.specs.declared.RoleMemberEdit.{RoleMemberEdit}
 use Rattle.role_member_edit.specs.declared.RoleMemberEdit.TheVariants.{RoleCreate, RoleUpdate, RoleDelete, MemberAdd, MemberRemove, MemberNick, MemberTimeout, MemberRoleAdd, MemberRoleRemove}
 use Rattle.channel_edit.specs.declared.ChannelEdit.{ChannelEdit}
 use Rattle.channel_edit.specs.declared.ChannelEdit.TheVariants.{ChannelCreate, ChannelUpdate, ChannelDelete, OverwriteSet, OverwriteDelete}
+use Rattle.message_edit.specs.declared.body.MessageBody.{MessageBody}
+use Rattle.message_edit.specs.declared.MessageEdit.{MessageEdit}
+use Rattle.message_edit.specs.declared.MessageEdit.TheVariants.{MessageCreate, MessageUpdate, MessageDelete, ReactionAdd, ReactionRemove, Typing}
 use Rattle.edit_text.specs.declared.line.Line.{Line}
 use Rattle.edit_text.specs.declared.line.Line.TheVariants.{Bot, Guild, Edit as EditLine, Look, Open, Frame, Lost, Closed, Tick}
 use Rattle.edit_text.specs.declared.names.StepName.{StepName}
@@ -68,10 +71,27 @@ channel_within (ChannelDelete channel) = true
 channel_within (OverwriteSet channel id kind allow deny) = true
 channel_within (OverwriteDelete channel id kind) = true
 
+-- embeds, attachments or components, of each at most 10
+abbrev pub are_few : ℕ → Bool
+are_few parts = nat_lt parts 11
+
+abbrev pub body_within : MessageBody → Bool
+body_within body = not (nat_lt 100 (length body.mentions)) && (are_few body.embeds && (are_few body.attachments && are_few body.components))
+
+abbrev pub message_within : MessageEdit → Bool
+message_within (MessageCreate message place author body) = body_within body
+message_within (MessageUpdate message body) = body_within body
+message_within (MessageDelete message) = true
+message_within (ReactionAdd message user emoji) = true
+message_within (ReactionRemove message user emoji) = true
+message_within (Typing place user at) = true
+
 abbrev pub edit_within : Edit → Bool
 edit_within (edit.Guild e) = true
 edit_within (edit.RoleMember e) = role_member_within e
 edit_within (edit.Channel e) = channel_within e
+edit_within (edit.VoicePresence e) = true
+edit_within (edit.Message e) = message_within e
 
 -- within the limits of its fields, after these guilds
 abbrev pub line_within : List ℕ → Line → Bool

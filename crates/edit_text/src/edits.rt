@@ -9,7 +9,9 @@ ghost use Rattle.edit_text.specs.Edits.{edit_from, edit_name, edit_fields};
 
 mod channel;
 mod guild;
+mod message;
 mod role_member;
+mod voice;
 
 use crate::LineFault;
 use crate::names::EditName;
@@ -27,6 +29,8 @@ pub fn read(alloc: Global, name: EditName, object: &Value) -> Result<Edit, LineF
             Ok(Edit::RoleMember(role_member::read(alloc, name, object)?))
         }
         EditName::Channel(name) => Ok(Edit::Channel(channel::read(alloc, name, object)?)),
+        EditName::VoicePresence(name) => { Ok(Edit::VoicePresence(voice::read(name, object)?)) }
+        EditName::Message(name) => Ok(Edit::Message(message::read(alloc, name, object)?)),
     }
 }
 
@@ -38,6 +42,8 @@ pub fn name_of(edit: &Edit) -> EditName
         Edit::Guild(edit) => EditName::Guild(guild::name_of(edit)),
         Edit::RoleMember(edit) => EditName::RoleMember(role_member::name_of(edit)),
         Edit::Channel(edit) => EditName::Channel(channel::name_of(edit)),
+        Edit::VoicePresence(edit) => EditName::VoicePresence(voice::name_of(edit)),
+        Edit::Message(edit) => EditName::Message(message::name_of(edit)),
     }
 }
 
@@ -57,6 +63,14 @@ pub fn put(alloc: Global, members: &mut Map<String, Value>, edit: &Edit) -> Resu
         }
         Edit::Channel(edit) => {
             channel::put(alloc, members, edit)?;
+            Ok(())
+        }
+        Edit::VoicePresence(edit) => {
+            voice::put(alloc, members, edit)?;
+            Ok(())
+        }
+        Edit::Message(edit) => {
+            message::put(alloc, members, edit)?;
             Ok(())
         }
     }

@@ -7,13 +7,14 @@ ghost use Rattle.std.specs.Option.{ok_or};
 ghost use Rattle.json_view.specs.Fields.{and_then};
 ghost use Rattle.guild_model.specs.declared.moment.TheConstants.{END_OF_TIME};
 ghost use Rattle.edit_text.specs.declared.fault.LineFault.TheVariants.{WrongType};
-ghost use Rattle.serde_json.specs.View.{view};
+ghost use Rattle.serde_json.specs.View.{view, items_view};
+ghost use Rattle.serde_json.specs.Events.{items_len};
 ghost use Rattle.edit_text.specs.Fault.{UnlessMemory, fault_of};
-ghost use Rattle.edit_text.specs.Fields.{text_at, id_at, flag_at, number_below, within, are_intents, mask_at, moment_at, position_at, kind_at, overwrite_kind_at, nullable_text_at, nullable_id_at, nullable_moment_at, intents_at};
+ghost use Rattle.edit_text.specs.Fields.{text_at, id_at, flag_at, number_below, within, are_intents, mask_at, moment_at, position_at, kind_at, overwrite_kind_at, status_at, parts_at, ids_from, few_ids_from, ids_at, nullable_text_at, nullable_id_at, nullable_moment_at, intents_at};
 
 use crate::LineFault;
-use collections::Text;
-use guild_model::{ChannelKind, Moment, OverwriteKind};
+use collections::{Seq, Text};
+use guild_model::{ChannelKind, Moment, OverwriteKind, Status, limits};
 use intent_set::Intents;
 use json_view::{ViewFault, field_of, flag_of, id_from, id_of, number_of, text_of};
 use perm_bits::Perms;
@@ -138,6 +139,77 @@ pub fn overwrite_kind_at(object: &Value, name: &str) -> Result<OverwriteKind, Li
         Ok(number) => match OverwriteKind::of_number(number) {
             None => Err(LineFault::WrongType),
             Some(kind) => Ok(kind),
+        },
+    }
+}
+
+/// A status, by its name.
+pub fn status_at(object: &Value, name: &str) -> Result<Status, LineFault>
+    ensures { result ≡ status_at name.now (view object.now) }
+{
+    match text_at(object, name) {
+        Err(fault) => Err(fault),
+        Ok(text) => match Status::of_name(text) {
+            None => Err(LineFault::WrongType),
+            Some(status) => Ok(status),
+        },
+    }
+}
+
+/// How many embeds, attachments or components a message has: at most [`limits::PARTS`].
+pub fn parts_at(object: &Value, name: &str) -> Result<u8, LineFault>
+    ensures { result ≡ parts_at name.now (view object.now) }
+{
+    match number_of(object, name) {
+        Err(fault) => Err(fault_of(fault)),
+        Ok(number) => {
+            if number <= limits::PARTS as u64 {
+                Ok(number as u8)
+            } else {
+                Err(LineFault::WrongType)
+            }
+        }
+    }
+}
+
+fn ids_from(alloc: Global, list: &[Value]) -> Result<Seq<Snowflake>, LineFault>
+    ensures { UnlessMemory result (ids_from (items_view list.now)) }
+{
+    let mut ids = Seq::new(alloc);
+    for value in list {
+        let Ok(id) = id_from(value) else {
+            return Err(LineFault::WrongType);
+        };
+        ids.push(Snowflake(id))?;
+    }
+    Ok(ids)
+}
+
+#[tactic(auto, using(crate::proofs::Lists::items_view_len))]
+fn too_many(list: &[Value]) -> bool
+    ensures { result ≡ nat_lt 100 (items_len (items_view list.now)) }
+{
+    list.len() > limits::MENTIONS as usize
+}
+
+fn few_ids_from(alloc: Global, list: &[Value]) -> Result<Seq<Snowflake>, LineFault>
+    ensures { UnlessMemory result (few_ids_from (items_view list.now)) }
+{
+    if too_many(list) {
+        return Err(LineFault::WrongType);
+    }
+    ids_from(alloc, list)
+}
+
+/// A list of at most [`limits::MENTIONS`] ids.
+pub fn ids_at(alloc: Global, object: &Value, name: &str) -> Result<Seq<Snowflake>, LineFault>
+    ensures { UnlessMemory result (ids_at name.now (view object.now)) }
+{
+    match field_of(object, name) {
+        Err(fault) => Err(fault_of(fault)),
+        Ok(value) => match value.as_array() {
+            None => Err(LineFault::WrongType),
+            Some(list) => few_ids_from(alloc, list.as_slice()),
         },
     }
 }

@@ -1,11 +1,11 @@
 //! The members of a line, put in byte order of their keys.
 
-ghost use Rattle.std.specs.Prelude.{◌≡◌, true, OnOk};
+ghost use Rattle.std.specs.Prelude.{◌≡◌, true, IfOk, OnOk};
 ghost use Rattle.edit_text.specs.Fields.{are_intents};
 ghost use Rattle.serde_json.specs.Data.{boolean, string, put};
-ghost use Rattle.serde_json.specs.View.{members_view};
-ghost use Rattle.edit_text.specs.Fits.{IdFits, NullableIdFits, MaskFits, MomentFits, NullableMomentFits};
-ghost use Rattle.edit_text.specs.Members.{count, id_data, nullable};
+ghost use Rattle.serde_json.specs.View.{view, members_view};
+ghost use Rattle.edit_text.specs.Fits.{IdFits, IdsFit, NullableIdFits, MaskFits, MomentFits, NullableMomentFits};
+ghost use Rattle.edit_text.specs.Members.{count, id_data, ids_data, nullable};
 
 use collections::Text;
 use guild_model::Moment;
@@ -144,6 +144,39 @@ pub fn put_nullable_id(
         None => serde_json::put(members, alloc, name, Value::Null),
         Some(id) => put_id(alloc, members, name, id),
     }
+}
+
+fn id_value(alloc: Global, id: Snowflake) -> Result<Value, AllocError>
+    ensures value { IfOk result (λ v. view v ≡ id_data id) }
+    ensures fits { OnOk result (IdFits id) }
+{
+    Ok(Value::String(id.text(alloc)?))
+}
+
+fn ids_value(alloc: Global, ids: &[Snowflake]) -> Result<Value, AllocError>
+    ensures value { IfOk result (λ v. view v ≡ ids_data ids.now) }
+    ensures fits { OnOk result (IdsFit ids.now) }
+{
+    let mut list = Vec::new(alloc);
+    for id in ids {
+        let value = id_value(alloc, *id)?;
+        serde_json::push(&mut list, value)?;
+    }
+    Ok(Value::Array(list))
+}
+
+pub fn put_ids(
+    alloc: Global,
+    members: &mut Map<String, Value>,
+    name: &str,
+    ids: &[Snowflake],
+) -> Result<(), AllocError>
+    ensures put { OnOk result (members_view members.new.entries ≡ put name.now (ids_data ids.now) (members_view members.old.entries)) }
+    ensures fits { OnOk result (IdsFit ids.now) }
+{
+    let value = ids_value(alloc, ids)?;
+    serde_json::put(members, alloc, name, value)?;
+    Ok(())
 }
 
 pub fn put_nullable_moment(

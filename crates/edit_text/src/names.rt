@@ -1,7 +1,7 @@
 //! The names of steps and of edits, and which of them may be used.
 
 ghost use Rattle.std.specs.Prelude.{◌≡◌};
-ghost use Rattle.edit_text.specs.Names.{first_named, step_named, connection_step_named, any_step_named, step_text, is_head, is_built_step, guild_edit_named, role_edit_named, member_edit_named, channel_edit_named, edit_named, guild_edit_text, role_member_edit_text, channel_edit_text, name_text, is_built, built_edit};
+ghost use Rattle.edit_text.specs.Names.{first_named, step_named, connection_step_named, any_step_named, step_text, is_head, is_built_step, guild_edit_named, role_edit_named, member_edit_named, channel_edit_named, voice_presence_edit_named, message_edit_named, reaction_edit_named, edit_named, guild_edit_text, role_member_edit_text, channel_edit_text, voice_presence_edit_text, message_edit_text, name_text, is_built, built_edit};
 
 /// A step, by its name.
 #[derive(Clone, Copy, PartialEq, Eq, Debug)]
@@ -51,12 +51,32 @@ pub enum ChannelEditName {
     OverwriteDelete,
 }
 
+/// An edit of voice states or presences, by its name.
+#[derive(Clone, Copy, PartialEq, Eq, Debug)]
+pub enum VoicePresenceEditName {
+    VoiceSet,
+    PresenceSet,
+}
+
+/// An edit of messages, reactions or typing, by its name.
+#[derive(Clone, Copy, PartialEq, Eq, Debug)]
+pub enum MessageEditName {
+    MessageCreate,
+    MessageUpdate,
+    MessageDelete,
+    ReactionAdd,
+    ReactionRemove,
+    Typing,
+}
+
 /// An edit, by its name.
 #[derive(Clone, Copy, PartialEq, Eq, Debug)]
 pub enum EditName {
     Guild(GuildEditName),
     RoleMember(RoleMemberEditName),
     Channel(ChannelEditName),
+    VoicePresence(VoicePresenceEditName),
+    Message(MessageEditName),
 }
 
 #[tactic(auto, unfolding(crate::specs::Names::step_named))]
@@ -228,6 +248,51 @@ fn channel_edit_named(name: &str) -> Option<ChannelEditName>
     None
 }
 
+#[tactic(auto, unfolding(crate::specs::Names::voice_presence_edit_named))]
+fn voice_presence_edit_named(name: &str) -> Option<VoicePresenceEditName>
+    ensures { result ≡ voice_presence_edit_named name.now }
+{
+    if name == "voice_set" {
+        return Some(VoicePresenceEditName::VoiceSet);
+    }
+    if name == "presence_set" {
+        return Some(VoicePresenceEditName::PresenceSet);
+    }
+    None
+}
+
+#[tactic(auto, unfolding(crate::specs::Names::message_edit_named))]
+fn message_edit_named(name: &str) -> Option<MessageEditName>
+    ensures { result ≡ message_edit_named name.now }
+{
+    if name == "message_create" {
+        return Some(MessageEditName::MessageCreate);
+    }
+    if name == "message_update" {
+        return Some(MessageEditName::MessageUpdate);
+    }
+    if name == "message_delete" {
+        return Some(MessageEditName::MessageDelete);
+    }
+    None
+}
+
+#[tactic(auto, unfolding(crate::specs::Names::reaction_edit_named))]
+fn reaction_edit_named(name: &str) -> Option<MessageEditName>
+    ensures { result ≡ reaction_edit_named name.now }
+{
+    if name == "reaction_add" {
+        return Some(MessageEditName::ReactionAdd);
+    }
+    if name == "reaction_remove" {
+        return Some(MessageEditName::ReactionRemove);
+    }
+    if name == "typing" {
+        return Some(MessageEditName::Typing);
+    }
+    None
+}
+
 impl GuildEditName {
     /// The name of an edit.
     pub fn text(self) -> &'static str
@@ -277,6 +342,34 @@ impl ChannelEditName {
     }
 }
 
+impl VoicePresenceEditName {
+    /// The name of an edit.
+    pub fn text(self) -> &'static str
+        ensures { result.now ≡ voice_presence_edit_text self }
+    {
+        match self {
+            VoicePresenceEditName::VoiceSet => "voice_set",
+            VoicePresenceEditName::PresenceSet => "presence_set",
+        }
+    }
+}
+
+impl MessageEditName {
+    /// The name of an edit.
+    pub fn text(self) -> &'static str
+        ensures { result.now ≡ message_edit_text self }
+    {
+        match self {
+            MessageEditName::MessageCreate => "message_create",
+            MessageEditName::MessageUpdate => "message_update",
+            MessageEditName::MessageDelete => "message_delete",
+            MessageEditName::ReactionAdd => "reaction_add",
+            MessageEditName::ReactionRemove => "reaction_remove",
+            MessageEditName::Typing => "typing",
+        }
+    }
+}
+
 impl EditName {
     /// The edit of a name.
     pub fn of(name: &str) -> Option<EditName>
@@ -294,6 +387,15 @@ impl EditName {
         if let Some(edit) = channel_edit_named(name) {
             return Some(EditName::Channel(edit));
         }
+        if let Some(edit) = voice_presence_edit_named(name) {
+            return Some(EditName::VoicePresence(edit));
+        }
+        if let Some(edit) = message_edit_named(name) {
+            return Some(EditName::Message(edit));
+        }
+        if let Some(edit) = reaction_edit_named(name) {
+            return Some(EditName::Message(edit));
+        }
         None
     }
 
@@ -305,6 +407,8 @@ impl EditName {
             EditName::Guild(edit) => edit.text(),
             EditName::RoleMember(edit) => edit.text(),
             EditName::Channel(edit) => edit.text(),
+            EditName::VoicePresence(edit) => edit.text(),
+            EditName::Message(edit) => edit.text(),
         }
     }
 
@@ -318,7 +422,7 @@ impl EditName {
                 GuildEditName::GuildOpen | GuildEditName::GuildRename
             ),
             EditName::RoleMember(edit) => matches!(edit, RoleMemberEditName::MemberAdd),
-            EditName::Channel(_) => false,
+            EditName::Channel(_) | EditName::VoicePresence(_) | EditName::Message(_) => false,
         }
     }
 

@@ -11,10 +11,7 @@ use crate::LineFault;
 use crate::fields::{
     flag_at, id_at, kind_at, mask_at, nullable_id_at, overwrite_kind_at, position_at, text_at,
 };
-use crate::members::{
-    put_flag, put_id, put_mask, put_nullable_id,
-    put_number, put_text,
-};
+use crate::members::{put_flag, put_id, put_mask, put_nullable_id, put_number, put_text};
 use crate::names::ChannelEditName;
 use channel_edit::ChannelEdit;
 use collections::Text;

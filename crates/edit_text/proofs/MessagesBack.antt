@@ -1,0 +1,86 @@
+-- The line of an edit of messages, reactions or typing reads back, nests little and has no float.
+use Rattle.std.proofs.Common.{◌≡◌, ℕ, List, length, Bool, true, false, not, ◌&&◌, refl, sym, ap, ◌∙◌, arith}
+use Rattle.std.specs.Prelude.{nat_lt}
+use Rattle.serde_json.proofs.OnLiterals.{serde_json_on_literals}
+use Rattle.snowflake_id.proofs.Texts.{id_of_decimal}
+use Rattle.edit_apply.specs.declared.Edit.TheVariants as edit
+use Rattle.message_edit.specs.declared.body.MessageBody.{MessageBody}
+use Rattle.message_edit.specs.declared.MessageEdit.{MessageEdit}
+use Rattle.message_edit.specs.declared.MessageEdit.TheVariants.{MessageCreate, MessageUpdate, MessageDelete, ReactionAdd, ReactionRemove, Typing}
+use Rattle.edit_text.specs.Fits.{IdFits, IdsFit, MessageEditFits}
+use Rattle.edit_text.specs.Written.{are_few, body_within, message_within}
+use Rattle.edit_text.proofs.Lists.{ids_back, ids_len, ids_depth, ids_float}
+use Rattle.edit_text.proofs.ReadsBack.{Back, PlainEdit, moment_below}
+
+-- the parts of a body are within their limits
+record IsSmall (body : MessageBody) : Type 0 where
+  mentions : nat_lt 100 (length body.mentions) ≡ false
+  embeds : are_few body.embeds ≡ true
+  attachments : are_few body.attachments ≡ true
+  components : are_few body.components ≡ true
+
+both : (a b : Bool) → (a && b) ≡ true → (a ≡ true) × (b ≡ true)
+both true b h = (refl, h)
+both false b h = absurd (cc)
+
+not_true : (b : Bool) → not b ≡ true → b ≡ false
+not_true true h = absurd (cc)
+not_true false h = refl
+
+is_small : (body : MessageBody) → body_within body ≡ true → IsSmall body
+is_small body h =
+    let first = both (not (nat_lt 100 (length body.mentions))) (are_few body.embeds && (are_few body.attachments && are_few body.components)) h in
+    let second = both (are_few body.embeds) (are_few body.attachments && are_few body.components) first.1 in
+    let third = both (are_few body.attachments) (are_few body.components) second.1 in
+    record { mentions = not_true _ first.0; embeds = second.0; attachments = third.0; components = third.1 }
+
+create_back : (guild message place author : ℕ) (body : MessageBody) → IdFits guild → IdFits message → IdFits place → IdFits author → IdsFit body.mentions → IsSmall body
+    → Back guild (edit.Message (MessageCreate message place author body))
+unfolding serde_json_on_literals
+create_back guild message place author body h m p a f s = (
+  refl,
+  rw (id_of_decimal guild h) refl,
+  refl,
+  rw (
+    id_of_decimal message m,
+    id_of_decimal place p,
+    id_of_decimal author a,
+    ids_len body.mentions,
+    s.mentions,
+    ids_back body.mentions f,
+    s.embeds,
+    s.attachments,
+    s.components,
+  ) refl,
+)
+
+update_back : (guild message : ℕ) (body : MessageBody) → IdFits guild → IdFits message → IdsFit body.mentions → IsSmall body
+    → Back guild (edit.Message (MessageUpdate message body))
+unfolding serde_json_on_literals
+update_back guild message body h m f s = (
+  refl,
+  rw (id_of_decimal guild h) refl,
+  refl,
+  rw (id_of_decimal message m, ids_len body.mentions, s.mentions, ids_back body.mentions f, s.embeds, s.attachments, s.components) refl,
+)
+
+pub message_back : (guild : ℕ) (e : MessageEdit) → IdFits guild → MessageEditFits e → message_within e ≡ true → Back guild (edit.Message e)
+unfolding serde_json_on_literals
+message_back guild (MessageCreate message place author body) h k w = create_back guild message place author body h k.0 k.1 k.2 k.3 (is_small body w)
+message_back guild (MessageUpdate message body) h k w = update_back guild message body h k.0 k.1 (is_small body w)
+message_back guild (MessageDelete message) h k w = (refl, rw (id_of_decimal guild h) refl, refl, rw (id_of_decimal message k) refl)
+message_back guild (ReactionAdd message user emoji) h k w =
+    (refl, rw (id_of_decimal guild h) refl, refl, rw (id_of_decimal message k.0, id_of_decimal user k.1) refl)
+message_back guild (ReactionRemove message user emoji) h k w =
+    (refl, rw (id_of_decimal guild h) refl, refl, rw (id_of_decimal message k.0, id_of_decimal user k.1) refl)
+message_back guild (Typing place user at) h k w =
+    (refl, rw (id_of_decimal guild h) refl, refl, rw (id_of_decimal place k.0, id_of_decimal user k.1, moment_below at k.2) refl)
+
+pub message_plain : (guild : ℕ) (e : MessageEdit) → PlainEdit guild (edit.Message e)
+unfolding serde_json_on_literals
+message_plain guild (MessageCreate message place author body) = (let e = ids_depth body.mentions in omega (arith, e), rw (ids_float body.mentions) refl)
+message_plain guild (MessageUpdate message body) = (let e = ids_depth body.mentions in omega (arith, e), rw (ids_float body.mentions) refl)
+message_plain guild (MessageDelete message) = (omega arith, refl)
+message_plain guild (ReactionAdd message user emoji) = (omega arith, refl)
+message_plain guild (ReactionRemove message user emoji) = (omega arith, refl)
+message_plain guild (Typing place user at) = (omega arith, refl)
