@@ -101,6 +101,7 @@ ascends-opened s name owner owner_name perms at h = record {
   held = All-cons (λ (m : Member). IsById own_id m.roles) (new_member owner owner_name false at) [] tt (All-nil (λ (m : Member). IsById own_id m.roles));
   overwrites = h.overwrites;
   joined = h.joined;
+  messages = h.messages;
 }
 
 not-served : (s : Record) (v : Viewer) → s.opened ≡ false → served v s ≡ None
@@ -150,6 +151,7 @@ ascends-added s user name bot at h = record {
   held = all-put member_id (λ (m : Member). IsById own_id m.roles) (new_member user name bot at) s.members tt h.held;
   overwrites = h.overwrites;
   joined = h.joined;
+  messages = h.messages;
 }
 
 abbrev pub no_member : Option Member

@@ -1,5 +1,5 @@
 -- The kinds of values in the gateway's objects (API Reference).
-use Rattle.std.specs.Prelude.{ℕ, List, [], ◌∷◌, map, replicate, codes, decimal, Bool, true, false, if◌then◌else◌, Option, Some, None}
+use Rattle.std.specs.Prelude.{ℕ, List, [], ◌∷◌, map, replicate, decimal, Bool, true, if◌then◌else◌, Option, Some, None}
 use Rattle.serde_json.specs.Data.{Data, null, boolean, number, unsigned, string, array, object, Members, no_members, member}
 use Rattle.serde_json.specs.View.{items_of}
 use Rattle.moment_text.specs.Text.{time_text}
