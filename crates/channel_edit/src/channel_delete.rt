@@ -8,7 +8,9 @@ ghost use Rattle.guild_model.specs.Record.{thread_id, voice_id};
 ghost use Rattle.channel_edit.specs.ChannelEnd.{channel_delete_verdict, channel_deleted, orphaned, is_outside, speaks_outside, is_within, stands_outside};
 
 use collections::{ById, Change};
-use guild_model::{Channel, Guild, MessageHeads, Thread, Verdict, Voice, rules};
+use guild_model::{
+    Channel, Guild, Keeps, MessageHead, MessageHeads, Thread, Verdict, Voice, rules,
+};
 use snowflake_id::Snowflake;
 
 /// Refused with `UnknownChannel`.
@@ -46,10 +48,25 @@ fn within_channel(threads: &ById<Thread>, channel: Snowflake, place: Snowflake) 
     }
 }
 
+/// The messages that stand neither in a channel nor in its threads.
+#[derive(Drop)]
+struct Outside<'a> {
+    threads: &'a ById<Thread>,
+    channel: Snowflake,
+}
+
+impl<'a> Keeps for Outside<'a> {
+    ghost keeps = { λ outside m. stands_outside outside.threads.now outside.channel m };
+
+    fn keeps(&self, head: &MessageHead) -> bool {
+        !within_channel(self.threads, self.channel, head.place)
+    }
+}
+
 fn drop_messages(messages: &mut MessageHeads, threads: &ById<Thread>, channel: Snowflake)
     ensures { messages.new ≡ filter (stands_outside threads.now channel) messages.old }
 {
-    messages.retain(|head| !within_channel(threads, channel, head.place));
+    messages.retain(&Outside { threads, channel });
 }
 
 fn drop_threads(threads: &mut ById<Thread>, channel: Snowflake)

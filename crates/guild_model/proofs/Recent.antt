@@ -1,41 +1,15 @@
 -- The kept messages stay apart and few under each change.
-use Rattle.std.proofs.Common.{◌≡◌, ℕ, zero, suc, ◌≤◌, ◌<◌, Bool, true, false, List, [], ◌∷◌, ◌++◌, drop, length, get_or, set, Some, None, if◌then◌else◌, refl, sym, ap, ◌∙◌, arith}
+use Rattle.std.proofs.Common.{◌≡◌, ℕ, suc, ◌≤◌, Bool, true, false, List, [], ◌∷◌, ◌++◌, drop, length, if◌then◌else◌, refl, ap, ◌∙◌, arith}
 use Rattle.std.specs.Prelude.{◌==◌, nat_lt, filter}
-use Rattle.std.specs.List.{find, position, position_or_len, items_where_true}
 use Rattle.std.proofs.lemmas.Bool.Decides.{nat_tests}
 use Rattle.collections.specs.ById.{changed_id}
 use Rattle.collections.proofs.Has.{has-changed}
 use Rattle.guild_model.specs.declared.message.MessageHead.{MessageHead}
-use Rattle.guild_model.specs.Heads.{head_id, has_head, find_head, arrived, AreApart, AreRecent}
-
-pub found : (id : ℕ) (heads : List MessageHead) → find (λ (h : MessageHead). h.id == id) heads ≡ find_head id heads
-found id [] = refl
-found id (h ∷ heads) = grind (arith, found id heads)
+use Rattle.guild_model.specs.Heads.{head_id, has_head, arrived, AreApart, AreRecent}
 
 none_left : (p : MessageHead → Bool) (id : ℕ) (heads : List MessageHead) → has_head id heads ≡ false → has_head id (filter p heads) ≡ false
 none_left p id [] e = refl
 none_left p id (h ∷ heads) e = grind (arith, nat_tests, none_left p id heads)
-
-none_where : (bs : List Bool) (id : ℕ) (heads : List MessageHead) → has_head id heads ≡ false → has_head id (items_where_true bs heads) ≡ false
-none_where [] id heads e = refl
-none_where (b ∷ bs) id [] e = refl
-none_where (true ∷ bs) id (h ∷ heads) e = grind (arith, nat_tests, none_where bs id heads)
-none_where (false ∷ bs) id (h ∷ heads) e = grind (arith, nat_tests, none_where bs id heads)
-
-apart_where : (bs : List Bool) (heads : List MessageHead) → AreApart heads → AreApart (items_where_true bs heads)
-apart_where [] heads a = tt
-apart_where (b ∷ bs) [] a = tt
-apart_where (true ∷ bs) (h ∷ heads) a = (none_where bs h.id heads a.0, apart_where bs heads a.1)
-apart_where (false ∷ bs) (h ∷ heads) a = apart_where bs heads a.1
-
-few_where : (bs : List Bool) (heads : List MessageHead) → length (items_where_true bs heads) ≤ length heads
-few_where [] heads = omega arith
-few_where (b ∷ bs) [] = omega arith
-few_where (true ∷ bs) (h ∷ heads) = let le = few_where bs heads in omega (arith, le)
-few_where (false ∷ bs) (h ∷ heads) = let le = few_where bs heads in omega (arith, le)
-
-pub recent_where : (bs : List Bool) (heads : List MessageHead) → AreRecent heads → AreRecent (items_where_true bs heads)
-recent_where bs heads r = record { apart = apart_where bs heads r.apart; few = let le = few_where bs heads in omega (arith, le, r.few) }
 
 apart_if : (b : Bool) (h : MessageHead) (heads : List MessageHead) → has_head h.id heads ≡ false → AreApart heads → AreApart (if b then h ∷ heads else heads)
 apart_if true h heads e a = (e, a)
@@ -56,7 +30,7 @@ none_more : (h : MessageHead) (id : ℕ) (heads : List MessageHead) → has_head
 none_more h id [] e other = grind (arith, nat_tests)
 none_more h id (x ∷ heads) e other = grind (arith, nat_tests, none_more h id heads)
 
-apart_more : (h : MessageHead) (heads : List MessageHead) → has_head h.id heads ≡ false → AreApart heads → AreApart (heads ++ h ∷ [])
+pub apart_more : (h : MessageHead) (heads : List MessageHead) → has_head h.id heads ≡ false → AreApart heads → AreApart (heads ++ h ∷ [])
 apart_more h [] e a = (refl, tt)
 apart_more h (x ∷ heads) e a =
     let other : (h.id == x.id) ≡ false = grind (arith, nat_tests) in
@@ -89,10 +63,6 @@ recent_more h heads e r = by_test (nat_lt (length heads) 16384) refl
       few = let one = length_more h (drop 1 heads) in let less = length_dropped h heads is in omega (arith, one, less, r.few);
     }
 
-pub arrives : (h : MessageHead) (heads : List MessageHead) → (if nat_lt 16384 (length (heads ++ h ∷ [])) then drop 1 (heads ++ h ∷ []) else heads ++ h ∷ []) ≡ arrived h heads
-arrives h [] = refl
-arrives h (x ∷ heads) = grind (arith, nat_tests, length_more h heads)
-
 pub recent_changed : (id : ℕ) (f : MessageHead → MessageHead) (heads : List MessageHead) → ((h : MessageHead) → head_id (f h) ≡ head_id h) → AreRecent heads → AreRecent (changed_id head_id id f heads)
 recent_changed id f heads same r = record { apart = apart_changed heads r.apart; few = let e = length_changed heads in omega (arith, e, r.few) }
   where
@@ -107,40 +77,3 @@ recent_changed id f heads same r = record { apart = apart_changed heads r.apart;
     length_changed : (xs : List MessageHead) → length (changed_id head_id id f xs) ≡ length xs
     length_changed [] = refl
     length_changed (x ∷ xs) = grind (arith, length_changed xs)
-
--- the message at the first place of an id is the one of the id
-pub place_less : (id : ℕ) (heads : List MessageHead) → position_or_len (λ (h : MessageHead). h.id == id) heads ≤ length heads
-place_less id [] = omega arith
-place_less id (x ∷ heads) = grind (arith, place_less id heads)
-
-pub changed_there : (id : ℕ) (f : MessageHead → MessageHead) (heads : List MessageHead) (i : ℕ) (d y : MessageHead) → i ≡ position_or_len (λ (h : MessageHead). h.id == id) heads → i < length heads → y ≡ f (get_or heads i d) → set heads i y ≡ changed_id head_id id f heads
-changed_there id f [] i d y e lt is = absurd (omega arith)
-changed_there id f (x ∷ heads) i d y e lt is = by_test (x.id == id) refl i e lt is (λ i. changed_there id f heads i d y)
-  where
-    by_test : (b : Bool) → (x.id == id) ≡ b → (i : ℕ) → i ≡ position_or_len (λ (h : MessageHead). h.id == id) (x ∷ heads) → i < length (x ∷ heads) → y ≡ f (get_or (x ∷ heads) i d)
-        → ((i : ℕ) → i ≡ position_or_len (λ (h : MessageHead). h.id == id) heads → i < length heads → y ≡ f (get_or heads i d) → set heads i y ≡ changed_id head_id id f heads)
-        → set (x ∷ heads) i y ≡ changed_id head_id id f (x ∷ heads)
-    by_test true is_it zero e lt is later = rw is_it (ap (λ z. z ∷ heads) is)
-    by_test true is_it (suc i) e lt is later = absurd (grind (arith))
-    by_test false is_it zero e lt is later = absurd (grind (arith))
-    by_test false is_it (suc i) e lt is later = rw is_it (ap (λ z. x ∷ z) (later i (grind (arith)) (omega (arith, lt)) is))
-
-pub changed_nowhere : (id : ℕ) (f : MessageHead → MessageHead) (heads : List MessageHead) → length heads ≤ position_or_len (λ (h : MessageHead). h.id == id) heads → changed_id head_id id f heads ≡ heads
-changed_nowhere id f [] le = refl
-changed_nowhere id f (x ∷ heads) le = grind (arith, changed_nowhere id f heads)
-
-pub placed : (id : ℕ) (heads : List MessageHead) (i : ℕ) → position (λ (h : MessageHead). h.id == id) heads ≡ Some i → (i ≡ position_or_len (λ (h : MessageHead). h.id == id) heads) × (i < length heads)
-placed id heads i e = by_test (nat_lt (position_or_len (λ (h : MessageHead). h.id == id) heads) (length heads)) refl e
-  where
-    by_test : (b : Bool) → nat_lt (position_or_len (λ (h : MessageHead). h.id == id) heads) (length heads) ≡ b → (if b then Some (position_or_len (λ (h : MessageHead). h.id == id) heads) else None) ≡ Some i
-        → (i ≡ position_or_len (λ (h : MessageHead). h.id == id) heads) × (i < length heads)
-    by_test true is e = let same : position_or_len (λ (h : MessageHead). h.id == id) heads ≡ i = cc in (sym same, grind (arith, nat_tests))
-    by_test false is e = absurd (cc)
-
-pub unplaced : (id : ℕ) (heads : List MessageHead) → position (λ (h : MessageHead). h.id == id) heads ≡ None → length heads ≤ position_or_len (λ (h : MessageHead). h.id == id) heads
-unplaced id heads e = by_test (nat_lt (position_or_len (λ (h : MessageHead). h.id == id) heads) (length heads)) refl e
-  where
-    by_test : (b : Bool) → nat_lt (position_or_len (λ (h : MessageHead). h.id == id) heads) (length heads) ≡ b → (if b then Some (position_or_len (λ (h : MessageHead). h.id == id) heads) else None) ≡ None
-        → length heads ≤ position_or_len (λ (h : MessageHead). h.id == id) heads
-    by_test true is e = absurd (cc)
-    by_test false is e = grind (arith, nat_tests)

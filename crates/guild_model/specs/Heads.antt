@@ -1,5 +1,7 @@
 -- The kept messages of a guild: the latest 16,384, in order of arrival.
-use Rattle.std.specs.Prelude.{◌≡◌, ℕ, ◌≤◌, nat_lt, length, drop, List, [], ◌∷◌, ◌++◌, Bool, false, Option, if◌then◌else◌}
+use Rattle.std.specs.Prelude.{◌≡◌, ℕ, ◌≤◌, nat_lt, nat_eq, ◌-◌, length, take, drop, List, [], ◌∷◌, ◌++◌, Bool, false, Option, Some, None, if◌then◌else◌}
+use Rattle.std.specs.Map.{lookup}
+use Rattle.lru.specs.LruCache.{LruCache, last_entry, promoted}
 use Rattle.collections.specs.ById.{find_id, has_id, without_id, changed_id}
 use Rattle.guild_model.specs.declared.message.MessageHead.{MessageHead}
 
@@ -35,3 +37,36 @@ AreApart (h ∷ heads) = (has_head h.id heads ≡ false) × AreApart heads
 pub record AreRecent (heads : List MessageHead) : Type 0 where
   pub apart : AreApart heads
   pub few : length heads ≤ 16384
+
+-- ---- as they are kept: under their ids, the newest first
+
+abbrev pub arrivals : List (ℕ × MessageHead) → List MessageHead
+arrivals [] = []
+arrivals (e ∷ es) = arrivals es ++ e.1 ∷ []
+
+-- each stands under its own id, and under no other
+abbrev pub IsIndex : List (ℕ × MessageHead) → Type 0
+IsIndex [] = Unit {0}
+IsIndex (e ∷ es) = (e.1.id ≡ e.0) × (lookup (nat_eq e.0) es ≡ None) × IsIndex es
+
+pub record IsKept (c : LruCache ℕ MessageHead) : Type 0 where
+  pub index : IsIndex c.entries
+  pub few : length c.entries ≤ 16384
+  pub room : c.cap ≡ 16384
+
+-- the oldest becomes the newest where it stays, and else goes
+abbrev pub turned_by : (MessageHead → Bool) → Option (ℕ × MessageHead) → List (ℕ × MessageHead) → List (ℕ × MessageHead)
+turned_by keeps None es = es
+turned_by keeps (Some e) es = if keeps e.1 then promoted (nat_eq e.0) es else take (length es - 1) es
+
+abbrev pub turned : (MessageHead → Bool) → List (ℕ × MessageHead) → List (ℕ × MessageHead)
+turned keeps es = turned_by keeps (last_entry es) es
+
+-- there is none before the first message comes
+abbrev pub heads_of : Option (LruCache ℕ MessageHead) → List MessageHead
+heads_of None = []
+heads_of (Some c) = arrivals c.entries
+
+abbrev pub AreKept : Option (LruCache ℕ MessageHead) → Type 0
+AreKept None = Unit {0}
+AreKept (Some c) = IsKept c

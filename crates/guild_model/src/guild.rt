@@ -4,7 +4,8 @@ ghost use Rattle.collections.specs.ById.{find_id};
 
 use crate::channel::Channel;
 use crate::member::Member;
-use crate::message::{MessageHead, MessageHeads};
+use crate::message::MessageHead;
+use crate::message_heads::MessageHeads;
 use crate::presence::Presence;
 use crate::role::Role;
 use crate::thread::Thread;
