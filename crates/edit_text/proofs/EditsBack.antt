@@ -1,12 +1,8 @@
 -- The line of an edit reads back, nests little and has no float.
-use Rattle.std.proofs.Common.{◌≡◌, ℕ, ◌≤◌, ◌^◌, List, Bool, true, false, Option, Some, None, Ok, codes, refl, arith}
+use Rattle.std.proofs.Common.{◌≡◌, ℕ, ◌^◌, List, Bool, true, Option, Some, None, refl, arith}
 use Rattle.std.specs.Prelude.{nat_lt}
-use Rattle.std.proofs.lemmas.Bool.Decides.{nat_tests}
-use Rattle.serde_json.specs.Data.{Data, depth}
-use Rattle.serde_json.specs.Written.{has_float}
 use Rattle.serde_json.proofs.OnLiterals.{serde_json_on_literals}
 use Rattle.snowflake_id.proofs.Texts.{id_of_decimal}
-use Rattle.guild_model.specs.declared.moment.TheConstants.{END_OF_TIME}
 use Rattle.edit_apply.specs.declared.Edit.{Edit}
 use Rattle.edit_apply.specs.declared.Edit.TheVariants as edit
 use Rattle.edit_apply.specs.declared.guild.GuildEdit.{GuildEdit}
@@ -18,11 +14,7 @@ use Rattle.channel_edit.specs.declared.ChannelEdit.TheVariants.{ChannelCreate, C
 use Rattle.guild_model.specs.declared.channel.ChannelKind.{ChannelKind}
 use Rattle.guild_model.specs.declared.channel.OverwriteKind.{OverwriteKind}
 use Rattle.guild_model.proofs.Numbers.{channel_kind_back, overwrite_kind_back}
-use Rattle.edit_text.specs.declared.line.Line.TheVariants.{Edit as EditLine}
-use Rattle.edit_text.specs.Fields.{text_at, id_at}
 use Rattle.edit_text.specs.Fits.{IdFits, NullableIdFits, MaskFits, MomentFits, NullableMomentFits, GuildEditFits, RoleMemberEditFits, ChannelEditFits, EditFits}
-use Rattle.edit_text.specs.Names.{name_text}
-use Rattle.edit_text.specs.Edits.{edit_from, edit_name}
 use Rattle.edit_text.specs.Written.{edit_within, role_member_within, channel_within}
 use Rattle.edit_text.proofs.ReadsBack.{Back, PlainEdit, mask_below, mask_as_id, moment_below}
 use Rattle.edit_text.proofs.VoicesBack.{voice_presence_back, voice_presence_plain}

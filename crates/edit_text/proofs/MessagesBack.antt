@@ -1,5 +1,5 @@
 -- The line of an edit of messages, reactions or typing reads back, nests little and has no float.
-use Rattle.std.proofs.Common.{◌≡◌, ℕ, List, length, Bool, true, false, not, ◌&&◌, refl, sym, ap, ◌∙◌, arith}
+use Rattle.std.proofs.Common.{◌≡◌, ℕ, length, Bool, true, false, not, ◌&&◌, refl, arith}
 use Rattle.std.specs.Prelude.{nat_lt}
 use Rattle.serde_json.proofs.OnLiterals.{serde_json_on_literals}
 use Rattle.snowflake_id.proofs.Texts.{id_of_decimal}

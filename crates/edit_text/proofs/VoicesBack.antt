@@ -1,5 +1,5 @@
 -- The line of an edit of voice states or presences reads back, nests little and has no float.
-use Rattle.std.proofs.Common.{◌≡◌, ℕ, Bool, Option, Some, None, refl, arith}
+use Rattle.std.proofs.Common.{ℕ, Bool, Option, Some, None, refl, arith}
 use Rattle.serde_json.proofs.OnLiterals.{serde_json_on_literals}
 use Rattle.snowflake_id.proofs.Texts.{id_of_decimal}
 use Rattle.guild_model.specs.declared.presence.Status.{Status}

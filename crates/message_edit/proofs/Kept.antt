@@ -10,7 +10,7 @@ use Rattle.guild_model.specs.declared.verdict.Verdict.TheVariants.{IdTaken, Unkn
 use Rattle.guild_model.specs.Record.{Record}
 use Rattle.guild_model.specs.Heads.{head_id, find_head, has_head, arrived, with_mentions}
 use Rattle.guild_model.specs.Consistent.{IsConsistent, is_place}
-use Rattle.guild_model.specs.Tests.{outcome, refused_if, unknown_member, too_long}
+use Rattle.guild_model.specs.Tests.{outcome, unknown_member, too_long}
 use Rattle.guild_model.proofs.Tests.{first_passes, not_refused}
 use Rattle.guild_model.proofs.Kept.{messages_changed}
 use Rattle.message_edit.specs.declared.body.MessageBody.{MessageBody}

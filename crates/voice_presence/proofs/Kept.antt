@@ -2,7 +2,7 @@
 use Rattle.std.proofs.Common.{◌≡◌, ℕ, Bool, true, false, not, ◌&&◌, ◌||◌, ◌∷◌, [], Option, Some, None, if◌then◌else◌, refl, sym, ◌∙◌, subst, arith}
 use Rattle.std.specs.Prelude.{◌==◌}
 use Rattle.std.proofs.lemmas.Bool.Decides.{nat_tests}
-use Rattle.collections.specs.ById.{find_id, has_id, put_id, without_id}
+use Rattle.collections.specs.ById.{find_id, has_id}
 use Rattle.collections.proofs.Finds.{find-put, find-without}
 use Rattle.collections.proofs.Has.{has-put, has-without}
 use Rattle.guild_model.specs.declared.presence.Activity.{Activity}
@@ -11,7 +11,7 @@ use Rattle.guild_model.specs.declared.voice.Voice.{Voice}
 use Rattle.guild_model.specs.declared.verdict.Verdict.TheVariants.{UnknownMember, UnknownChannel, WrongType}
 use Rattle.guild_model.specs.Record.{Record, member_id, channel_id, voice_id, presence_id}
 use Rattle.guild_model.specs.Consistent.{IsConsistent}
-use Rattle.guild_model.specs.Tests.{refused_if, first_of, unknown_member, unknown_channel}
+use Rattle.guild_model.specs.Tests.{refused_if, unknown_member, unknown_channel}
 use Rattle.guild_model.proofs.Tests.{first_passes, not_refused}
 use Rattle.guild_model.proofs.Kept.{voices_changed, presences_changed}
 use Rattle.voice_presence.specs.Voices.{has_voice_there, no_voice_channel, voice_set_verdict, new_voice, voice_joined, voice_left}

@@ -1,5 +1,5 @@
 -- Members in voice channels (Voice Resource, Voice State Object).
-use Rattle.std.specs.Prelude.{ℕ, List, [], ◌∷◌, Bool, true, false, not, Option, Some, None}
+use Rattle.std.specs.Prelude.{ℕ, [], ◌∷◌, Bool, true, false, not, Option, Some, None}
 use Rattle.collections.specs.ById.{find_id, has_id, put_id, without_id}
 use Rattle.guild_model.specs.declared.channel.Channel.{Channel}
 use Rattle.guild_model.specs.declared.channel.ChannelKind.{ChannelKind}
