@@ -48,7 +48,7 @@ written-id : (s : Record) (author : Option User) (message place : ℕ) (mentions
 written-id s None message place mentions = refl
 written-id s (Some author) message place mentions = refl
 
-id-kept : (s : Record) (e : Edit) → (applied s e).id ≡ s.id
+pub id-kept : (s : Record) (e : Edit) → (applied s e).id ≡ s.id
 id-kept s (edit.Guild (GuildOpen name owner owner_name perms at)) = refl
 id-kept s (edit.Guild (GuildRename name)) = refl
 id-kept s (edit.Guild (GuildOwner user)) = refl
