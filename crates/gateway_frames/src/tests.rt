@@ -96,6 +96,28 @@ fn limits(rt: HostRuntime) -> Result<(), Fail> {
     Ok(())
 }
 
+// A question for members that names one of them more than once, and the frame that it is.
+fn asked(alloc: Global, more: usize) -> Result<(String, String), AllocError> {
+    let ids = "\"5\",".repeat(alloc, more)?;
+    let text = format!(in alloc;
+        "{{\"op\":8,\"d\":{{\"guild_id\":\"1\",\"user_ids\":[{ids}\"5\"]}}}}"
+    )?;
+    let frame = format!(in alloc;
+        "{{\"d\":{{\"guild_id\":\"1\",\"user_ids\":[{ids}\"5\"]}},\"op\":8}}"
+    )?;
+    Ok((text, frame))
+}
+
+#[test]
+fn repeated_users_count(rt: HostRuntime) -> Result<(), Fail> {
+    let alloc = rt.alloc();
+    let (text, frame) = asked(alloc, 99)?;
+    assert_eq!(rt; told(alloc, text.as_str())?.as_str(), frame.as_str());
+    let (text, _) = asked(alloc, 100)?;
+    assert_eq!(rt; told(alloc, text.as_str())?.as_str(), "BadShape");
+    Ok(())
+}
+
 #[test]
 fn worked_payloads(rt: HostRuntime) -> Result<(), Fail> {
     let alloc = rt.alloc();
