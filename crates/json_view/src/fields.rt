@@ -133,6 +133,17 @@ mod tests {
     }
 
     #[test]
+    fn null_is_there(rt: HostRuntime) -> Result<(), Fail> {
+        let object = value_of(rt.alloc(), b"{\"a\":null,\"b\":[]}")?.ok_or("no JSON")?;
+        assert!(rt; field_of(&object, "a").is_ok());
+        assert!(rt; given_of(&object, "a").is_none());
+        assert!(rt; given_of(&object, "b").is_some());
+        assert!(rt; given_of(&object, "z").is_none());
+        assert_eq!(rt; id_of(&object, "a"), Err(ViewFault::WrongType));
+        Ok(())
+    }
+
+    #[test]
     fn writes_an_object(rt: HostRuntime) -> Result<(), Fail> {
         let field = (String::from_str(rt.alloc(), "a")?, Value::Bool(true));
         let fields = Vec::from_array(rt.alloc(), [field])?;
