@@ -1,0 +1,25 @@
+use Rattle.std.proofs.Common.{◌≡◌, ℕ, List, map, string_bytes, refl, sym, ap, subst, ◌∙◌}
+use Rattle.std.proofs.Math.ListN.{get_or-map}
+use Rattle.scenario.specs.Played.{AppendsFront, PlayCause}
+use Rattle.gateway_main.specs.Words.{usage}
+use Rattle.gateway_main.specs.Gate.{Runs, AsksOnce}
+use Rattle.gateway_main.proofs.Words.{second_word, told_front}
+use Rattle.gateway_main.proofs.gate.gate.Goals as goal
+
+pub returns-then-not-is_run-clause-usage : goal.returns-then-not-is_run-clause-usage
+returns-then-not-is_run-clause-usage g c none =
+    let text : c.as_bytes.result.now ≡ usage = c.as_bytes.ensures.value in
+    subst (λ (t : List ℕ). AppendsFront (g.H.Out.Sink.got c.args.sink.now) (g.H.Out.Sink.got c.write_all-told.new.sink) t) text
+    (told_front c.write_all-told.result (g.H.Out.Sink.got c.args.sink.now) (g.H.Out.Sink.got c.write_all-told.new.sink) c.as_bytes.result.now c.write_all-told.ensures.ok c.write_all-told.ensures.err)
+
+pub returns-clause-run : goal.returns-clause-run
+returns-clause-run g c file is =
+    let word : c.as_str.result.now ≡ string_bytes c.index-words-1.result = c.as_str.ensures.value in
+    let second = second_word (map string_bytes c.args.words.now) file (string_bytes c.index-words-1.result) is in
+    let same : c.as_str.result.now ≡ file = word ∙ (ap string_bytes c.index-words-1.is ∙ (sym (get_or-map string_bytes c.args.words.now 1 c.index-words-1.result) ∙ second)) in (
+      c.run-played.result,
+      c.status_of.ensures,
+      subst (λ (f : List ℕ). Runs (g.H.House.contents c.args.house.now f) (g.H.House.returned c.args.house.now) (g.H.House.returned c.run-played.new.house) (g.H.Out.Sink.got c.args.sink.now) (g.H.Out.Sink.got c.run-played.new.sink) c.run-played.result) same c.run-played.ensures.runs,
+      subst (λ (f : List ℕ). AsksOnce (g.H.House.asks c.args.house.now) (g.H.House.asks c.run-played.new.house) f c.run-played.result) same c.run-played.ensures.asks,
+      c.run-played.ensures.cause,
+    )

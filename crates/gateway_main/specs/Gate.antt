@@ -1,0 +1,33 @@
+-- What the command answers and leaves.
+use Rattle.std.specs.Prelude.{◌≡◌, ◌⊎◌, ℕ, List, Result, Ok, Err, MatchResult}
+use Rattle.std.specs.declared.option.Option.{Option}
+use Rattle.gate_outside.specs.Houses.{Returned, GrowsBy, GivesOwn}
+use Rattle.scenario.specs.declared.fault.PlayFault.{PlayFault}
+use Rattle.scenario.specs.declared.fault.PlayFault.TheVariants.{Read, Write, Line, Spent, Memory}
+use Rattle.scenario.specs.Played.{PlaysAll, PlaysTo}
+
+-- the exit status
+abbrev pub status_of : Result (Unit {0}) PlayFault → ℕ
+status_of (Ok x) = 0
+status_of (Err Read) = 3
+status_of (Err Write) = 4
+status_of (Err (Line line fault)) = 5
+status_of (Err Memory) = 6
+status_of (Err Spent) = 12
+
+-- no source was given, and nothing was written or put back
+abbrev pub NotGiven : (returned0 returned1 : Option (List Returned)) (got0 got1 : Option (List ℕ)) → Result (Unit {0}) PlayFault → Type 0
+NotGiven returned0 returned1 got0 got1 played = (returned1 ≡ returned0) × (got1 ≡ got0) × ((played ≡ Err Read) ⊎ (played ≡ Err Memory))
+
+-- a source of these bytes was played, and put back
+abbrev pub Given : Option (List ℕ) → (returned0 returned1 : Option (List Returned)) (got0 got1 : Option (List ℕ)) → Result (Unit {0}) PlayFault → Type 0
+Given own returned0 returned1 got0 got1 played = (left0 left1 : Option (List ℕ)) × ((faults : ℕ) × (GivesOwn own left0
+    × MatchResult played (λ _. PlaysAll left0 left1 got0 got1) (PlaysTo left0 left1 got0 got1)
+    × GrowsBy returned0 returned1 (record { left = left1; faults = faults })))
+
+abbrev pub Runs : Option (List ℕ) → (returned0 returned1 : Option (List Returned)) (got0 got1 : Option (List ℕ)) → Result (Unit {0}) PlayFault → Type 0
+Runs own returned0 returned1 got0 got1 played = NotGiven returned0 returned1 got0 got1 played ⊎ Given own returned0 returned1 got0 got1 played
+
+-- the file was asked for once, or memory was wanted before
+abbrev pub AsksOnce : (asks0 asks1 : Option (List (List ℕ))) → List ℕ → Result (Unit {0}) PlayFault → Type 0
+AsksOnce asks0 asks1 file played = GrowsBy asks0 asks1 file ⊎ ((asks1 ≡ asks0) × (played ≡ Err Memory))

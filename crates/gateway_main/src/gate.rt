@@ -1,0 +1,101 @@
+//! The command, over a house that gives sources by their names.
+ghost use Rattle.std.specs.Prelude.{◌≡◌, ◌↔◌, ℕ, List, Result, Some, None, true, is_some, map, string_bytes};
+ghost use Rattle.worker_core.specs.Law.{EachRunHolds, EachSendHolds};
+ghost use Rattle.gate_outside.specs.Causes.{FaultHasCause};
+ghost use Rattle.scenario.specs.declared.fault.PlayFault.{PlayFault as Fault};
+ghost use Rattle.scenario.specs.Played.{AppendsFront, PlayCause};
+ghost use Rattle.gateway_main.specs.Words.{is_file, run_file, usage};
+ghost use Rattle.gateway_main.specs.Gate.{status_of, Runs, AsksOnce};
+
+use gate_outside::faults;
+use gate_outside::houses::House;
+use gate_outside::streams::write_all;
+use scenario::{PlayFault, play};
+use std::alloc::Global;
+use worker_core::law::{projection_of_a_prefix, sends_are_of_sessions};
+
+/// The words that the command takes.
+pub const USAGE: &str =
+    "usage: gate run FILE | serve PORT WORKERS ACCEPTS FILES | client URL TOKEN INTENTS COUNT | load SEED\n";
+
+/// The exit status where the words are not of the grammar.
+pub const BAD_WORDS: u8 = 2;
+
+fn is_file(word: &str) -> bool
+    ensures { result ≡ is_file word.now }
+{
+    match word.as_bytes() {
+        [b'-', _, ..] => false,
+        _ => true,
+    }
+}
+
+fn is_run(words: &[String]) -> bool
+    ensures { result ≡ is_some (run_file (map string_bytes words.now)) }
+{
+    match words {
+        [command, file] => command.as_str() == "run" && is_file(file.as_str()),
+        _ => false,
+    }
+}
+
+fn status_of(played: &Result<(), PlayFault>) -> u8
+    ensures { result ≡ status_of played.now }
+{
+    match played {
+        Ok(()) => 0,
+        Err(PlayFault::Read) => 3,
+        Err(PlayFault::Write) => 4,
+        Err(PlayFault::Line { .. }) => 5,
+        Err(PlayFault::Memory) => 6,
+        Err(PlayFault::Spent) => 12,
+    }
+}
+
+// Plays the file of that name, and puts its source back.
+fn run<H: House>(
+    alloc: Global,
+    file: &str,
+    house: &mut H,
+    sink: &mut H::Out,
+) -> Result<(), PlayFault>
+    ensures runs { Runs (H.contents house.old file.now) (H.returned house.old) (H.returned house.new) (H.Out.got sink.old) (H.Out.got sink.new) result }
+    ensures asks { AsksOnce (H.asks house.old) (H.asks house.new) file.now result }
+    ensures cause { PlayCause (H.source_faults house.old) (H.source_faults house.new) (H.Out.faults sink.old) (H.Out.faults sink.new) result }
+{
+    match house.source(file) {
+        Ok(source) => {
+            let mut source = source;
+            let played = play(alloc, &mut source, sink);
+            house.put_back(source);
+            played
+        }
+        Err(faults::Fault::Failed) => Err(PlayFault::Read),
+        Err(faults::Fault::Memory) => Err(PlayFault::Memory),
+    }
+}
+
+/// Does what the words say, and answers the exit status. `run FILE` plays the step file and writes
+/// its transcript: 0, or 3 where the file could not be read, 4 where the sink failed, 5 where a line
+/// was refused, 6 for want of memory, 12 where a count of the server is spent. Other words are
+/// answered by the usage line and 2.
+pub fn gate<H: House>(alloc: Global, words: &[String], house: &mut H, sink: &mut H::Out) -> u8
+    ensures words { (result ≡ 2) ↔ (run_file (map string_bytes words.now) ≡ None) }
+    ensures usage { run_file (map string_bytes words.now) ≡ None → AppendsFront (H.Out.got sink.old) (H.Out.got sink.new) usage }
+    ensures asks_nothing { run_file (map string_bytes words.now) ≡ None → H.asks house.new ≡ H.asks house.old }
+    ensures run { (file : List ℕ) → run_file (map string_bytes words.now) ≡ Some file → (played : Result (Unit {0}) Fault) × (result ≡ status_of played)
+        × Runs (H.contents house.old file) (H.returned house.old) (H.returned house.new) (H.Out.got sink.old) (H.Out.got sink.new) played
+        × AsksOnce (H.asks house.old) (H.asks house.new) file played
+        × PlayCause (H.source_faults house.old) (H.source_faults house.new) (H.Out.faults sink.old) (H.Out.faults sink.new) played }
+    ensures folds { EachRunHolds }
+    ensures sends { EachSendHolds }
+{
+    projection_of_a_prefix();
+    sends_are_of_sessions();
+    if !is_run(words) {
+        let _told = write_all(sink, USAGE.as_bytes());
+        return BAD_WORDS;
+    }
+    let played = run(alloc, words[1].as_str(), house, sink);
+    status_of(&played)
+}

@@ -1,0 +1,84 @@
+-- One line, as it is read and played.
+use Rattle.std.proofs.Common.{◌≡◌, ◌⊎◌, ℕ, List, [], ◌∷◌, ◌++◌, Bool, true, false, Option, Some, None, Result, Ok, Err, OnOk, if◌then◌else◌, inl, inr, refl, sym, ap, ◌∙◌, subst}
+use Rattle.std.specs.Prelude.{flat_map}
+use Rattle.std.specs.declared.option.Option.{Option as Known}
+use Rattle.std.specs.Io.KnownBytes.{Appends}
+use Rattle.std.proofs.KnownBytes.{Appends-nil}
+use Rattle.gate_outside.specs.declared.faults.Fault.{Fault}
+use Rattle.gate_outside.specs.declared.faults.Fault.TheVariants as outside
+use Rattle.edit_text.specs.declared.fault.LineFault.{LineFault}
+use Rattle.edit_text.specs.declared.fault.LineFault.TheVariants.{Memory}
+use Rattle.edit_text.specs.declared.line.Line.{Line}
+use Rattle.edit_text.specs.declared.reader.StepReader.{StepReader}
+use Rattle.edit_text.specs.Fault.{UnlessMemory}
+use Rattle.edit_text.specs.Lines.{line_of, reader_after}
+use Rattle.worker_core.specs.declared.io.StepFault.{StepFault}
+use Rattle.worker_core.specs.declared.io.StepFault.TheVariants as step
+use Rattle.worker_core.specs.Outputs.{all_written}
+use Rattle.scenario.specs.declared.fault.PlayFault.{PlayFault}
+use Rattle.scenario.specs.declared.stage.Stage.{Stage}
+use Rattle.scenario.specs.declared.stage.Answer.{Answer}
+use Rattle.scenario.specs.Player.{Player, world, step_of, step_sends, played}
+use Rattle.scenario.specs.Texts.{refused_text, written_line}
+use Rattle.scenario.specs.Transcript.{Ending, Whole, Stops, Spends, line_refusal, line_text, line_spends, line_ending, read_text, read_ending, after_read, heard_text, heard_ending}
+use Rattle.scenario.specs.Stands.{Stands, Plays, PlaysNot}
+use Rattle.scenario.specs.Played.{fault_of, step_fault, AppendsFront, answer_text, Ends, Hears}
+use Rattle.scenario.proofs.Fronts.{no_front}
+
+-- ---- what was read
+
+pub read_ok : (result answer : Result (Option Line) LineFault) (x : Option Line) → result ≡ Ok x → UnlessMemory result answer → answer ≡ Ok x
+read_ok result answer x is (inl none) = absurd (cc)
+read_ok result answer x is (inr same) = sym same ∙ is
+
+pub read_err : (result answer : Result (Option Line) LineFault) (f : LineFault) → result ≡ Err f → ¬ (f ≡ Memory) → UnlessMemory result answer → answer ≡ Err f
+read_err result answer f is other (inl none) = absurd (other (cc))
+read_err result answer f is other (inr same) = sym same ∙ is
+
+-- ---- a line that is played
+
+pub fails_ends : (fault : StepFault) (p : Player) (line : Line) (number : ℕ) (got : Known (List ℕ)) → PlaysNot p line fault → Ends got got (line_text p number line) (line_ending p line) (step_fault fault)
+fails_ends step.Spent p line number got h = (no_front got (line_text p number line), ap (λ b. if b then Spends else Whole) h)
+fails_ends step.Memory p line number got h = no_front got (line_text p number line)
+
+pub write_ends : (fault : Fault) (got0 got1 : Known (List ℕ)) (text : List ℕ) (end : Ending) → AppendsFront got0 got1 text → Ends got0 got1 text end (fault_of fault)
+write_ends outside.Failed got0 got1 text end h = h
+write_ends outside.Memory got0 got1 text end h = h
+
+pub text_is : (p : Player) (number : ℕ) (line : Line) (a : Answer) → a.refusal ≡ line_refusal p line → a.outputs.items ≡ all_written (step_sends (world p) (step_of p line)) → answer_text number a ≡ line_text p number line
+text_is p number line a refusal outputs =
+    ap (λ r. refused_text number r ++ flat_map written_line a.outputs.items) refusal ∙ ap (λ os. refused_text number (line_refusal p line) ++ flat_map written_line os) outputs
+
+-- ---- a line that is heard
+
+module _ (r : StepReader) (p : Player) (bytes : List ℕ) (number : ℕ) (counted : number ≡ (reader_after r bytes).lines) (got0 got1 : Known (List ℕ)) where
+  HearsAs : Result (Option Line) LineFault → ℕ → Stage → Type 0
+  HearsAs o n new = Stands new (after_read p o) × (Appends got0 got1 (read_text p n o) × (read_ending p n o ≡ Whole))
+
+  pub hears_line : (new : Stage) (line : Line) → line_of r bytes ≡ Ok (Some line) → Stands new (played p line) → Appends got0 got1 (line_text p number line) → line_spends p line ≡ false
+      → Hears r p bytes got0 got1 new
+  unfolding HearsAs
+  hears_line new line is stands wrote spends =
+      subst (λ o. HearsAs o (reader_after r bytes).lines new) (sym is)
+      (subst (λ n. HearsAs (Ok (Some line)) n new) counted (stands, (wrote, ap (λ b. if b then Spends else Whole) spends)))
+
+  pub hears_blank : (new : Stage) → line_of r bytes ≡ Ok None → Stands new p → got1 ≡ got0 → Hears r p bytes got0 got1 new
+  unfolding HearsAs
+  hears_blank new is stands same =
+      subst (λ o. HearsAs o (reader_after r bytes).lines new) (sym is) (stands, (subst (λ g. Appends got0 g []) (sym same) (Appends-nil got0), refl))
+
+  pub ends_as : (o : Result (Option Line) LineFault) (fault : PlayFault) → line_of r bytes ≡ o → Ends got0 got1 (read_text p number o) (read_ending p number o) fault
+      → Ends got0 got1 (heard_text r p bytes) (heard_ending r p bytes) fault
+  ends_as o fault is ends =
+      subst (λ a. Ends got0 got1 (read_text p (reader_after r bytes).lines a) (read_ending p (reader_after r bytes).lines a) fault) (sym is)
+      (subst (λ n. Ends got0 got1 (read_text p n o) (read_ending p n o) fault) counted ends)
+
+-- ---- what a reader has read
+
+pub reader_moved : (result : Result (Option Line) LineFault) (x : Option Line) (new after : StepReader) → result ≡ Ok x → (result ≡ Err Memory) ⊎ (new ≡ after) → new ≡ after
+reader_moved result x new after is (inl none) = absurd (cc)
+reader_moved result x new after is (inr same) = same
+
+pub ok_always : {T E : Type 0} (r : Result T E) (P : Type 0) → P → OnOk r P
+ok_always (Ok x) P p = p
+ok_always (Err e) P p = tt

@@ -1,0 +1,9 @@
+pub mod Lists
+pub mod Fronts
+pub mod Stops
+pub mod Bytes
+pub mod Hears
+pub mod Plays
+pub mod Seats
+pub mod Worlds
+pub mod Stages

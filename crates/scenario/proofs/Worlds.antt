@@ -1,0 +1,43 @@
+-- The world of a player, step by step.
+use Rattle.std.proofs.Common.{◌≡◌, ℕ, List, [], ◌∷◌, ◌++◌, Bool, true, false, Option, Some, None, if◌then◌else◌, length, map, refl, sym, ap, ◌∙◌, subst}
+use Rattle.std.specs.Prelude.{◌==◌, flat_map, drop}
+use Rattle.edit_apply.specs.declared.Edit.{Edit}
+use Rattle.worker_core.specs.World.{Worker, World, Step, Edits, Looks, Opens, Frames, Input, Look, Open, Frame, taken, at_worker, stepped, run, seen_with}
+use Rattle.scenario.specs.Player.{Player, world, given, for_worker, step_sends, step_spends, with_step}
+use Rattle.scenario.specs.Stands.{moved, all_moved, all_sends, any_spends}
+
+pub run_more : (ss : List Step) (m : World) (s : Step) → run m (ss ++ s ∷ []) ≡ stepped (run m ss) s
+run_more [] m s = refl
+run_more (x ∷ ss) m s = run_more ss (stepped m x) s
+
+moved_if : (b : Bool) (i : Input) (w : Worker) → (if b then taken w i else w) ≡ moved w (if b then Some i else None)
+moved_if true i w = refl
+moved_if false i w = refl
+
+map_same : (f g : Worker → Worker) → ((w : Worker) → f w ≡ g w) → (ws : List Worker) → map f ws ≡ map g ws
+map_same f g h [] = refl
+map_same f g h (w ∷ ws) = ap (λ v. v ∷ map f ws) (h w) ∙ ap (λ vs. g w ∷ vs) (map_same f g h ws)
+
+unmoved : (ws : List Worker) → ws ≡ map (λ w. w) ws
+unmoved [] = refl
+unmoved (w ∷ ws) = ap (λ vs. w ∷ vs) (unmoved ws)
+
+-- a step gives each worker what is given to it
+pub stepped_workers : (s : Step) (m : World) → (stepped m s).workers ≡ all_moved (given m s) m.workers
+stepped_workers (Edits g e) m = unmoved m.workers
+stepped_workers (Looks n g) m = map_same _ _ (λ w. moved_if (w.core.worker == n) (Look g (drop (length (w.seen g)) (m.logs g))) w) m.workers
+stepped_workers (Opens n conn) m = map_same _ _ (λ w. moved_if (w.core.worker == n) (Open conn) w) m.workers
+stepped_workers (Frames n conn text) m = map_same _ _ (λ w. moved_if (w.core.worker == n) (Frame conn text) w) m.workers
+
+-- the world after one more step
+pub world_step : (p : Player) (s : Step) → world (with_step (Some s) p) ≡ stepped (world p) s
+world_step p s = run_more p.steps _ s
+
+-- an edit gives nothing to a worker
+pub edit_sends : (g : ℕ) (e : Edit) (m : World) (ws : List Worker) → all_sends (given m (Edits g e)) ws ≡ []
+edit_sends g e m [] = refl
+edit_sends g e m (w ∷ ws) = edit_sends g e m ws
+
+pub edit_spends : (g : ℕ) (e : Edit) (m : World) (ws : List Worker) → any_spends (given m (Edits g e)) ws ≡ false
+edit_spends g e m [] = refl
+edit_spends g e m (w ∷ ws) = edit_spends g e m ws

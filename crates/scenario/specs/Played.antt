@@ -1,0 +1,123 @@
+-- What playing leaves in a source and a sink.
+use Rattle.std.specs.Prelude.{◌≡◌, ℕ, ◌≤◌, ◌-◌, ◌*◌, List, [], ◌∷◌, ◌++◌, length, flat_map, Result, Ok, Err}
+use Rattle.std.specs.declared.option.Option.{Option}
+use Rattle.std.specs.declared.option.Option.TheVariants.{Some, None}
+use Rattle.std.specs.Io.KnownBytes.{Appends, Consumes, IsAtEnd}
+use Rattle.gate_outside.specs.Causes.{Rose}
+use Rattle.gate_outside.specs.declared.faults.Fault.{Fault}
+use Rattle.gate_outside.specs.declared.faults.Fault.TheVariants as outside
+use Rattle.edit_text.specs.declared.reader.StepReader.{StepReader}
+use Rattle.edit_text.specs.Lines.{reader_after}
+use Rattle.worker_core.specs.declared.io.StepFault.{StepFault}
+use Rattle.worker_core.specs.declared.io.StepFault.TheVariants as step
+use Rattle.scenario.specs.declared.fault.PlayFault.{PlayFault}
+use Rattle.scenario.specs.declared.fault.PlayFault.TheVariants.{Read, Write, Line, Spent, Memory}
+use Rattle.scenario.specs.declared.stage.Stage.{Stage}
+use Rattle.scenario.specs.declared.stage.Answer.{Answer}
+use Rattle.scenario.specs.declared.player.Play.{Play}
+use Rattle.scenario.specs.Lines.{whole_lines, tail}
+use Rattle.scenario.specs.Player.{Player}
+use Rattle.scenario.specs.Texts.{written_line, refused_text}
+use Rattle.scenario.specs.Transcript.{Ending, Whole, Stops, Spends, heard, heard_text, heard_ending, text_of, ending_of, reader_of, player_of, transcript, ending}
+use Rattle.scenario.specs.Stands.{Stands}
+
+-- ---- the faults of the crates below, as faults of a play
+
+abbrev pub fault_of : Fault → PlayFault
+fault_of outside.Failed = Write
+fault_of outside.Memory = Memory
+
+abbrev pub step_fault : StepFault → PlayFault
+step_fault step.Spent = Spent
+step_fault step.Memory = Memory
+
+-- ---- what was written
+
+-- the known bytes grew by a front of the text
+abbrev pub AppendsFront : (got0 got1 : Option (List ℕ)) → List ℕ → Type 0
+AppendsFront got0 got1 text = (front back : List ℕ) × (front ++ back ≡ text) × Appends got0 got1 front
+
+-- a sink's count rose exactly where the answer is that a write failed
+abbrev pub WriteCause : {T : Type 0} → (before now : ℕ) → Result T PlayFault → Type 0
+WriteCause before now (Ok x) = now ≡ before
+WriteCause before now (Err Read) = ⊥
+WriteCause before now (Err Write) = Rose before now
+WriteCause before now (Err (Line line fault)) = now ≡ before
+WriteCause before now (Err Spent) = now ≡ before
+WriteCause before now (Err Memory) = now ≡ before
+
+-- ---- one line
+
+abbrev pub answer_text : ℕ → Answer → List ℕ
+answer_text number a = refused_text number a.refusal ++ flat_map written_line a.outputs.items
+
+-- how a text of this ending was left: with the fault of a line whole, else a front of it
+abbrev pub Ends : (got0 got1 : Option (List ℕ)) → List ℕ → Ending → PlayFault → Type 0
+Ends got0 got1 text end Read = ⊥
+Ends got0 got1 text end Write = AppendsFront got0 got1 text
+Ends got0 got1 text end (Line line fault) = Appends got0 got1 text × (end ≡ Stops line fault)
+Ends got0 got1 text end Spent = AppendsFront got0 got1 text × (end ≡ Spends)
+Ends got0 got1 text end Memory = AppendsFront got0 got1 text
+
+-- a line that was played
+abbrev pub Hears : StepReader → Player → List ℕ → (got0 got1 : Option (List ℕ)) → Stage → Type 0
+Hears r p line got0 got1 new = Stands new (heard r p line) × (Appends got0 got1 (heard_text r p line) × (heard_ending r p line ≡ Whole))
+
+-- ---- bytes
+
+-- all lines among the bytes that end with a line feed were played
+pub record Playing (got0 got1 : Option (List ℕ)) (k : Play) (bytes : List ℕ) : Type 0 where
+  pub reader : k.reader ≡ reader_of (whole_lines bytes)
+  pub part : k.part.items ≡ tail bytes
+  pub stands : Stands k.stage (player_of (whole_lines bytes))
+  pub wrote : Appends got0 got1 (text_of (whole_lines bytes))
+  pub goes_on : ending_of (whole_lines bytes) ≡ Whole
+
+-- how a play stopped among these bytes, whichever of these bytes follow
+abbrev pub StopsAt : (got0 got1 : Option (List ℕ)) → List ℕ → (List ℕ → Type 0) → PlayFault → Type 0
+StopsAt got0 got1 bytes Follows fault = (rest : List ℕ) → Follows rest → Ends got0 got1 (transcript (bytes ++ rest)) (ending (bytes ++ rest)) fault
+
+abbrev pub Anything : List ℕ → Type 0
+Anything rest = Unit {0}
+
+abbrev pub Nothing : List ℕ → Type 0
+Nothing rest = rest ≡ []
+
+-- no line is too long so far
+abbrev pub Fits : Play → Type 0
+Fits k = (k.reader.lines ≤ 1000000) × (length k.part.items ≤ 65536)
+
+-- more than the bytes that may come before a line is refused for its length or its number
+abbrev pub room : Play → ℕ
+room k = (1000001 - k.reader.lines) * 65538 - length k.part.items
+
+-- ---- a whole play
+
+-- the whole of the source was read, and the sink got its transcript, which no line ends
+abbrev pub PlaysAll : (left0 left1 got0 got1 : Option (List ℕ)) → Type 0
+PlaysAll left0 left1 got0 got1 = (bytes : List ℕ) × Consumes left0 left1 bytes × IsAtEnd left1 × Appends got0 got1 (transcript bytes) × (ending bytes ≡ Whole)
+
+-- the sink got the transcript of the whole lines that were read, none of which ends it
+abbrev pub PlaysLines : (left0 left1 got0 got1 : Option (List ℕ)) → Type 0
+PlaysLines left0 left1 got0 got1 = (bytes : List ℕ) × Consumes left0 left1 bytes × Appends got0 got1 (text_of (whole_lines bytes)) × (ending_of (whole_lines bytes) ≡ Whole)
+
+-- the bytes that are left follow those that were read
+abbrev pub PlaysPart : (left0 left1 got0 got1 : Option (List ℕ)) → PlayFault → Type 0
+PlaysPart left0 left1 got0 got1 fault = (bytes : List ℕ) × Consumes left0 left1 bytes × StopsAt got0 got1 bytes (λ rest. left1 ≡ Some rest) fault
+
+-- what a play that did not end well leaves
+abbrev pub PlaysTo : (left0 left1 got0 got1 : Option (List ℕ)) → PlayFault → Type 0
+PlaysTo left0 left1 got0 got1 Read = PlaysLines left0 left1 got0 got1
+PlaysTo left0 left1 got0 got1 Write = PlaysPart left0 left1 got0 got1 Write
+PlaysTo left0 left1 got0 got1 (Line line fault) = PlaysPart left0 left1 got0 got1 (Line line fault)
+PlaysTo left0 left1 got0 got1 Spent = PlaysPart left0 left1 got0 got1 Spent
+PlaysTo left0 left1 got0 got1 Memory = PlaysPart left0 left1 got0 got1 Memory
+
+-- a fault of the source or the sink is answered exactly where its count rose
+abbrev pub PlayCause : (read0 read1 write0 write1 : ℕ) → Result (Unit {0}) PlayFault → Type 0
+PlayCause read0 read1 write0 write1 (Ok x) = (read1 ≡ read0) × (write1 ≡ write0)
+PlayCause read0 read1 write0 write1 (Err Read) = Rose read0 read1 × (write1 ≡ write0)
+PlayCause read0 read1 write0 write1 (Err Write) = (read1 ≡ read0) × Rose write0 write1
+PlayCause read0 read1 write0 write1 (Err (Line line fault)) = (read1 ≡ read0) × (write1 ≡ write0)
+PlayCause read0 read1 write0 write1 (Err Spent) = (read1 ≡ read0) × (write1 ≡ write0)
+PlayCause read0 read1 write0 write1 (Err Memory) = (read1 ≡ read0) × (write1 ≡ write0)

@@ -1,0 +1,124 @@
+-- The transcript of a step file.
+use Rattle.std.specs.Prelude.{ℕ, List, [], ◌∷◌, ◌++◌, Bool, true, false, Option, Some, None, Result, Ok, Err, if◌then◌else◌}
+use Rattle.guild_model.specs.declared.verdict.Verdict.{Verdict}
+use Rattle.edit_text.specs.declared.fault.LineFault.{LineFault}
+use Rattle.edit_text.specs.declared.line.FileKind.TheVariants.{Run}
+use Rattle.edit_text.specs.declared.line.Line.{Line}
+use Rattle.edit_text.specs.declared.line.Line.TheVariants.{Bot, Guild, Edit, Look, Open, Frame, Lost, Closed, Tick}
+use Rattle.edit_text.specs.declared.reader.StepReader.{StepReader}
+use Rattle.edit_text.specs.Lines.{line_of, reader_after}
+use Rattle.scenario.specs.Lines.{lines_of}
+use Rattle.scenario.specs.Player.{Player, first_player, world, refusal, step_of, played, step_sends, step_spends}
+use Rattle.scenario.specs.Texts.{sends_text, refused_text, stop_line}
+
+abbrev pub first_reader : StepReader
+first_reader = record { kind = Run; lines = 0; stepped = false; guilds = [] }
+
+-- ---- one line
+
+-- why the edit of a line is refused, if it is one that is
+abbrev pub line_refusal : Player → Line → Option Verdict
+line_refusal p (Bot token user name privileged) = None
+line_refusal p (Guild id) = None
+line_refusal p (Edit guild edit) = refusal p guild edit
+line_refusal p (Look worker guild) = None
+line_refusal p (Open worker conn) = None
+line_refusal p (Frame conn text) = None
+line_refusal p (Lost conn) = None
+line_refusal p (Closed conn code) = None
+line_refusal p (Tick worker now) = None
+
+abbrev pub line_text : Player → ℕ → Line → List ℕ
+line_text p number line = refused_text number (line_refusal p line) ++ sends_text (step_sends (world p) (step_of p line))
+
+abbrev pub line_spends : Player → Line → Bool
+line_spends p line = step_spends (world p) (step_of p line)
+
+-- how a play ends, the line by its number, from 1
+pub data Ending : Type 0 where
+  -- every line was played
+  Whole : Ending
+  -- a line was refused
+  Stops : (line : ℕ) (fault : LineFault) → Ending
+  -- a count of a worker is at its last value
+  Spends : Ending
+
+abbrev pub line_ending : Player → Line → Ending
+line_ending p line = if line_spends p line then Spends else Whole
+
+-- what a line that was read, by its number, gives to the transcript, makes of the player, and ends
+abbrev pub read_text : Player → ℕ → Result (Option Line) LineFault → List ℕ
+read_text p number (Err fault) = stop_line number fault
+read_text p number (Ok None) = []
+read_text p number (Ok (Some line)) = line_text p number line
+
+abbrev pub after_read : Player → Result (Option Line) LineFault → Player
+after_read p (Err fault) = p
+after_read p (Ok None) = p
+after_read p (Ok (Some line)) = played p line
+
+abbrev pub read_ending : Player → ℕ → Result (Option Line) LineFault → Ending
+read_ending p number (Err fault) = Stops number fault
+read_ending p number (Ok None) = Whole
+read_ending p number (Ok (Some line)) = line_ending p line
+
+-- ---- all lines
+
+abbrev pub is_read : {A : Type 0} → Result A LineFault → Bool
+is_read (Ok line) = true
+is_read (Err fault) = false
+
+-- the number of a line that a reader reads next
+abbrev pub number_of : StepReader → List ℕ → ℕ
+number_of r line = (reader_after r line).lines
+
+abbrev pub heard_text : StepReader → Player → List ℕ → List ℕ
+heard_text r p line = read_text p (number_of r line) (line_of r line)
+
+abbrev pub heard : StepReader → Player → List ℕ → Player
+heard r p line = after_read p (line_of r line)
+
+abbrev pub heard_ending : StepReader → Player → List ℕ → Ending
+heard_ending r p line = read_ending p (number_of r line) (line_of r line)
+
+-- what is written for lines; nothing follows a line that is refused
+abbrev pub text_from : StepReader → Player → List (List ℕ) → List ℕ
+text_from r p [] = []
+text_from r p (line ∷ lines) = heard_text r p line ++ (if is_read (line_of r line) then text_from (reader_after r line) (heard r p line) lines else [])
+
+abbrev pub then_ending : Ending → Ending → Ending
+then_ending Whole later = later
+then_ending (Stops line fault) later = Stops line fault
+then_ending Spends later = Spends
+
+abbrev pub ending_from : StepReader → Player → List (List ℕ) → Ending
+ending_from r p [] = Whole
+ending_from r p (line ∷ lines) = then_ending (heard_ending r p line) (ending_from (reader_after r line) (heard r p line) lines)
+
+-- the reader and the player after lines
+abbrev pub reader_from : StepReader → List (List ℕ) → StepReader
+reader_from r [] = r
+reader_from r (line ∷ lines) = reader_from (reader_after r line) lines
+
+abbrev pub player_from : StepReader → Player → List (List ℕ) → Player
+player_from r p [] = p
+player_from r p (line ∷ lines) = player_from (reader_after r line) (heard r p line) lines
+
+abbrev pub text_of : List (List ℕ) → List ℕ
+text_of lines = text_from first_reader first_player lines
+
+abbrev pub ending_of : List (List ℕ) → Ending
+ending_of lines = ending_from first_reader first_player lines
+
+abbrev pub reader_of : List (List ℕ) → StepReader
+reader_of lines = reader_from first_reader lines
+
+abbrev pub player_of : List (List ℕ) → Player
+player_of lines = player_from first_reader first_player lines
+
+-- the transcript of a file, and how its play ends
+unfoldable pub transcript : List ℕ → List ℕ
+transcript bytes = text_of (lines_of bytes)
+
+unfoldable pub ending : List ℕ → Ending
+ending bytes = ending_of (lines_of bytes)

@@ -1,0 +1,43 @@
+//! A step file played from its source to a sink.
+ghost use Rattle.std.specs.Prelude.{◌≡◌, true, OnOk, MatchResult};
+ghost use Rattle.worker_core.specs.Law.{EachRunHolds, EachSendHolds};
+ghost use Rattle.scenario.specs.Played.{PlaysAll, PlaysTo, PlayCause};
+
+use crate::fault::PlayFault;
+use crate::player::Play;
+use gate_outside::piece::Piece;
+use gate_outside::streams::{Sink, Source};
+use std::alloc::Global;
+use worker_core::law::{projection_of_a_prefix, sends_are_of_sessions};
+
+/// Plays a step file on four workers, from its source to its end, and writes its transcript: a line
+/// for each text that goes out, for each edit that is refused, and for a line that is refused, which
+/// ends the play.
+///
+/// With `Ok` the sink got the transcript of the whole file. After `Read` it got that of the whole
+/// lines that were read, after `Line` that of the file, which ends with the line that was refused,
+/// and else a front of it.
+pub fn play<S: Source, K: Sink>(
+    alloc: Global,
+    source: &mut S,
+    sink: &mut K,
+) -> Result<(), PlayFault>
+    ensures plays { MatchResult result
+        (λ _. PlaysAll (S.left source.old) (S.left source.new) (K.got sink.old) (K.got sink.new))
+        (PlaysTo (S.left source.old) (S.left source.new) (K.got sink.old) (K.got sink.new)) }
+    ensures ended { OnOk result (S.ended source.new ≡ true) }
+    ensures cause { PlayCause (S.faults source.old) (S.faults source.new) (K.faults sink.old) (K.faults sink.new) result }
+    ensures folds { EachRunHolds }
+    ensures sends { EachSendHolds }
+{
+    projection_of_a_prefix();
+    sends_are_of_sessions();
+    let mut play = Play::new(alloc);
+    let mut piece = Piece::new(alloc)?;
+    piece.fill(source)?;
+    while !piece.bytes().is_empty() {
+        play.feed(sink, piece.bytes())?;
+        piece.fill(source)?;
+    }
+    play.finish(sink)
+}

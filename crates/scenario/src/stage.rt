@@ -1,0 +1,234 @@
+//! What the lines of a step file are played on.
+ghost use Rattle.std.specs.Prelude.{◌≡◌, OnOk, IfOk, MatchResult, []};
+ghost use Rattle.collections.specs.ById.{find_id};
+ghost use Rattle.edit_text.specs.declared.line.Line.TheVariants as line;
+ghost use Rattle.scenario.specs.Player.{Player, has_token, refusal, first_player};
+ghost use Rattle.scenario.specs.Stands.{Stands, Plays, PlaysNot, log_id, away};
+ghost use Rattle.scenario.specs.Transcript.{line_refusal};
+
+use crate::guild_log::GuildLog;
+use crate::opened::Opened;
+use crate::seat;
+use crate::seat::{Seat, start};
+use collections::{ById, Seq, Text};
+use edit_apply::Edit;
+use edit_text::Line;
+use guild_model::Verdict;
+use session_core::Bot;
+use snowflake_id::Snowflake;
+use std::alloc::{AllocError, Global};
+use worker_core::{Output, StepFault};
+
+/// The most entries of a guild's log.
+const LOG_ENTRIES: usize = 16_384;
+
+/// The bots and guilds of the head lines, the logs, the connection numbers that were used, and the
+/// workers, which are there from the first step on.
+#[derive(Drop)]
+pub struct Stage {
+    alloc: Global,
+    bots: Seq<Bot>,
+    guilds: Seq<Snowflake>,
+    logs: ById<GuildLog>,
+    used: ById<Opened>,
+    seats: Vec<Seat>,
+}
+
+/// What comes of a line.
+#[derive(Drop)]
+pub struct Answer {
+    pub refusal: Option<Verdict>,
+    pub outputs: Vec<Output>,
+}
+
+fn knows(bots: &[Bot], token: &str) -> bool
+    ensures { result ≡ has_token token.now bots.now }
+{
+    bots.iter().any(|bot| bot.token.is(token))
+}
+
+impl Stage {
+    /// Before the first line.
+    pub fn new(alloc: Global) -> Stage
+        ensures { Stands result first_player }
+    {
+        Stage {
+            alloc,
+            bots: Seq::new(alloc),
+            guilds: Seq::new(alloc),
+            logs: ById::new(alloc),
+            used: ById::new(alloc),
+            seats: Vec::new(alloc),
+        }
+    }
+
+    fn add_bot(&mut self, bot: Bot) -> Result<(), AllocError>
+        ensures { OnOk result ((p : Player) → Stands self.old p → Plays p (line.Bot bot.token bot.user bot.name bot.privileged) self.new []) }
+    {
+        if !self.seats.is_empty() || knows(self.bots.as_slice(), bot.token.as_str()) {
+            return Ok(());
+        }
+        self.bots.push(bot)
+    }
+
+    fn add_guild(&mut self, id: Snowflake) -> Result<(), AllocError>
+        ensures { OnOk result ((p : Player) → Stands self.old p → Plays p (line.Guild id) self.new []) }
+    {
+        if !self.seats.is_empty() || self.logs.contains(id.0) {
+            return Ok(());
+        }
+        self.logs.insert(GuildLog::new(self.alloc, id))?;
+        self.guilds.push(id)
+    }
+
+    // Why an edit of a guild enters no log, if it enters none.
+    fn turned_away(&self, guild: Snowflake) -> Option<Verdict>
+        ensures { result ≡ away (find_id log_id guild self.now.logs) }
+    {
+        match self.logs.get(guild.0) {
+            None => Some(Verdict::NotOpen),
+            Some(log) => {
+                if log.entries.len() < LOG_ENTRIES {
+                    None
+                } else {
+                    Some(Verdict::TooMany { limit: 16_384 })
+                }
+            }
+        }
+    }
+
+    fn edit(&mut self, guild: Snowflake, edit: Edit) -> Result<Option<Verdict>, AllocError>
+        ensures answer { IfOk result (λ answer. (p : Player) → Stands self.old p → answer ≡ refusal p guild edit) }
+        ensures plays { OnOk result ((p : Player) → Stands self.old p → Plays p (line.Edit guild edit) self.new []) }
+    {
+        if let Some(verdict) = self.turned_away(guild) {
+            return Ok(Some(verdict));
+        }
+        start(
+            self.alloc,
+            &mut self.seats,
+            self.bots.as_slice(),
+            self.guilds.as_slice(),
+        )?;
+        let mut log = self.logs.exchange(GuildLog::new(self.alloc, guild));
+        let answer = log.add(self.alloc, edit)?;
+        self.logs.put(log)?;
+        Ok(answer)
+    }
+
+    fn look(&mut self, worker: u8, guild: Snowflake) -> Result<Vec<Output>, StepFault>
+        ensures { (p : Player) → Stands self.old p → MatchResult result (λ out. Plays p (line.Look worker guild) self.new out.items) (PlaysNot p (line.Look worker guild)) }
+    {
+        let Some(log) = self.logs.get(guild.0) else {
+            return Ok(Vec::new(self.alloc));
+        };
+        start(
+            self.alloc,
+            &mut self.seats,
+            self.bots.as_slice(),
+            self.guilds.as_slice(),
+        )?;
+        seat::look(
+            self.alloc,
+            &mut self.seats,
+            worker,
+            guild,
+            log.entries.as_slice(),
+        )
+    }
+
+    fn open(&mut self, worker: u8, conn: u32) -> Result<Vec<Output>, StepFault>
+        ensures { (p : Player) → Stands self.old p → MatchResult result (λ out. Plays p (line.Open worker conn) self.new out.items) (PlaysNot p (line.Open worker conn)) }
+    {
+        if self.used.contains(conn as u64) {
+            return Ok(Vec::new(self.alloc));
+        }
+        start(
+            self.alloc,
+            &mut self.seats,
+            self.bots.as_slice(),
+            self.guilds.as_slice(),
+        )?;
+        self.used.insert(Opened {
+            number: conn,
+            worker,
+        })?;
+        seat::open(self.alloc, &mut self.seats, worker, conn)
+    }
+
+    fn frame(&mut self, conn: u32, text: Text) -> Result<Vec<Output>, StepFault>
+        ensures { (p : Player) → Stands self.old p → MatchResult result (λ out. Plays p (line.Frame conn text) self.new out.items) (PlaysNot p (line.Frame conn text)) }
+    {
+        let Some(opened) = self.used.get(conn as u64) else {
+            return Ok(Vec::new(self.alloc));
+        };
+        let worker = opened.worker;
+        start(
+            self.alloc,
+            &mut self.seats,
+            self.bots.as_slice(),
+            self.guilds.as_slice(),
+        )?;
+        seat::frame(self.alloc, &mut self.seats, worker, conn, text)
+    }
+
+    fn nothing(&self) -> Answer
+        ensures refusal { result.refusal ≡ None }
+        ensures outputs { result.outputs.items ≡ [] }
+    {
+        self.sends(Vec::new(self.alloc))
+    }
+
+    fn sends(&self, outputs: Vec<Output>) -> Answer
+        ensures refusal { result.refusal ≡ None }
+        ensures outputs { result.outputs ≡ outputs }
+    {
+        Answer {
+            refusal: None,
+            outputs,
+        }
+    }
+
+    /// Plays a line that was read.
+    pub fn play(&mut self, line: Line) -> Result<Answer, StepFault>
+        ensures { (p : Player) → Stands self.old p → MatchResult result (λ a. (a.refusal ≡ line_refusal p line) × Plays p line self.new a.outputs.items) (PlaysNot p line) }
+    {
+        match line {
+            Line::Bot {
+                token,
+                user,
+                name,
+                privileged,
+            } => {
+                self.add_bot(Bot {
+                    token,
+                    user,
+                    name,
+                    privileged,
+                })?;
+                Ok(self.nothing())
+            }
+            Line::Guild { id } => {
+                self.add_guild(id)?;
+                Ok(self.nothing())
+            }
+            Line::Edit { guild, edit } => Ok(Answer {
+                refusal: self.edit(guild, edit)?,
+                outputs: Vec::new(self.alloc),
+            }),
+            Line::Look { worker, guild } => {
+                let outputs = self.look(worker, guild)?;
+                Ok(self.sends(outputs))
+            }
+            Line::Open { worker, conn } => {
+                let outputs = self.open(worker, conn)?;
+                Ok(self.sends(outputs))
+            }
+            Line::Frame { conn, text } => {
+                let outputs = self.frame(conn, text)?;
+                Ok(self.sends(outputs))
+            }
+            Line::Lost { .. } | Line::Closed { .. } | Line::Tick { .. } => Ok(self.nothing()),
+        }
+    }
+}
