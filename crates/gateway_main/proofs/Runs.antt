@@ -1,5 +1,5 @@
 -- A play of a source that a house gave.
-use Rattle.std.proofs.Common.{◌≡◌, ◌⊎◌, inl, inr, ℕ, ◌<◌, ◌≤◌, List, Result, Ok, Err, MatchResult, refl, sym, ap, ◌∙◌, subst, arith}
+use Rattle.std.proofs.Common.{◌≡◌, inr, ℕ, ◌<◌, List, Result, Ok, Err, MatchResult, ◌∙◌, subst, arith}
 use Rattle.std.specs.declared.option.Option.{Option}
 use Rattle.gate_outside.specs.Causes.{Rose}
 use Rattle.gate_outside.specs.Houses.{Returned, GrowsBy, GivesOwn}

@@ -4,7 +4,12 @@ use Rattle.std.specs.declared.option.Option.{Option}
 use Rattle.gate_outside.specs.Houses.{Returned, GrowsBy, GivesOwn}
 use Rattle.scenario.specs.declared.fault.PlayFault.{PlayFault}
 use Rattle.scenario.specs.declared.fault.PlayFault.TheVariants.{Read, Write, Line, Spent, Memory}
-use Rattle.scenario.specs.Played.{PlaysAll, PlaysTo}
+use Rattle.scenario.specs.Played.{PlaysAll, PlaysTo, AppendsFront}
+use Rattle.std.specs.Io.KnownBytes.{Appends}
+use Rattle.gate_outside.specs.Causes.{Rose}
+use Rattle.gate_outside.specs.declared.faults.Fault.{Fault}
+use Rattle.gate_outside.specs.declared.faults.Fault.TheVariants as outside
+use Rattle.gateway_main.specs.Words.{usage}
 
 -- the exit status
 abbrev pub status_of : Result (Unit {0}) PlayFault → ℕ
@@ -31,3 +36,15 @@ Runs own returned0 returned1 got0 got1 played = NotGiven returned0 returned1 got
 -- the file was asked for once, or memory was wanted before
 abbrev pub AsksOnce : (asks0 asks1 : Option (List (List ℕ))) → List ℕ → Result (Unit {0}) PlayFault → Type 0
 AsksOnce asks0 asks1 file played = GrowsBy asks0 asks1 file ⊎ ((asks1 ≡ asks0) × (played ≡ Err Memory))
+
+abbrev pub usage_status : Result (Unit {0}) Fault → ℕ
+usage_status (Ok x) = 2
+usage_status (Err outside.Failed) = 2
+usage_status (Err outside.Memory) = 6
+
+-- the whole usage line, or a front of it where the sink's count rose or memory was wanted
+abbrev pub TellsUsage : (got0 got1 : Option (List ℕ)) → (faults0 faults1 : ℕ) → (status : ℕ) → Type 0
+TellsUsage got0 got1 faults0 faults1 status =
+    ((status ≡ 2) × Appends got0 got1 usage × (faults1 ≡ faults0))
+    ⊎ (((status ≡ 2) × AppendsFront got0 got1 usage × Rose faults0 faults1)
+    ⊎ ((status ≡ 6) × AppendsFront got0 got1 usage))

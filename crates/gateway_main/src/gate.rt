@@ -1,15 +1,15 @@
 //! The command, over a house that gives sources by their names.
-ghost use Rattle.std.specs.Prelude.{◌≡◌, ◌↔◌, ℕ, List, Result, Some, None, true, is_some, map, string_bytes};
+ghost use Rattle.std.specs.Prelude.{◌≡◌, ℕ, List, Result, Some, None, true, is_some, map, string_bytes};
 ghost use Rattle.worker_core.specs.Law.{EachRunHolds, EachSendHolds};
 ghost use Rattle.gate_outside.specs.Causes.{FaultHasCause};
 ghost use Rattle.scenario.specs.declared.fault.PlayFault.{PlayFault as Fault};
-ghost use Rattle.scenario.specs.Played.{AppendsFront, PlayCause};
-ghost use Rattle.gateway_main.specs.Words.{is_file, run_file, usage};
-ghost use Rattle.gateway_main.specs.Gate.{status_of, Runs, AsksOnce};
+ghost use Rattle.scenario.specs.Played.{PlayCause};
+ghost use Rattle.gateway_main.specs.Words.{is_file, run_file};
+ghost use Rattle.gateway_main.specs.Gate.{status_of, usage_status, Runs, AsksOnce, TellsUsage};
 
 use gate_outside::faults;
 use gate_outside::houses::House;
-use gate_outside::streams::write_all;
+use gate_outside::streams::{Sink, write_all};
 use scenario::{PlayFault, play};
 use std::alloc::Global;
 use worker_core::law::{projection_of_a_prefix, sends_are_of_sessions};
@@ -20,6 +20,9 @@ pub const USAGE: &str =
 
 /// The exit status where the words are not of the grammar.
 pub const BAD_WORDS: u8 = 2;
+
+/// The exit status for want of memory.
+pub const NO_MEMORY: u8 = 6;
 
 fn is_file(word: &str) -> bool
     ensures { result ≡ is_file word.now }
@@ -75,13 +78,31 @@ fn run<H: House>(
     }
 }
 
+fn usage_status(told: Result<(), faults::Fault>) -> u8
+    ensures { result ≡ usage_status told }
+{
+    match told {
+        Ok(()) => BAD_WORDS,
+        Err(faults::Fault::Failed) => BAD_WORDS,
+        Err(faults::Fault::Memory) => NO_MEMORY,
+    }
+}
+
+// Writes the usage line.
+fn refuse<K: Sink>(sink: &mut K) -> u8
+    ensures { TellsUsage (K.got sink.old) (K.got sink.new) (K.faults sink.old) (K.faults sink.new) result }
+{
+    let told = write_all(sink, USAGE.as_bytes());
+    usage_status(told)
+}
+
 /// Does what the words say, and answers the exit status. `run FILE` plays the step file and writes
 /// its transcript: 0, or 3 where the file could not be read, 4 where the sink failed, 5 where a line
 /// was refused, 6 for want of memory, 12 where a count of the server is spent. Other words are
-/// answered by the usage line and 2.
+/// answered by the usage line and 2, or 6 where memory was wanted for it.
 pub fn gate<H: House>(alloc: Global, words: &[String], house: &mut H, sink: &mut H::Out) -> u8
-    ensures words { (result ≡ 2) ↔ (run_file (map string_bytes words.now) ≡ None) }
-    ensures usage { run_file (map string_bytes words.now) ≡ None → AppendsFront (H.Out.got sink.old) (H.Out.got sink.new) usage }
+    ensures words { result ≡ 2 → run_file (map string_bytes words.now) ≡ None }
+    ensures usage { run_file (map string_bytes words.now) ≡ None → TellsUsage (H.Out.got sink.old) (H.Out.got sink.new) (H.Out.faults sink.old) (H.Out.faults sink.new) result }
     ensures asks_nothing { run_file (map string_bytes words.now) ≡ None → H.asks house.new ≡ H.asks house.old }
     ensures run { (file : List ℕ) → run_file (map string_bytes words.now) ≡ Some file → (played : Result (Unit {0}) Fault) × (result ≡ status_of played)
         × Runs (H.contents house.old file) (H.returned house.old) (H.returned house.new) (H.Out.got sink.old) (H.Out.got sink.new) played
@@ -93,8 +114,7 @@ pub fn gate<H: House>(alloc: Global, words: &[String], house: &mut H, sink: &mut
     projection_of_a_prefix();
     sends_are_of_sessions();
     if !is_run(words) {
-        let _told = write_all(sink, USAGE.as_bytes());
-        return BAD_WORDS;
+        return refuse(sink);
     }
     let played = run(alloc, words[1].as_str(), house, sink);
     status_of(&played)

@@ -13,9 +13,6 @@ use std::io::ErrorKind;
 use std::process::ExitCode;
 use std::{env, io};
 
-/// The exit status for want of memory before the command begins.
-const NO_MEMORY: u8 = 6;
-
 // The words after the program's name.
 fn words_of<R: Env + Alloc>(rt: &R) -> io::Result<Vec<String<R::A>, R::A>> {
     let mut words = Vec::new(rt.alloc());
@@ -30,7 +27,7 @@ fn main(rt: HostRuntime) -> io::Result<ExitCode> {
         Ok(words) => words,
         // A word that is no text is outside the grammar, as no words are.
         Err(error) if error.kind() == ErrorKind::InvalidData => Vec::new(rt.alloc()),
-        Err(_) => return Ok(ExitCode::from(NO_MEMORY)),
+        Err(_) => return Ok(ExitCode::from(gate::NO_MEMORY)),
     };
     let mut house = RealHouse::new(rt.clone()?);
     let mut sink = StdoutSink::new(rt.clone()?);

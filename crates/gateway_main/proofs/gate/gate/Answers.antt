@@ -1,16 +1,8 @@
-use Rattle.std.proofs.Common.{◌≡◌, ℕ, List, map, string_bytes, refl, sym, ap, subst, ◌∙◌}
+use Rattle.std.proofs.Common.{◌≡◌, ℕ, List, map, string_bytes, sym, ap, subst, ◌∙◌}
 use Rattle.std.proofs.Math.ListN.{get_or-map}
-use Rattle.scenario.specs.Played.{AppendsFront, PlayCause}
-use Rattle.gateway_main.specs.Words.{usage}
 use Rattle.gateway_main.specs.Gate.{Runs, AsksOnce}
-use Rattle.gateway_main.proofs.Words.{second_word, told_front}
+use Rattle.gateway_main.proofs.Words.{second_word}
 use Rattle.gateway_main.proofs.gate.gate.Goals as goal
-
-pub returns-then-not-is_run-clause-usage : goal.returns-then-not-is_run-clause-usage
-returns-then-not-is_run-clause-usage g c none =
-    let text : c.as_bytes.result.now ≡ usage = c.as_bytes.ensures.value in
-    subst (λ (t : List ℕ). AppendsFront (g.H.Out.Sink.got c.args.sink.now) (g.H.Out.Sink.got c.write_all-told.new.sink) t) text
-    (told_front c.write_all-told.result (g.H.Out.Sink.got c.args.sink.now) (g.H.Out.Sink.got c.write_all-told.new.sink) c.as_bytes.result.now c.write_all-told.ensures.ok c.write_all-told.ensures.err)
 
 pub returns-clause-run : goal.returns-clause-run
 returns-clause-run g c file is =
