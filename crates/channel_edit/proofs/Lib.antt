@@ -1,3 +1,4 @@
-pub mod Kept
 pub mod Ascends
+pub mod Kept
+pub mod Threads
 pub mod Well

@@ -33,6 +33,10 @@ is_within threads channel place = (place == channel) || is_in_channel channel (f
 abbrev pub stands_outside : List Thread → ℕ → MessageHead → Bool
 stands_outside threads channel m = not (is_within threads channel m.place)
 
+-- a message that stands in none of the channel's threads
+abbrev pub stands_in_no_thread : List Thread → ℕ → MessageHead → Bool
+stands_in_no_thread threads channel m = not (is_in_channel channel (find_id thread_id m.place threads))
+
 -- with the channel go its threads, the voice states in it and the messages in it and in its threads
 abbrev pub channel_deleted : Record → ℕ → Record
 channel_deleted g channel = record g {

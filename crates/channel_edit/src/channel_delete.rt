@@ -5,12 +5,10 @@ ghost use Rattle.std.specs.Prelude.{◌≡◌, None, true, refl, filter};
 ghost use Rattle.guild_model.specs.Tests.{outcome};
 ghost use Rattle.collections.specs.ById.{IsById};
 ghost use Rattle.guild_model.specs.Record.{thread_id, voice_id};
-ghost use Rattle.channel_edit.specs.ChannelEnd.{channel_delete_verdict, channel_deleted, orphaned, is_outside, speaks_outside, is_within, stands_outside};
+ghost use Rattle.channel_edit.specs.ChannelEnd.{channel_delete_verdict, channel_deleted, orphaned, is_outside, speaks_outside, stands_in_no_thread, stands_outside};
 
 use collections::{ById, Change};
-use guild_model::{
-    Channel, Guild, Keeps, MessageHead, MessageHeads, Thread, Verdict, Voice, rules,
-};
+use guild_model::{Channel, Guild, MessageHeads, Thread, Verdict, Voice, rules};
 use snowflake_id::Snowflake;
 
 /// Refused with `UnknownChannel`.
@@ -36,37 +34,22 @@ impl Change<Channel> for Orphan {
     ghost keeps_key = { λ change c. refl };
 }
 
-fn within_channel(threads: &ById<Thread>, channel: Snowflake, place: Snowflake) -> bool
-    ensures { result ≡ is_within threads.now channel place }
+fn drop_thread_messages(messages: &mut MessageHeads, threads: &[Thread], channel: Snowflake)
+    requires { IsById thread_id threads.now }
+    ensures { messages.new ≡ filter (stands_in_no_thread threads.now channel) messages.old }
 {
-    if place == channel {
-        return true;
-    }
-    match threads.get(place.0) {
-        Some(thread) => thread.parent == channel,
-        None => false,
-    }
-}
-
-/// The messages that stand neither in a channel nor in its threads.
-#[derive(Drop)]
-struct Outside<'a> {
-    threads: &'a ById<Thread>,
-    channel: Snowflake,
-}
-
-impl<'a> Keeps for Outside<'a> {
-    ghost keeps = { λ outside m. stands_outside outside.threads.now outside.channel m };
-
-    fn keeps(&self, head: &MessageHead) -> bool {
-        !within_channel(self.threads, self.channel, head.place)
+    for thread in threads {
+        if thread.parent == channel {
+            messages.remove_place(thread.id);
+        }
     }
 }
 
 fn drop_messages(messages: &mut MessageHeads, threads: &ById<Thread>, channel: Snowflake)
     ensures { messages.new ≡ filter (stands_outside threads.now channel) messages.old }
 {
-    messages.retain(&Outside { threads, channel });
+    messages.remove_place(channel);
+    drop_thread_messages(messages, threads.as_slice(), channel);
 }
 
 fn drop_threads(threads: &mut ById<Thread>, channel: Snowflake)

@@ -1,9 +1,11 @@
 ghost use Rattle.std.specs.Prelude.{Some, ◌≡◌, ℕ, [], OnOk, OnErr, None, slice_get, is_some, IfOk, IsSome, length, map};
 ghost use Rattle.std.specs.Option.{option_copied};
 ghost use Rattle.std.specs.Fn.{CalledAt};
+ghost use Rattle.std.specs.Vec.{vec_len, vec_capacity};
 ghost use Rattle.std.specs.List.Retain.{IsFiltered};
-ghost use Rattle.collections.specs.ById.{IsById, find_id, put_id, count_below, with_id, changed_id, without_id};
+ghost use Rattle.collections.specs.ById.{IsById, find_id, put_id, put_all, count_below, with_id, changed_id, without_id};
 
+use crate::put_each::put_each;
 use snowflake_id::Snowflake;
 use std::alloc::{AllocError, Global};
 use std::marker::Model;
@@ -41,10 +43,12 @@ fn change_at<T: Keyed, C: Change<T> + Drop>(items: &mut Vec<T>, id: u64, change:
     }
 }
 
-fn replace_at<T: Keyed + Drop>(items: &mut Vec<T>, item: T)
+pub(crate) fn replace_at<T: Keyed + Drop>(items: &mut Vec<T>, item: T)
     requires ascending { IsById T.key items.old.items }
     requires there { IsSome (find_id T.key (T.key item) items.old.items) }
-    ensures { items.new.items ≡ put_id T.key item items.old.items }
+    ensures set { items.new.items ≡ put_id T.key item items.old.items }
+    ensures len { vec_len items.new ≡ vec_len items.old }
+    ensures capacity { vec_capacity items.new ≡ vec_capacity items.old }
 {
     let place = place_of(items.as_slice(), item.key());
     if place >= items.len() {
@@ -106,7 +110,7 @@ impl<T: Keyed> Model for ById<T> {
 }
 
 // How many of the records have a smaller id.
-fn place_of<T: Keyed>(items: &[T], id: u64) -> usize
+pub(crate) fn place_of<T: Keyed>(items: &[T], id: u64) -> usize
     requires { IsById T.key items.now }
     ensures { result ≡ count_below T.key id items.now }
 {
@@ -114,7 +118,7 @@ fn place_of<T: Keyed>(items: &[T], id: u64) -> usize
 }
 
 // The record at a place, if it has the id.
-fn record_at<T: Keyed>(items: &[T], place: usize, id: u64) -> Option<&T>
+pub(crate) fn record_at<T: Keyed>(items: &[T], place: usize, id: u64) -> Option<&T>
     ensures { option_copied result ≡ with_id T.key id (slice_get items.now place) }
 {
     if place >= items.len() {
@@ -146,6 +150,15 @@ impl<T: Keyed + Drop> ById<T> {
         ensures { result ≡ items.items }
     {
         ById { items }
+    }
+
+    /// A list of these records; of several with one id the last.
+    pub fn of(alloc: Global, items: Vec<T>) -> Result<Self, AllocError>
+        ensures { IfOk result (λ list. list ≡ put_all T.key [] items.items) }
+    {
+        let mut list = ById::new(alloc);
+        list.put_all(items)?;
+        Ok(list)
     }
 
     pub fn contains(&self, id: u64) -> bool
@@ -192,6 +205,15 @@ impl<T: Keyed + Drop> ById<T> {
         } else {
             self.insert(item)
         }
+    }
+
+    /// Sets each of these records in turn. An `Err` changes nothing.
+    pub fn put_all(&mut self, items: Vec<T>) -> Result<(), AllocError>
+        ensures ok { OnOk result (self.new ≡ put_all T.key self.old items.items) }
+        ensures err { OnErr result (self.new ≡ self.old) }
+    {
+        put_each(&mut self.items, items)?;
+        Ok(())
     }
 
     /// Sets a record in the place of the one with its id, which is there.

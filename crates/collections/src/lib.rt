@@ -2,6 +2,7 @@
 #![tactic(auto)]
 
 pub mod by_id;
+mod put_each;
 pub mod seq;
 #[cfg(test)]
 mod tests;

@@ -25,7 +25,7 @@ pub length_arrivals : (es : Entries) → length (arrivals es) ≡ length es
 length_arrivals [] = refl
 length_arrivals (e ∷ es) = length_more e.1 (arrivals es) ∙ ap suc (length_arrivals es)
 
-filter_more : (p : MessageHead → Bool) (xs : List MessageHead) (h : MessageHead) → filter p (xs ++ h ∷ []) ≡ (if p h then filter p xs ++ h ∷ [] else filter p xs)
+pub filter_more : (p : MessageHead → Bool) (xs : List MessageHead) (h : MessageHead) → filter p (xs ++ h ∷ []) ≡ (if p h then filter p xs ++ h ∷ [] else filter p xs)
 filter_more p [] h = refl
 filter_more p (x ∷ xs) h = grind (arith, filter_more p xs h)
 
@@ -158,10 +158,10 @@ came_so head es le = by_test (nat_lt (length (arrivals es)) 16384) refl
 
 -- ---- what each change of what is kept comes to
 
-free_entry : (id : ℕ) (es : Entries) → IsIndex es → find_head id (arrivals es) ≡ None → lookup (nat_eq id) es ≡ None
+pub free_entry : (id : ℕ) (es : Entries) → IsIndex es → find_head id (arrivals es) ≡ None → lookup (nat_eq id) es ≡ None
 free_entry id es h free = found_so id es h ∙ free
 
-put_new : (c : LruCache ℕ MessageHead) (head : MessageHead) → IsKept c → find_head head.id (arrivals c.entries) ≡ None → put_entries nat_eq c head.id head ≡ (head.id, head) ∷ take 16383 c.entries
+pub put_new : (c : LruCache ℕ MessageHead) (head : MessageHead) → IsKept c → find_head head.id (arrivals c.entries) ≡ None → put_entries nat_eq c head.id head ≡ (head.id, head) ∷ take 16383 c.entries
 put_new c head k free = rw (no_entry (nat_eq head.id) c.entries (free_entry head.id c.entries k.index free), k.room) refl
 
 pub came_as : (c : LruCache ℕ MessageHead) (head : MessageHead) → IsKept c → find_head head.id (arrivals c.entries) ≡ None → arrivals (put_entries nat_eq c head.id head) ≡ arrived head (arrivals c.entries)

@@ -1,7 +1,9 @@
 pub mod Arrivals
+pub mod Copies
+pub mod Indexed
 pub mod Kept
 pub mod Numbers
+pub mod Places
 pub mod Recent
 pub mod Statuses
 pub mod Tests
-pub mod Turns

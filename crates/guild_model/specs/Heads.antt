@@ -1,9 +1,10 @@
 -- The kept messages of a guild: the latest 16,384, in order of arrival.
-use Rattle.std.specs.Prelude.{◌≡◌, ℕ, ◌≤◌, nat_lt, nat_eq, ◌-◌, length, take, drop, List, [], ◌∷◌, ◌++◌, Bool, false, Option, Some, None, if◌then◌else◌}
+use Rattle.std.specs.Prelude.{◌≡◌, ℕ, ◌≤◌, ◌==◌, nat_lt, nat_eq, length, drop, List, [], ◌∷◌, ◌++◌, Bool, false, not, filter, Option, Some, None, if◌then◌else◌}
 use Rattle.std.specs.Map.{lookup}
-use Rattle.lru.specs.LruCache.{LruCache, last_entry, promoted}
+use Rattle.lru.specs.LruCache.{LruCache}
 use Rattle.collections.specs.ById.{find_id, has_id, without_id, changed_id}
 use Rattle.guild_model.specs.declared.message.MessageHead.{MessageHead}
+use Rattle.guild_model.specs.Places.{stands}
 
 abbrev pub head_id : MessageHead → ℕ
 head_id h = h.id
@@ -29,6 +30,10 @@ with_mentions mentions h = record h { mentions = mentions }
 abbrev pub mentioning : ℕ → List ℕ → List MessageHead → List MessageHead
 mentioning id mentions heads = changed_id head_id id (with_mentions mentions) heads
 
+-- the messages that do not stand in a place
+abbrev pub without_place : ℕ → List MessageHead → List MessageHead
+without_place place heads = filter (λ h. not (h.place == place)) heads
+
 -- no id stands twice
 abbrev pub AreApart : List MessageHead → Type 0
 AreApart [] = Unit {0}
@@ -38,7 +43,7 @@ pub record AreRecent (heads : List MessageHead) : Type 0 where
   pub apart : AreApart heads
   pub few : length heads ≤ 16384
 
--- ---- as they are kept: under their ids, the newest first
+-- ---- as they are kept: under their ids, the newest first, and by their places
 
 abbrev pub arrivals : List (ℕ × MessageHead) → List MessageHead
 arrivals [] = []
@@ -54,19 +59,19 @@ pub record IsKept (c : LruCache ℕ MessageHead) : Type 0 where
   pub few : length c.entries ≤ 16384
   pub room : c.cap ≡ 16384
 
--- the oldest becomes the newest where it stays, and else goes
-abbrev pub turned_by : (MessageHead → Bool) → Option (ℕ × MessageHead) → List (ℕ × MessageHead) → List (ℕ × MessageHead)
-turned_by keeps None es = es
-turned_by keeps (Some e) es = if keeps e.1 then promoted (nat_eq e.0) es else take (length es - 1) es
+abbrev pub stands_at : ℕ → Option MessageHead → Bool
+stands_at place None = false
+stands_at place (Some h) = h.place == place
 
-abbrev pub turned : (MessageHead → Bool) → List (ℕ × MessageHead) → List (ℕ × MessageHead)
-turned keeps es = turned_by keeps (last_entry es) es
+-- a message is said to stand in a place exactly where it is kept and does
+abbrev pub AreIndexed : List (ℕ × ℕ) → List (ℕ × MessageHead) → Type 0
+AreIndexed ps es = (place id : ℕ) → stands ps place id ≡ stands_at place (lookup (nat_eq id) es)
 
 -- there is none before the first message comes
 abbrev pub heads_of : Option (LruCache ℕ MessageHead) → List MessageHead
 heads_of None = []
 heads_of (Some c) = arrivals c.entries
 
-abbrev pub AreKept : Option (LruCache ℕ MessageHead) → Type 0
-AreKept None = Unit {0}
-AreKept (Some c) = IsKept c
+abbrev pub AreKept : Option (LruCache ℕ MessageHead) → List (ℕ × ℕ) → Type 0
+AreKept None ps = AreIndexed ps []
+AreKept (Some c) ps = IsKept c × AreIndexed ps c.entries

@@ -1,32 +1,23 @@
-//! The latest messages of a guild. They are kept under their ids, so that one is found, changed and
-//! taken away, and the oldest goes, without a walk through the others.
+//! The latest messages of a guild. They are kept under their ids and listed by their places, so that
+//! one is found, changed and taken away, the oldest goes, and those of a place go, without a walk
+//! through the others.
 
-ghost use Rattle.std.specs.Prelude.{◌≡◌, [], ◌∷◌, None, IfOk, OnOk, OnErr, nat_eq, filter};
+ghost use Rattle.std.specs.Prelude.{◌≡◌, ℕ, List, [], None, IfOk, OnOk, OnErr, nat_eq};
+ghost use Rattle.std.specs.Map.{remove_entry};
 ghost use Rattle.std.specs.Option.{option_copied};
 ghost use Rattle.std.specs.NonZero.{non_zero_usize_get};
 ghost use Rattle.lru.specs.LruCache.{lru_cache};
-ghost use Rattle.guild_model.specs.Heads.{find_head, has_head, arrived, without_head, mentioning, arrivals, turned, IsKept};
-ghost use Rattle.guild_model.specs.declared.message.MessageHead.{MessageHead};
+ghost use Rattle.guild_model.specs.Heads.{find_head, has_head, arrived, without_head, without_place, mentioning, arrivals, AreIndexed, IsKept};
 
 use crate::limits;
 use crate::message::MessageHead;
+use crate::place_index::PlaceIndex;
 use collections::{Duplicate, Seq};
 use lru::LruCache;
 use snowflake_id::Snowflake;
 use std::alloc::{AllocError, Global};
 use std::marker::Model;
 use std::num::NonZeroUsize;
-
-/// Which messages stay.
-pub trait Keeps {
-    ghost use Rattle.std.specs.Prelude.{Bool};
-    ghost use Rattle.guild_model.specs.declared.message.MessageHead.{MessageHead};
-
-    ghost keeps: { Self → MessageHead → Bool };
-
-    fn keeps(&self, head: &MessageHead) -> bool
-        ensures { result ≡ keeps self.now head.now };
-}
 
 fn number(id: Snowflake) -> u64
     ensures { result ≡ id }
@@ -53,67 +44,69 @@ fn found(heads: &LruCache<u64, MessageHead>, id: Snowflake) -> Option<&MessageHe
     heads.peek(&id.0)
 }
 
-fn add(heads: &mut LruCache<u64, MessageHead>, head: MessageHead) -> Result<(), AllocError>
+// The oldest goes out of a full cache, and then out of the places too.
+fn add(
+    heads: &mut LruCache<u64, MessageHead>,
+    places: &mut PlaceIndex,
+    head: MessageHead,
+) -> Result<(), AllocError>
     requires kept { IsKept heads.old }
+    requires indexed { AreIndexed places.old heads.old.entries }
     requires free { find_head head.id (arrivals heads.old.entries) ≡ None }
     ensures ok { OnOk result (arrivals heads.new.entries ≡ arrived head (arrivals heads.old.entries)) }
     ensures kept { OnOk result (IsKept heads.new) }
     ensures err { OnErr result (heads.new ≡ heads.old) }
+    ensures indexed { AreIndexed places.new heads.new.entries }
 {
-    heads.put(number(head.id), head)?;
-    Ok(())
+    let (place, id) = (number(head.place), number(head.id));
+    places.add(place, id)?;
+    match heads.push(id, head) {
+        Ok(None) => Ok(()),
+        Ok(Some((id, oldest))) => {
+            places.remove(number(oldest.place), id);
+            Ok(())
+        }
+        Err(refused) => {
+            places.remove(place, id);
+            Err(refused.into())
+        }
+    }
 }
 
-fn first(alloc: Global, head: MessageHead) -> Result<LruCache<u64, MessageHead>, AllocError>
-    ensures heads { IfOk result (λ heads. arrivals heads.entries ≡ head ∷ []) }
-    ensures kept { IfOk result (λ heads. IsKept heads) }
-{
-    let mut heads = empty(alloc)?;
-    add(&mut heads, head)?;
-    Ok(heads)
-}
-
-fn take(heads: &mut LruCache<u64, MessageHead>, id: Snowflake)
-    requires { IsKept heads.old }
+fn take(heads: &mut LruCache<u64, MessageHead>, places: &mut PlaceIndex, id: u64)
+    requires kept { IsKept heads.old }
+    requires indexed { AreIndexed places.old heads.old.entries }
+    ensures entries { heads.new.entries ≡ remove_entry (nat_eq id) heads.old.entries }
     ensures heads { arrivals heads.new.entries ≡ without_head id (arrivals heads.old.entries) }
     ensures kept { IsKept heads.new }
+    ensures indexed { AreIndexed places.new heads.new.entries }
 {
-    heads.pop(&id.0);
+    if let Some(head) = heads.pop(&id) {
+        places.remove(number(head.place), id);
+    }
 }
 
+fn take_place(heads: &mut LruCache<u64, MessageHead>, places: &mut PlaceIndex, place: u64)
+    requires kept { IsKept heads.old }
+    requires indexed { AreIndexed places.old heads.old.entries }
+    ensures heads { arrivals heads.new.entries ≡ without_place place (arrivals heads.old.entries) }
+    ensures kept { IsKept heads.new }
+    ensures indexed { AreIndexed places.new heads.new.entries }
+{
+    while let Some(id) = places.first_in(place) {
+        take(heads, places, id);
+    }
+}
+
+// None goes to another place.
 fn mention(heads: &mut LruCache<u64, MessageHead>, id: Snowflake, mentions: Seq<Snowflake>)
     requires { IsKept heads.old }
     ensures heads { arrivals heads.new.entries ≡ mentioning id mentions (arrivals heads.old.entries) }
     ensures kept { IsKept heads.new }
+    ensures indexed { (ps : List (ℕ × ℕ)) → AreIndexed ps heads.old.entries → AreIndexed ps heads.new.entries }
 {
     if let Some(head) = heads.peek_mut(&id.0) {
         head.mentions = mentions;
-    }
-}
-
-// The oldest becomes the newest where it stays, and else goes.
-fn turn<K: Keeps>(heads: &mut LruCache<u64, MessageHead>, keep: &K)
-    ensures { heads.new ≡ lru_cache (turned (K.keeps keep.now) heads.old.entries) heads.old.cap }
-{
-    let Some((id, head)) = heads.peek_lru() else {
-        return;
-    };
-    let id = *id;
-    if keep.keeps(head) {
-        heads.promote(&id);
-    } else {
-        heads.pop_lru();
-    }
-}
-
-// Once each has had its turn, those that stay are in their order again.
-fn keep_all<K: Keeps>(heads: &mut LruCache<u64, MessageHead>, keep: &K)
-    requires { IsKept heads.old }
-    ensures heads { arrivals heads.new.entries ≡ filter (K.keeps keep.now) (arrivals heads.old.entries) }
-    ensures kept { IsKept heads.new }
-{
-    for _ in 0..heads.len() {
-        turn(heads, keep);
     }
 }
 
@@ -136,6 +129,7 @@ fn copied(
 #[derive(Drop)]
 pub struct MessageHeads {
     heads: Option<LruCache<u64, MessageHead>>,
+    places: PlaceIndex,
     alloc: Global,
 }
 
@@ -148,22 +142,17 @@ impl Model for MessageHeads {
 
     ghost view = { λ m. heads_of m.heads };
 
-    ghost invariant = { λ m. AreKept m.heads };
+    ghost invariant = { λ m. AreKept m.heads m.places };
 }
 
 impl MessageHeads {
     pub fn new(alloc: Global) -> MessageHeads
         ensures { result ≡ [] }
     {
-        MessageHeads { heads: None, alloc }
-    }
-
-    /// Keeps the messages at which a test is true.
-    pub fn retain<K: Keeps>(&mut self, keep: &K)
-        ensures { self.new ≡ filter (K.keeps keep.now) self.old }
-    {
-        if let Some(heads) = &mut self.heads {
-            keep_all(heads, keep);
+        MessageHeads {
+            heads: None,
+            places: PlaceIndex::new(alloc),
+            alloc,
         }
     }
 
@@ -182,9 +171,11 @@ impl MessageHeads {
         ensures err { OnErr result (self.new ≡ self.old) }
     {
         if let Some(heads) = &mut self.heads {
-            return add(heads, head);
+            return add(heads, &mut self.places, head);
         }
-        self.heads = Some(first(self.alloc, head)?);
+        let mut heads = empty(self.alloc)?;
+        add(&mut heads, &mut self.places, head)?;
+        self.heads = Some(heads);
         Ok(())
     }
 
@@ -193,7 +184,16 @@ impl MessageHeads {
         ensures { self.new ≡ without_head id self.old }
     {
         if let Some(heads) = &mut self.heads {
-            take(heads, id);
+            take(heads, &mut self.places, id.0);
+        }
+    }
+
+    /// Takes away the messages that stand in a channel or a thread, without a look at the others.
+    pub fn remove_place(&mut self, place: Snowflake)
+        ensures { self.new ≡ without_place place self.old }
+    {
+        if let Some(heads) = &mut self.heads {
+            take_place(heads, &mut self.places, place.0);
         }
     }
 
@@ -222,6 +222,7 @@ impl Duplicate for MessageHeads {
         match &self.heads {
             Some(heads) => Ok(MessageHeads {
                 heads: Some(copied(alloc, heads)?),
+                places: self.places.duplicate(alloc)?,
                 alloc,
             }),
             None => Ok(MessageHeads::new(alloc)),

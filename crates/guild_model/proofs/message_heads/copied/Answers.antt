@@ -1,5 +1,5 @@
 use Rattle.std.proofs.Common.{◌≡◌, ◌∷◌, ◌++◌, sym, ap, ◌∙◌}
-use Rattle.guild_model.proofs.Turns.{copied_one}
+use Rattle.guild_model.proofs.Copies.{copied_one}
 use Rattle.guild_model.proofs.message_heads.copied.Goals as goal
 
 pub loop-id-preserved : goal.loop-id-preserved

@@ -1,6 +1,7 @@
-use Rattle.std.proofs.Common.{sym, ◌∙◌}
+use Rattle.std.proofs.Common.{refl, sym, ◌∙◌}
 use Rattle.guild_model.specs.Heads.{with_mentions}
 use Rattle.guild_model.proofs.Arrivals.{set_so, set_kept, its_id, unset, found_so}
+use Rattle.guild_model.proofs.Indexed.{set_indexed}
 use Rattle.guild_model.proofs.message_heads.mention.Goals as goal
 
 pub returns-in-Some-clause-heads : goal.returns-in-Some-clause-heads
@@ -17,3 +18,8 @@ pub returns-in_default-clause-heads : goal.returns-in_default-clause-heads
 returns-in_default-clause-heads c =
     let none = rw c.id.view_is at c.in_default.ensures.value in
     sym (unset c.args.id (with_mentions c.args.mentions) _ (sym (found_so c.args.id c.args.heads.now.entries c.requires.index) ∙ sym none))
+
+pub returns-in-Some-clause-indexed : goal.returns-in-Some-clause-indexed
+returns-in-Some-clause-indexed c =
+    let found = rw c.id.view_is at c.in-Some.ensures.value in
+    λ ps indexed. rw c.id.view_is (set_indexed c.args.id c.in-Some.head.now (with_mentions c.args.mentions c.in-Some.head.now) c.args.heads.now.entries ps (sym found) refl indexed)
