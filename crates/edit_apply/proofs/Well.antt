@@ -18,13 +18,15 @@ use Rattle.role_member_edit.specs.Members.{new_member}
 use Rattle.role_member_edit.proofs.Well.{well as role_member_well}
 use Rattle.channel_edit.specs.ChannelEdits.{channel_verdict}
 use Rattle.channel_edit.proofs.Well.{well as channel_well}
+use Rattle.thread_edit.specs.ThreadEdits.{thread_verdict}
+use Rattle.thread_edit.proofs.Well.{well as thread_well}
 use Rattle.voice_presence.specs.VoicePresence.{voice_presence_verdict}
 use Rattle.voice_presence.proofs.Well.{well as voice_presence_well}
 use Rattle.message_edit.specs.MessageEdits.{message_verdict}
 use Rattle.message_edit.proofs.Well.{well as message_well}
 use Rattle.role_member_edit.specs.RoleMember.{role_member_verdict}
 use Rattle.edit_apply.specs.declared.Edit.{Edit}
-use Rattle.edit_apply.specs.declared.Edit.TheVariants.{Guild, RoleMember, Channel, VoicePresence, Message}
+use Rattle.edit_apply.specs.declared.Edit.TheVariants as edit
 use Rattle.edit_apply.specs.declared.guild.GuildEdit.{GuildEdit}
 use Rattle.edit_apply.specs.declared.guild.GuildEdit.TheVariants.{GuildOpen, GuildRename, GuildOwner, GuildOutage, GuildBack}
 use Rattle.edit_apply.specs.Guilds.{out_of_service, guild_opened, guild_verdict, guild_applied}
@@ -119,24 +121,18 @@ guild_well g GuildBack w e =
     record { ascending = same_lists g g.opened false g.name g.owner w.ascending; consistent = in_outage g is_open w.consistent false }
 
 -- an edit that is not refused
-accepted_well : (g : Record) (edit : Edit) → IsWell g → verdict g edit ≡ None → IsWell (applied g edit)
-accepted_well g (Guild edit) w e = guild_well g edit w e
-accepted_well g (RoleMember edit) w e =
-    let tests = role_member_verdict g edit ∷ [] in
-    let rest = first_passes (role_member_verdict g edit) [] (first_passes (out_of_service g) tests e).1 in
-    role_member_well g edit (in_service_open g tests e) w rest.0
-accepted_well g (Channel edit) w e =
-    let tests = channel_verdict g edit ∷ [] in
-    let rest = first_passes (channel_verdict g edit) [] (first_passes (out_of_service g) tests e).1 in
-    channel_well g edit (in_service_open g tests e) w rest.0
-accepted_well g (VoicePresence edit) w e =
-    let tests = voice_presence_verdict g edit ∷ [] in
-    let rest = first_passes (voice_presence_verdict g edit) [] (first_passes (out_of_service g) tests e).1 in
-    voice_presence_well g edit (in_service_open g tests e) w rest.0
-accepted_well g (Message edit) w e =
-    let tests = message_verdict g edit ∷ [] in
-    let rest = first_passes (message_verdict g edit) [] (first_passes (out_of_service g) tests e).1 in
-    message_well g edit (in_service_open g tests e) w rest.0
+passes : (g : Record) (v : Option Verdict) → first_of (out_of_service g ∷ v ∷ []) ≡ None → (g.opened ≡ true) × (v ≡ None)
+passes g v accepted =
+    let rest = first_passes v [] (first_passes (out_of_service g) (v ∷ []) accepted).1 in
+    (in_service_open g (v ∷ []) accepted, rest.0)
+
+accepted_well : (g : Record) (e : Edit) → IsWell g → verdict g e ≡ None → IsWell (applied g e)
+accepted_well g (edit.Guild e) w accepted = guild_well g e w accepted
+accepted_well g (edit.RoleMember e) w accepted = let p = passes g (role_member_verdict g e) accepted in role_member_well g e p.0 w p.1
+accepted_well g (edit.Channel e) w accepted = let p = passes g (channel_verdict g e) accepted in channel_well g e p.0 w p.1
+accepted_well g (edit.Thread e) w accepted = let p = passes g (thread_verdict g e) accepted in thread_well g e p.0 w p.1
+accepted_well g (edit.VoicePresence e) w accepted = let p = passes g (voice_presence_verdict g e) accepted in voice_presence_well g e p.0 w p.1
+accepted_well g (edit.Message e) w accepted = let p = passes g (message_verdict g e) accepted in message_well g e p.0 w p.1
 
 by_verdict : (g : Record) (edit : Edit) → IsWell g → (v : Option Verdict) → verdict g edit ≡ v → IsWell (after_verdict v g edit)
 by_verdict g edit w None e = accepted_well g edit w e

@@ -7,10 +7,11 @@ use Rattle.guild_model.specs.Tests.{first_of}
 use Rattle.guild_model.specs.Ascending.{IsWell}
 use Rattle.role_member_edit.specs.RoleMember.{role_member_verdict, role_member_applied}
 use Rattle.channel_edit.specs.ChannelEdits.{channel_verdict, channel_applied}
+use Rattle.thread_edit.specs.ThreadEdits.{thread_verdict, thread_applied}
 use Rattle.voice_presence.specs.VoicePresence.{voice_presence_verdict, voice_presence_applied}
 use Rattle.message_edit.specs.MessageEdits.{message_verdict, message_applied}
 use Rattle.edit_apply.specs.declared.Edit.{Edit}
-use Rattle.edit_apply.specs.declared.Edit.TheVariants.{Guild, RoleMember, Channel, VoicePresence, Message}
+use Rattle.edit_apply.specs.declared.Edit.TheVariants.{Guild, RoleMember, Channel, Thread, VoicePresence, Message}
 use Rattle.edit_apply.specs.Guilds.{out_of_service, guild_verdict, guild_applied}
 
 -- why an edit is refused, if it is: the first of its tests that fails
@@ -18,6 +19,7 @@ abbrev pub verdict : Record → Edit → Option Verdict
 verdict g (Guild edit) = guild_verdict g edit
 verdict g (RoleMember edit) = first_of (out_of_service g ∷ role_member_verdict g edit ∷ [])
 verdict g (Channel edit) = first_of (out_of_service g ∷ channel_verdict g edit ∷ [])
+verdict g (Thread edit) = first_of (out_of_service g ∷ thread_verdict g edit ∷ [])
 verdict g (VoicePresence edit) = first_of (out_of_service g ∷ voice_presence_verdict g edit ∷ [])
 verdict g (Message edit) = first_of (out_of_service g ∷ message_verdict g edit ∷ [])
 
@@ -26,6 +28,7 @@ abbrev pub applied : Record → Edit → Record
 applied g (Guild edit) = guild_applied g edit
 applied g (RoleMember edit) = role_member_applied g edit
 applied g (Channel edit) = channel_applied g edit
+applied g (Thread edit) = thread_applied g edit
 applied g (VoicePresence edit) = voice_presence_applied g edit
 applied g (Message edit) = message_applied g edit
 

@@ -7,6 +7,7 @@ ghost use Rattle.edit_apply.specs.Edits.{verdict, applied, after, KeepsWell, Sta
 ghost use Rattle.edit_apply.specs.Guilds.{out_of_service};
 ghost use Rattle.role_member_edit.specs.RoleMember.{role_member_verdict};
 ghost use Rattle.channel_edit.specs.ChannelEdits.{channel_verdict};
+ghost use Rattle.thread_edit.specs.ThreadEdits.{thread_verdict};
 ghost use Rattle.voice_presence.specs.VoicePresence.{voice_presence_verdict};
 ghost use Rattle.message_edit.specs.MessageEdits.{message_verdict};
 
@@ -20,6 +21,7 @@ use guild_model::{Guild, Verdict};
 pub use message_edit::{MessageBody, MessageEdit};
 pub use role_member_edit::RoleMemberEdit;
 use std::alloc::{AllocError, Global};
+pub use thread_edit::ThreadEdit;
 pub use voice_presence::VoicePresenceEdit;
 
 /// An edit of a guild.
@@ -31,6 +33,8 @@ pub enum Edit {
     RoleMember(RoleMemberEdit),
     /// Of its channels and their overwrites.
     Channel(ChannelEdit),
+    /// Of its threads.
+    Thread(ThreadEdit),
     /// Of its voice states and presences.
     VoicePresence(VoicePresenceEdit),
     /// Of its messages, reactions to them, and who types.
@@ -46,6 +50,7 @@ impl Edit {
             Edit::Guild(edit) => Ok(Edit::Guild(edit.copy(alloc)?)),
             Edit::RoleMember(edit) => Ok(Edit::RoleMember(edit.copy(alloc)?)),
             Edit::Channel(edit) => Ok(Edit::Channel(edit.copy(alloc)?)),
+            Edit::Thread(edit) => Ok(Edit::Thread(edit.copy(alloc)?)),
             Edit::VoicePresence(edit) => Ok(Edit::VoicePresence(*edit)),
             Edit::Message(edit) => Ok(Edit::Message(edit.copy(alloc)?)),
         }
@@ -79,6 +84,13 @@ fn judge_channel(guild: &Guild, edit: &ChannelEdit) -> Result<(), Verdict>
     channel_edit::check(guild, edit)
 }
 
+fn judge_thread(guild: &Guild, edit: &ThreadEdit) -> Result<(), Verdict>
+    ensures { result ≡ outcome (first_of (out_of_service guild.now ∷ thread_verdict guild.now edit.now ∷ [])) }
+{
+    in_service(guild)?;
+    thread_edit::check(guild, edit)
+}
+
 fn judge_voice_presence(guild: &Guild, edit: &VoicePresenceEdit) -> Result<(), Verdict>
     ensures { result ≡ outcome (first_of (out_of_service guild.now ∷ voice_presence_verdict guild.now edit.now ∷ [])) }
 {
@@ -101,6 +113,7 @@ pub fn judge(guild: &Guild, edit: &Edit) -> Result<(), Verdict>
         Edit::Guild(edit) => guild::check(guild, edit),
         Edit::RoleMember(edit) => judge_role_member(guild, edit),
         Edit::Channel(edit) => judge_channel(guild, edit),
+        Edit::Thread(edit) => judge_thread(guild, edit),
         Edit::VoicePresence(edit) => judge_voice_presence(guild, edit),
         Edit::Message(edit) => judge_message(guild, edit),
     }
@@ -115,6 +128,7 @@ fn make(alloc: Global, guild: &mut Guild, edit: Edit) -> Result<(), AllocError>
         Edit::Guild(edit) => guild::apply(alloc, guild, edit),
         Edit::RoleMember(edit) => role_member_edit::apply(alloc, guild, edit),
         Edit::Channel(edit) => channel_edit::apply(alloc, guild, edit),
+        Edit::Thread(edit) => thread_edit::apply(alloc, guild, edit),
         Edit::VoicePresence(edit) => voice_presence::apply(guild, edit),
         Edit::Message(edit) => message_edit::apply(alloc, guild, edit),
     }

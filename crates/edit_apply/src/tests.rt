@@ -5,6 +5,7 @@ mod guilds;
 mod limits;
 mod members;
 mod roles;
+mod threads;
 
 use crate::{Edit, apply, judge};
 use edits::{

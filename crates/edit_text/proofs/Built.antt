@@ -11,6 +11,7 @@ use Rattle.edit_apply.specs.declared.Edit.TheVariants as edit
 use Rattle.edit_apply.specs.declared.guild.GuildEdit.TheVariants.{GuildOpen, GuildRename, GuildOwner}
 use Rattle.role_member_edit.specs.declared.RoleMemberEdit.TheVariants.{RoleCreate, RoleUpdate, RoleDelete, MemberAdd, MemberRemove, MemberNick, MemberTimeout, MemberRoleAdd, MemberRoleRemove}
 use Rattle.channel_edit.specs.declared.ChannelEdit.TheVariants.{ChannelCreate, ChannelUpdate, ChannelDelete, OverwriteSet, OverwriteDelete}
+use Rattle.thread_edit.specs.declared.ThreadEdit.TheVariants.{ThreadCreate, ThreadRename, ThreadArchive, ThreadUnarchive, ThreadDelete, ThreadJoin, ThreadLeave}
 use Rattle.voice_presence.specs.declared.VoicePresenceEdit.TheVariants.{VoiceSet, PresenceSet}
 use Rattle.message_edit.specs.declared.MessageEdit.TheVariants.{MessageCreate, MessageUpdate, MessageDelete, ReactionAdd, ReactionRemove, Typing}
 use Rattle.edit_text.specs.declared.fault.LineFault.{LineFault}
@@ -27,16 +28,19 @@ use Rattle.edit_text.specs.declared.names.RoleMemberEditName.{RoleMemberEditName
 use Rattle.edit_text.specs.declared.names.RoleMemberEditName.TheVariants as role_member
 use Rattle.edit_text.specs.declared.names.ChannelEditName.{ChannelEditName}
 use Rattle.edit_text.specs.declared.names.ChannelEditName.TheVariants as channel
+use Rattle.edit_text.specs.declared.names.ThreadEditName.{ThreadEditName}
+use Rattle.edit_text.specs.declared.names.ThreadEditName.TheVariants as thread
 use Rattle.edit_text.specs.declared.names.VoicePresenceEditName.{VoicePresenceEditName}
 use Rattle.edit_text.specs.declared.names.VoicePresenceEditName.TheVariants as voice_presence
 use Rattle.edit_text.specs.declared.names.MessageEditName.{MessageEditName}
 use Rattle.edit_text.specs.declared.names.MessageEditName.TheVariants as message
 use Rattle.edit_text.specs.declared.reader.StepReader.{StepReader}
-use Rattle.edit_text.specs.Fields.{text_at, id_at, flag_at, number_below, mask_at, moment_at, position_at, kind_at, overwrite_kind_at, status_at, nullable_text_at, nullable_id_at, nullable_moment_at, intents_at}
+use Rattle.edit_text.specs.Fields.{text_at, id_at, flag_at, number_below, mask_at, moment_at, position_at, kind_at, thread_kind_at, overwrite_kind_at, status_at, nullable_text_at, nullable_id_at, nullable_moment_at, intents_at}
 use Rattle.edit_text.specs.Names.{is_built, if_built, built_edit, edit_named}
 use Rattle.edit_text.specs.GuildEdits.{guild_edit_from, guild_edit_name}
 use Rattle.edit_text.specs.RoleMemberEdits.{role_member_edit_from, role_member_edit_name}
 use Rattle.edit_text.specs.ChannelEdits.{channel_edit_from, channel_edit_name}
+use Rattle.edit_text.specs.ThreadEdits.{thread_edit_from, thread_edit_name}
 use Rattle.edit_text.specs.VoicePresenceEdits.{voice_presence_edit_from, voice_presence_edit_name}
 use Rattle.edit_text.specs.MessageEdits.{body_from, message_edit_from, message_edit_name}
 use Rattle.edit_text.specs.Edits.{edit_from, edit_name, is_built_edit}
@@ -135,6 +139,20 @@ channel_named channel.OverwriteDelete d =
     each3 (λ e. channel_edit_name e ≡ channel.OverwriteDelete) (id_at (codes "channel") d) (id_at (codes "id") d) (overwrite_kind_at (codes "type") d)
     OverwriteDelete (λ x y z. refl)
 
+thread_named : (n : ThreadEditName) (d : Data) → IfOk (thread_edit_from n d) (λ e. thread_edit_name e ≡ n)
+thread_named thread.ThreadCreate d =
+    each6 (λ e. thread_edit_name e ≡ thread.ThreadCreate) (id_at (codes "thread") d) (id_at (codes "parent") d) (thread_kind_at (codes "type") d) (text_at (codes "name") d)
+    (id_at (codes "owner") d) (moment_at (codes "at") d) ThreadCreate (λ x y z w v u. refl)
+thread_named thread.ThreadRename d =
+    each2 (λ e. thread_edit_name e ≡ thread.ThreadRename) (id_at (codes "thread") d) (text_at (codes "name") d) ThreadRename (λ x y. refl)
+thread_named thread.ThreadArchive d = each1 (λ e. thread_edit_name e ≡ thread.ThreadArchive) (id_at (codes "thread") d) ThreadArchive (λ x. refl)
+thread_named thread.ThreadUnarchive d = each1 (λ e. thread_edit_name e ≡ thread.ThreadUnarchive) (id_at (codes "thread") d) ThreadUnarchive (λ x. refl)
+thread_named thread.ThreadDelete d = each1 (λ e. thread_edit_name e ≡ thread.ThreadDelete) (id_at (codes "thread") d) ThreadDelete (λ x. refl)
+thread_named thread.ThreadJoin d =
+    each3 (λ e. thread_edit_name e ≡ thread.ThreadJoin) (id_at (codes "thread") d) (id_at (codes "user") d) (moment_at (codes "at") d) ThreadJoin (λ x y z. refl)
+thread_named thread.ThreadLeave d =
+    each2 (λ e. thread_edit_name e ≡ thread.ThreadLeave) (id_at (codes "thread") d) (id_at (codes "user") d) ThreadLeave (λ x y. refl)
+
 voice_presence_named : (n : VoicePresenceEditName) (d : Data) → IfOk (voice_presence_edit_from n d) (λ e. voice_presence_edit_name e ≡ n)
 voice_presence_named voice_presence.VoiceSet d =
     each4 (λ e. voice_presence_edit_name e ≡ voice_presence.VoiceSet) (id_at (codes "user") d) (nullable_id_at (codes "channel") d) (flag_at (codes "mute") d) (flag_at (codes "deaf") d)
@@ -163,6 +181,8 @@ edit_named_so (name.RoleMember n) d =
     each_of (λ g. role_member_edit_name g ≡ n) (λ e. edit_name e ≡ name.RoleMember n) (role_member_edit_from n d) (λ g. Ok (edit.RoleMember g)) (role_member_named n d) (λ g h. ap name.RoleMember h)
 edit_named_so (name.Channel n) d =
     each_of (λ g. channel_edit_name g ≡ n) (λ e. edit_name e ≡ name.Channel n) (channel_edit_from n d) (λ g. Ok (edit.Channel g)) (channel_named n d) (λ g h. ap name.Channel h)
+edit_named_so (name.Thread n) d =
+    each_of (λ g. thread_edit_name g ≡ n) (λ e. edit_name e ≡ name.Thread n) (thread_edit_from n d) (λ g. Ok (edit.Thread g)) (thread_named n d) (λ g h. ap name.Thread h)
 edit_named_so (name.VoicePresence n) d =
     each_of (λ g. voice_presence_edit_name g ≡ n) (λ e. edit_name e ≡ name.VoicePresence n) (voice_presence_edit_from n d) (λ g. Ok (edit.VoicePresence g)) (voice_presence_named n d)
     (λ g h. ap name.VoicePresence h)

@@ -17,6 +17,7 @@ use Rattle.guild_model.proofs.Numbers.{channel_kind_back, overwrite_kind_back}
 use Rattle.edit_text.specs.Fits.{IdFits, NullableIdFits, MaskFits, MomentFits, NullableMomentFits, GuildEditFits, RoleMemberEditFits, ChannelEditFits, EditFits}
 use Rattle.edit_text.specs.Written.{edit_within, role_member_within, channel_within}
 use Rattle.edit_text.proofs.ReadsBack.{Back, PlainEdit, mask_below, mask_as_id, moment_below}
+use Rattle.edit_text.proofs.ThreadsBack.{thread_back, thread_plain}
 use Rattle.edit_text.proofs.VoicesBack.{voice_presence_back, voice_presence_plain}
 use Rattle.edit_text.proofs.MessagesBack.{message_back, message_plain}
 
@@ -126,6 +127,7 @@ pub edit_back : (guild : ℕ) (e : Edit) → IdFits guild → EditFits e → edi
 edit_back guild (edit.Guild e) h k p = guild_back guild e h k
 edit_back guild (edit.RoleMember e) h k p = role_member_back guild e h k p
 edit_back guild (edit.Channel e) h k p = channel_back guild e h k p
+edit_back guild (edit.Thread e) h k p = thread_back guild e h k
 edit_back guild (edit.VoicePresence e) h k p = voice_presence_back guild e h k
 edit_back guild (edit.Message e) h k p = message_back guild e h k p
 
@@ -185,5 +187,6 @@ pub edit_plain : (guild : ℕ) (e : Edit) → PlainEdit guild e
 edit_plain guild (edit.Guild e) = guild_plain guild e
 edit_plain guild (edit.RoleMember e) = role_member_plain guild e
 edit_plain guild (edit.Channel e) = channel_plain guild e
+edit_plain guild (edit.Thread e) = thread_plain guild e
 edit_plain guild (edit.VoicePresence e) = voice_presence_plain guild e
 edit_plain guild (edit.Message e) = message_plain guild e

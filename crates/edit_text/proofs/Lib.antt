@@ -5,4 +5,5 @@ pub mod LinesBack
 pub mod Lists
 pub mod MessagesBack
 pub mod ReadsBack
+pub mod ThreadsBack
 pub mod VoicesBack

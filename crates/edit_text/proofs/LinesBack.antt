@@ -21,11 +21,12 @@ use Rattle.edit_text.specs.declared.names.EditName.TheVariants as name
 use Rattle.edit_text.specs.declared.names.GuildEditName.TheVariants.{GuildOpen, GuildRename, GuildOwner, GuildOutage, GuildBack}
 use Rattle.edit_text.specs.declared.names.RoleMemberEditName.TheVariants.{RoleCreate, RoleUpdate, RoleDelete, MemberAdd, MemberRemove, MemberNick, MemberTimeout, MemberRoleAdd, MemberRoleRemove}
 use Rattle.edit_text.specs.declared.names.ChannelEditName.TheVariants.{ChannelCreate, ChannelUpdate, ChannelDelete, OverwriteSet, OverwriteDelete}
+use Rattle.edit_text.specs.declared.names.ThreadEditName.TheVariants.{ThreadCreate, ThreadRename, ThreadArchive, ThreadUnarchive, ThreadDelete, ThreadJoin, ThreadLeave}
 use Rattle.edit_text.specs.declared.names.VoicePresenceEditName.TheVariants.{VoiceSet, PresenceSet}
 use Rattle.edit_text.specs.declared.names.MessageEditName.TheVariants.{MessageCreate, MessageUpdate, MessageDelete, ReactionAdd, ReactionRemove, Typing}
 use Rattle.edit_text.specs.declared.reader.StepReader.{StepReader}
 use Rattle.edit_text.specs.Fields.{text_at}
-use Rattle.edit_text.specs.Names.{step_named, connection_step_named, any_step_named, step_text, guild_edit_named, role_edit_named, member_edit_named, channel_edit_named, voice_presence_edit_named, message_edit_named, reaction_edit_named, edit_named, name_text}
+use Rattle.edit_text.specs.Names.{step_named, connection_step_named, any_step_named, step_text, guild_edit_named, role_edit_named, member_edit_named, channel_edit_named, thread_edit_named, thread_state_edit_named, voice_presence_edit_named, message_edit_named, reaction_edit_named, edit_named, name_text}
 use Rattle.edit_text.specs.Edits.{edit_name, is_built_edit}
 use Rattle.edit_text.specs.Fits.{LineFits}
 use Rattle.edit_text.specs.Lines.{is_allowed, is_blank, fields_from, line_from, line_of}
@@ -48,7 +49,7 @@ step_back step.Closed = refl
 step_back step.Tick = refl
 
 pub named_back : (n : EditName) → edit_named (name_text n) ≡ Some n
-unfolding guild_edit_named role_edit_named member_edit_named channel_edit_named voice_presence_edit_named message_edit_named reaction_edit_named
+unfolding guild_edit_named role_edit_named member_edit_named channel_edit_named thread_edit_named thread_state_edit_named voice_presence_edit_named message_edit_named reaction_edit_named
 named_back (name.Guild GuildOpen) = refl
 named_back (name.Guild GuildRename) = refl
 named_back (name.Guild GuildOwner) = refl
@@ -68,6 +69,13 @@ named_back (name.Channel ChannelUpdate) = refl
 named_back (name.Channel ChannelDelete) = refl
 named_back (name.Channel OverwriteSet) = refl
 named_back (name.Channel OverwriteDelete) = refl
+named_back (name.Thread ThreadCreate) = refl
+named_back (name.Thread ThreadRename) = refl
+named_back (name.Thread ThreadArchive) = refl
+named_back (name.Thread ThreadUnarchive) = refl
+named_back (name.Thread ThreadDelete) = refl
+named_back (name.Thread ThreadJoin) = refl
+named_back (name.Thread ThreadLeave) = refl
 named_back (name.VoicePresence VoiceSet) = refl
 named_back (name.VoicePresence PresenceSet) = refl
 named_back (name.Message MessageCreate) = refl

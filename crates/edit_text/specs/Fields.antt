@@ -8,9 +8,10 @@ use Rattle.serde_json.specs.Find.{as_str, as_array}
 use Rattle.json_view.specs.Fields.{and_then, field, unless_null, whole, text_field, id_value, id_field, number_field, flag_field}
 use Rattle.guild_model.specs.declared.channel.ChannelKind.{ChannelKind}
 use Rattle.guild_model.specs.declared.channel.OverwriteKind.{OverwriteKind}
+use Rattle.guild_model.specs.declared.thread.ThreadKind.{ThreadKind}
 use Rattle.guild_model.specs.declared.presence.Status.{Status}
 use Rattle.guild_model.specs.Statuses.{status_named}
-use Rattle.guild_model.specs.Numbers.{channel_kind_numbered, overwrite_kind_numbered}
+use Rattle.guild_model.specs.Numbers.{channel_kind_numbered, thread_kind_numbered, overwrite_kind_numbered}
 use Rattle.guild_model.specs.declared.moment.TheConstants.{END_OF_TIME}
 use Rattle.edit_text.specs.declared.fault.LineFault.{LineFault}
 use Rattle.edit_text.specs.declared.fault.LineFault.TheVariants.{WrongType}
@@ -46,6 +47,10 @@ position_at name d = number_below (2 ^ 31) name d
 -- the type of a channel (Channels Resource, Channel Types)
 abbrev pub kind_at : List ℕ → Data → Result ChannelKind LineFault
 kind_at name d = and_then (faulted (number_field name d)) (λ n. ok_or (channel_kind_numbered n) WrongType)
+
+-- the type of a thread (Channels Resource, Channel Types)
+abbrev pub thread_kind_at : List ℕ → Data → Result ThreadKind LineFault
+thread_kind_at name d = and_then (faulted (number_field name d)) (λ n. ok_or (thread_kind_numbered n) WrongType)
 
 -- whom an overwrite is of (Channels Resource, Overwrite Object)
 abbrev pub overwrite_kind_at : List ℕ → Data → Result OverwriteKind LineFault

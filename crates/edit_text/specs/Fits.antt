@@ -9,6 +9,8 @@ use Rattle.role_member_edit.specs.declared.RoleMemberEdit.{RoleMemberEdit}
 use Rattle.role_member_edit.specs.declared.RoleMemberEdit.TheVariants.{RoleCreate, RoleUpdate, RoleDelete, MemberAdd, MemberRemove, MemberNick, MemberTimeout, MemberRoleAdd, MemberRoleRemove}
 use Rattle.channel_edit.specs.declared.ChannelEdit.{ChannelEdit}
 use Rattle.channel_edit.specs.declared.ChannelEdit.TheVariants.{ChannelCreate, ChannelUpdate, ChannelDelete, OverwriteSet, OverwriteDelete}
+use Rattle.thread_edit.specs.declared.ThreadEdit.{ThreadEdit}
+use Rattle.thread_edit.specs.declared.ThreadEdit.TheVariants.{ThreadCreate, ThreadRename, ThreadArchive, ThreadUnarchive, ThreadDelete, ThreadJoin, ThreadLeave}
 use Rattle.voice_presence.specs.declared.VoicePresenceEdit.{VoicePresenceEdit}
 use Rattle.voice_presence.specs.declared.VoicePresenceEdit.TheVariants.{VoiceSet, PresenceSet}
 use Rattle.message_edit.specs.declared.MessageEdit.{MessageEdit}
@@ -66,6 +68,15 @@ ChannelEditFits (ChannelDelete channel) = IdFits channel
 ChannelEditFits (OverwriteSet channel id kind allow deny) = IdFits channel × IdFits id × MaskFits allow × MaskFits deny
 ChannelEditFits (OverwriteDelete channel id kind) = IdFits channel × IdFits id
 
+abbrev pub ThreadEditFits : ThreadEdit → Type 0
+ThreadEditFits (ThreadCreate thread parent kind name owner at) = IdFits thread × IdFits parent × IdFits owner × MomentFits at
+ThreadEditFits (ThreadRename thread name) = IdFits thread
+ThreadEditFits (ThreadArchive thread) = IdFits thread
+ThreadEditFits (ThreadUnarchive thread) = IdFits thread
+ThreadEditFits (ThreadDelete thread) = IdFits thread
+ThreadEditFits (ThreadJoin thread user at) = IdFits thread × IdFits user × MomentFits at
+ThreadEditFits (ThreadLeave thread user) = IdFits thread × IdFits user
+
 abbrev pub VoicePresenceEditFits : VoicePresenceEdit → Type 0
 VoicePresenceEditFits (VoiceSet user channel mute deaf) = IdFits user × NullableIdFits channel
 VoicePresenceEditFits (PresenceSet user status) = IdFits user
@@ -82,6 +93,7 @@ abbrev pub EditFits : Edit → Type 0
 EditFits (edit.Guild e) = GuildEditFits e
 EditFits (edit.RoleMember e) = RoleMemberEditFits e
 EditFits (edit.Channel e) = ChannelEditFits e
+EditFits (edit.Thread e) = ThreadEditFits e
 EditFits (edit.VoicePresence e) = VoicePresenceEditFits e
 EditFits (edit.Message e) = MessageEditFits e
 

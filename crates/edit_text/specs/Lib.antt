@@ -5,6 +5,7 @@ pub mod Names
 pub mod GuildEdits
 pub mod RoleMemberEdits
 pub mod ChannelEdits
+pub mod ThreadEdits
 pub mod VoicePresenceEdits
 pub mod MessageEdits
 pub mod Edits

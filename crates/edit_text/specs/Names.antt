@@ -9,12 +9,14 @@ use Rattle.edit_text.specs.declared.names.RoleMemberEditName.{RoleMemberEditName
 use Rattle.edit_text.specs.declared.names.RoleMemberEditName.TheVariants.{RoleCreate, RoleUpdate, RoleDelete, MemberAdd, MemberRemove, MemberNick, MemberTimeout, MemberRoleAdd, MemberRoleRemove}
 use Rattle.edit_text.specs.declared.names.ChannelEditName.{ChannelEditName}
 use Rattle.edit_text.specs.declared.names.ChannelEditName.TheVariants.{ChannelCreate, ChannelUpdate, ChannelDelete, OverwriteSet, OverwriteDelete}
+use Rattle.edit_text.specs.declared.names.ThreadEditName.{ThreadEditName}
+use Rattle.edit_text.specs.declared.names.ThreadEditName.TheVariants.{ThreadCreate, ThreadRename, ThreadArchive, ThreadUnarchive, ThreadDelete, ThreadJoin, ThreadLeave}
 use Rattle.edit_text.specs.declared.names.VoicePresenceEditName.{VoicePresenceEditName}
 use Rattle.edit_text.specs.declared.names.VoicePresenceEditName.TheVariants.{VoiceSet, PresenceSet}
 use Rattle.edit_text.specs.declared.names.MessageEditName.{MessageEditName}
 use Rattle.edit_text.specs.declared.names.MessageEditName.TheVariants.{MessageCreate, MessageUpdate, MessageDelete, ReactionAdd, ReactionRemove, Typing}
 use Rattle.edit_text.specs.declared.names.EditName.{EditName}
-use Rattle.edit_text.specs.declared.names.EditName.TheVariants.{Guild, RoleMember, Channel, VoicePresence, Message}
+use Rattle.edit_text.specs.declared.names.EditName.TheVariants.{Guild, RoleMember, Channel, Thread, VoicePresence, Message}
 
 -- the first of two that is there
 abbrev pub first_named : {A : Type 0} → Option A → Option A → Option A
@@ -115,6 +117,21 @@ channel_edit_named s =
     else (if bytes_eq s (codes "overwrite_delete") then Some OverwriteDelete
     else None))))
 
+unfoldable pub thread_edit_named : List ℕ → Option ThreadEditName
+thread_edit_named s =
+    if bytes_eq s (codes "thread_create") then Some ThreadCreate
+    else (if bytes_eq s (codes "thread_rename") then Some ThreadRename
+    else (if bytes_eq s (codes "thread_delete") then Some ThreadDelete
+    else None))
+
+unfoldable pub thread_state_edit_named : List ℕ → Option ThreadEditName
+thread_state_edit_named s =
+    if bytes_eq s (codes "thread_archive") then Some ThreadArchive
+    else (if bytes_eq s (codes "thread_unarchive") then Some ThreadUnarchive
+    else (if bytes_eq s (codes "thread_join") then Some ThreadJoin
+    else (if bytes_eq s (codes "thread_leave") then Some ThreadLeave
+    else None)))
+
 unfoldable pub voice_presence_edit_named : List ℕ → Option VoicePresenceEditName
 voice_presence_edit_named s =
     if bytes_eq s (codes "voice_set") then Some VoiceSet
@@ -139,8 +156,9 @@ abbrev pub edit_named : List ℕ → Option EditName
 edit_named s =
     first_named (option_map Guild (guild_edit_named s)) (first_named (option_map RoleMember (role_edit_named s))
     (first_named (option_map RoleMember (member_edit_named s)) (first_named (option_map Channel (channel_edit_named s))
+    (first_named (option_map Thread (thread_edit_named s)) (first_named (option_map Thread (thread_state_edit_named s))
     (first_named (option_map VoicePresence (voice_presence_edit_named s)) (first_named (option_map Message (message_edit_named s))
-    (option_map Message (reaction_edit_named s)))))))
+    (option_map Message (reaction_edit_named s)))))))))
 
 abbrev pub guild_edit_text : GuildEditName → List ℕ
 guild_edit_text GuildOpen = codes "guild_open"
@@ -167,6 +185,15 @@ channel_edit_text ChannelDelete = codes "channel_delete"
 channel_edit_text OverwriteSet = codes "overwrite_set"
 channel_edit_text OverwriteDelete = codes "overwrite_delete"
 
+abbrev pub thread_edit_text : ThreadEditName → List ℕ
+thread_edit_text ThreadCreate = codes "thread_create"
+thread_edit_text ThreadRename = codes "thread_rename"
+thread_edit_text ThreadArchive = codes "thread_archive"
+thread_edit_text ThreadUnarchive = codes "thread_unarchive"
+thread_edit_text ThreadDelete = codes "thread_delete"
+thread_edit_text ThreadJoin = codes "thread_join"
+thread_edit_text ThreadLeave = codes "thread_leave"
+
 abbrev pub voice_presence_edit_text : VoicePresenceEditName → List ℕ
 voice_presence_edit_text VoiceSet = codes "voice_set"
 voice_presence_edit_text PresenceSet = codes "presence_set"
@@ -183,6 +210,7 @@ abbrev pub name_text : EditName → List ℕ
 name_text (Guild name) = guild_edit_text name
 name_text (RoleMember name) = role_member_edit_text name
 name_text (Channel name) = channel_edit_text name
+name_text (Thread name) = thread_edit_text name
 name_text (VoicePresence name) = voice_presence_edit_text name
 name_text (Message name) = message_edit_text name
 
@@ -190,23 +218,30 @@ name_text (Message name) = message_edit_text name
 abbrev pub is_built : EditName → Bool
 is_built (Guild GuildOpen) = true
 is_built (Guild GuildRename) = true
-is_built (Guild GuildOwner) = false
+is_built (Guild GuildOwner) = true
 is_built (Guild GuildOutage) = false
 is_built (Guild GuildBack) = false
-is_built (RoleMember RoleCreate) = false
-is_built (RoleMember RoleUpdate) = false
-is_built (RoleMember RoleDelete) = false
+is_built (RoleMember RoleCreate) = true
+is_built (RoleMember RoleUpdate) = true
+is_built (RoleMember RoleDelete) = true
 is_built (RoleMember MemberAdd) = true
-is_built (RoleMember MemberRemove) = false
-is_built (RoleMember MemberNick) = false
-is_built (RoleMember MemberTimeout) = false
-is_built (RoleMember MemberRoleAdd) = false
-is_built (RoleMember MemberRoleRemove) = false
-is_built (Channel ChannelCreate) = false
-is_built (Channel ChannelUpdate) = false
-is_built (Channel ChannelDelete) = false
-is_built (Channel OverwriteSet) = false
-is_built (Channel OverwriteDelete) = false
+is_built (RoleMember MemberRemove) = true
+is_built (RoleMember MemberNick) = true
+is_built (RoleMember MemberTimeout) = true
+is_built (RoleMember MemberRoleAdd) = true
+is_built (RoleMember MemberRoleRemove) = true
+is_built (Channel ChannelCreate) = true
+is_built (Channel ChannelUpdate) = true
+is_built (Channel ChannelDelete) = true
+is_built (Channel OverwriteSet) = true
+is_built (Channel OverwriteDelete) = true
+is_built (Thread ThreadCreate) = true
+is_built (Thread ThreadRename) = true
+is_built (Thread ThreadArchive) = true
+is_built (Thread ThreadUnarchive) = true
+is_built (Thread ThreadDelete) = true
+is_built (Thread ThreadJoin) = true
+is_built (Thread ThreadLeave) = true
 is_built (VoicePresence VoiceSet) = false
 is_built (VoicePresence PresenceSet) = false
 is_built (Message MessageCreate) = false

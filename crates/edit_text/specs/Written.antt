@@ -90,6 +90,7 @@ abbrev pub edit_within : Edit → Bool
 edit_within (edit.Guild e) = true
 edit_within (edit.RoleMember e) = role_member_within e
 edit_within (edit.Channel e) = channel_within e
+edit_within (edit.Thread e) = true
 edit_within (edit.VoicePresence e) = true
 edit_within (edit.Message e) = message_within e
 

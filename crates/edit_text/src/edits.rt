@@ -11,6 +11,7 @@ mod channel;
 mod guild;
 mod message;
 mod role_member;
+mod thread;
 mod voice;
 
 use crate::LineFault;
@@ -29,6 +30,7 @@ pub fn read(alloc: Global, name: EditName, object: &Value) -> Result<Edit, LineF
             Ok(Edit::RoleMember(role_member::read(alloc, name, object)?))
         }
         EditName::Channel(name) => Ok(Edit::Channel(channel::read(alloc, name, object)?)),
+        EditName::Thread(name) => Ok(Edit::Thread(thread::read(alloc, name, object)?)),
         EditName::VoicePresence(name) => { Ok(Edit::VoicePresence(voice::read(name, object)?)) }
         EditName::Message(name) => Ok(Edit::Message(message::read(alloc, name, object)?)),
     }
@@ -42,6 +44,7 @@ pub fn name_of(edit: &Edit) -> EditName
         Edit::Guild(edit) => EditName::Guild(guild::name_of(edit)),
         Edit::RoleMember(edit) => EditName::RoleMember(role_member::name_of(edit)),
         Edit::Channel(edit) => EditName::Channel(channel::name_of(edit)),
+        Edit::Thread(edit) => EditName::Thread(thread::name_of(edit)),
         Edit::VoicePresence(edit) => EditName::VoicePresence(voice::name_of(edit)),
         Edit::Message(edit) => EditName::Message(message::name_of(edit)),
     }
@@ -63,6 +66,10 @@ pub fn put(alloc: Global, members: &mut Map<String, Value>, edit: &Edit) -> Resu
         }
         Edit::Channel(edit) => {
             channel::put(alloc, members, edit)?;
+            Ok(())
+        }
+        Edit::Thread(edit) => {
+            thread::put(alloc, members, edit)?;
             Ok(())
         }
         Edit::VoicePresence(edit) => {

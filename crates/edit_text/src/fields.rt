@@ -10,11 +10,11 @@ ghost use Rattle.edit_text.specs.declared.fault.LineFault.TheVariants.{WrongType
 ghost use Rattle.serde_json.specs.View.{view, items_view};
 ghost use Rattle.serde_json.specs.Events.{items_len};
 ghost use Rattle.edit_text.specs.Fault.{UnlessMemory, fault_of};
-ghost use Rattle.edit_text.specs.Fields.{text_at, id_at, flag_at, number_below, within, are_intents, mask_at, moment_at, position_at, kind_at, overwrite_kind_at, status_at, parts_at, ids_from, few_ids_from, ids_at, nullable_text_at, nullable_id_at, nullable_moment_at, intents_at};
+ghost use Rattle.edit_text.specs.Fields.{text_at, id_at, flag_at, number_below, within, are_intents, mask_at, moment_at, position_at, kind_at, thread_kind_at, overwrite_kind_at, status_at, parts_at, ids_from, few_ids_from, ids_at, nullable_text_at, nullable_id_at, nullable_moment_at, intents_at};
 
 use crate::LineFault;
 use collections::{Seq, Text};
-use guild_model::{ChannelKind, Moment, OverwriteKind, Status, limits};
+use guild_model::{ChannelKind, Moment, OverwriteKind, Status, ThreadKind, limits};
 use intent_set::Intents;
 use json_view::{ViewFault, field_of, flag_of, id_from, id_of, number_of, text_of};
 use perm_bits::Perms;
@@ -124,6 +124,19 @@ pub fn kind_at(object: &Value, name: &str) -> Result<ChannelKind, LineFault>
     match number_of(object, name) {
         Err(fault) => Err(fault_of(fault)),
         Ok(number) => match ChannelKind::of_number(number) {
+            None => Err(LineFault::WrongType),
+            Some(kind) => Ok(kind),
+        },
+    }
+}
+
+/// The type of a thread, as a number (Channels Resource, Channel Types).
+pub fn thread_kind_at(object: &Value, name: &str) -> Result<ThreadKind, LineFault>
+    ensures { result ≡ thread_kind_at name.now (view object.now) }
+{
+    match number_of(object, name) {
+        Err(fault) => Err(fault_of(fault)),
+        Ok(number) => match ThreadKind::of_number(number) {
             None => Err(LineFault::WrongType),
             Some(kind) => Ok(kind),
         },

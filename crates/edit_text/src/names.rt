@@ -1,7 +1,7 @@
 //! The names of steps and of edits, and which of them may be used.
 
 ghost use Rattle.std.specs.Prelude.{◌≡◌};
-ghost use Rattle.edit_text.specs.Names.{first_named, step_named, connection_step_named, any_step_named, step_text, is_head, is_built_step, guild_edit_named, role_edit_named, member_edit_named, channel_edit_named, voice_presence_edit_named, message_edit_named, reaction_edit_named, edit_named, guild_edit_text, role_member_edit_text, channel_edit_text, voice_presence_edit_text, message_edit_text, name_text, is_built, built_edit};
+ghost use Rattle.edit_text.specs.Names.{first_named, step_named, connection_step_named, any_step_named, step_text, is_head, is_built_step, guild_edit_named, role_edit_named, member_edit_named, channel_edit_named, thread_edit_named, thread_state_edit_named, voice_presence_edit_named, message_edit_named, reaction_edit_named, edit_named, guild_edit_text, role_member_edit_text, channel_edit_text, thread_edit_text, voice_presence_edit_text, message_edit_text, name_text, is_built, built_edit};
 
 /// A step, by its name.
 #[derive(Clone, Copy, PartialEq, Eq, Debug)]
@@ -51,6 +51,18 @@ pub enum ChannelEditName {
     OverwriteDelete,
 }
 
+/// An edit of threads, by its name.
+#[derive(Clone, Copy, PartialEq, Eq, Debug)]
+pub enum ThreadEditName {
+    ThreadCreate,
+    ThreadRename,
+    ThreadArchive,
+    ThreadUnarchive,
+    ThreadDelete,
+    ThreadJoin,
+    ThreadLeave,
+}
+
 /// An edit of voice states or presences, by its name.
 #[derive(Clone, Copy, PartialEq, Eq, Debug)]
 pub enum VoicePresenceEditName {
@@ -75,6 +87,7 @@ pub enum EditName {
     Guild(GuildEditName),
     RoleMember(RoleMemberEditName),
     Channel(ChannelEditName),
+    Thread(ThreadEditName),
     VoicePresence(VoicePresenceEditName),
     Message(MessageEditName),
 }
@@ -248,6 +261,41 @@ fn channel_edit_named(name: &str) -> Option<ChannelEditName>
     None
 }
 
+#[tactic(auto, unfolding(crate::specs::Names::thread_edit_named))]
+fn thread_edit_named(name: &str) -> Option<ThreadEditName>
+    ensures { result ≡ thread_edit_named name.now }
+{
+    if name == "thread_create" {
+        return Some(ThreadEditName::ThreadCreate);
+    }
+    if name == "thread_rename" {
+        return Some(ThreadEditName::ThreadRename);
+    }
+    if name == "thread_delete" {
+        return Some(ThreadEditName::ThreadDelete);
+    }
+    None
+}
+
+#[tactic(auto, unfolding(crate::specs::Names::thread_state_edit_named))]
+fn thread_state_edit_named(name: &str) -> Option<ThreadEditName>
+    ensures { result ≡ thread_state_edit_named name.now }
+{
+    if name == "thread_archive" {
+        return Some(ThreadEditName::ThreadArchive);
+    }
+    if name == "thread_unarchive" {
+        return Some(ThreadEditName::ThreadUnarchive);
+    }
+    if name == "thread_join" {
+        return Some(ThreadEditName::ThreadJoin);
+    }
+    if name == "thread_leave" {
+        return Some(ThreadEditName::ThreadLeave);
+    }
+    None
+}
+
 #[tactic(auto, unfolding(crate::specs::Names::voice_presence_edit_named))]
 fn voice_presence_edit_named(name: &str) -> Option<VoicePresenceEditName>
     ensures { result ≡ voice_presence_edit_named name.now }
@@ -342,6 +390,23 @@ impl ChannelEditName {
     }
 }
 
+impl ThreadEditName {
+    /// The name of an edit.
+    pub fn text(self) -> &'static str
+        ensures { result.now ≡ thread_edit_text self }
+    {
+        match self {
+            ThreadEditName::ThreadCreate => "thread_create",
+            ThreadEditName::ThreadRename => "thread_rename",
+            ThreadEditName::ThreadArchive => "thread_archive",
+            ThreadEditName::ThreadUnarchive => "thread_unarchive",
+            ThreadEditName::ThreadDelete => "thread_delete",
+            ThreadEditName::ThreadJoin => "thread_join",
+            ThreadEditName::ThreadLeave => "thread_leave",
+        }
+    }
+}
+
 impl VoicePresenceEditName {
     /// The name of an edit.
     pub fn text(self) -> &'static str
@@ -387,6 +452,12 @@ impl EditName {
         if let Some(edit) = channel_edit_named(name) {
             return Some(EditName::Channel(edit));
         }
+        if let Some(edit) = thread_edit_named(name) {
+            return Some(EditName::Thread(edit));
+        }
+        if let Some(edit) = thread_state_edit_named(name) {
+            return Some(EditName::Thread(edit));
+        }
         if let Some(edit) = voice_presence_edit_named(name) {
             return Some(EditName::VoicePresence(edit));
         }
@@ -407,6 +478,7 @@ impl EditName {
             EditName::Guild(edit) => edit.text(),
             EditName::RoleMember(edit) => edit.text(),
             EditName::Channel(edit) => edit.text(),
+            EditName::Thread(edit) => edit.text(),
             EditName::VoicePresence(edit) => edit.text(),
             EditName::Message(edit) => edit.text(),
         }
@@ -419,10 +491,10 @@ impl EditName {
         match self {
             EditName::Guild(edit) => matches!(
                 edit,
-                GuildEditName::GuildOpen | GuildEditName::GuildRename
+                GuildEditName::GuildOpen | GuildEditName::GuildRename | GuildEditName::GuildOwner
             ),
-            EditName::RoleMember(edit) => matches!(edit, RoleMemberEditName::MemberAdd),
-            EditName::Channel(_) | EditName::VoicePresence(_) | EditName::Message(_) => false,
+            EditName::RoleMember(_) | EditName::Channel(_) | EditName::Thread(_) => true,
+            EditName::VoicePresence(_) | EditName::Message(_) => false,
         }
     }
 

@@ -1,3 +1,6 @@
+mod fields;
+mod lines;
+
 use crate::{FileKind, LineFault, StepReader};
 use std::test::Fail;
 

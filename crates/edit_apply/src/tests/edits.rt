@@ -1,6 +1,6 @@
-use crate::{ChannelEdit, Edit, GuildEdit, RoleMemberEdit};
+use crate::{ChannelEdit, Edit, GuildEdit, RoleMemberEdit, ThreadEdit};
 use collections::Text;
-use guild_model::{ChannelKind, Moment, OverwriteKind};
+use guild_model::{ChannelKind, Moment, OverwriteKind, ThreadKind};
 use perm_bits::Perms;
 use snowflake_id::Snowflake;
 use std::alloc::{AllocError, Global};
@@ -165,4 +165,58 @@ pub fn overwrite_delete(channel: u64, id: u64, kind: OverwriteKind) -> Edit {
     let channel = Snowflake(channel);
     let id = Snowflake(id);
     Edit::Channel(ChannelEdit::OverwriteDelete { channel, id, kind })
+}
+
+pub fn thread_create(
+    alloc: Global,
+    thread: u64,
+    kind: ThreadKind,
+    parent: u64,
+    owner: u64,
+    name: usize,
+) -> Result<Edit, Fail> {
+    Ok(Edit::Thread(ThreadEdit::ThreadCreate {
+        thread: Snowflake(thread),
+        parent: Snowflake(parent),
+        kind,
+        name: letters(alloc, name)?,
+        owner: Snowflake(owner),
+        at: start()?,
+    }))
+}
+
+pub fn thread_rename(alloc: Global, thread: u64, name: usize) -> Result<Edit, Fail> {
+    Ok(Edit::Thread(ThreadEdit::ThreadRename {
+        thread: Snowflake(thread),
+        name: letters(alloc, name)?,
+    }))
+}
+
+pub fn thread_archive(thread: u64) -> Edit {
+    let thread = Snowflake(thread);
+    Edit::Thread(ThreadEdit::ThreadArchive { thread })
+}
+
+pub fn thread_unarchive(thread: u64) -> Edit {
+    let thread = Snowflake(thread);
+    Edit::Thread(ThreadEdit::ThreadUnarchive { thread })
+}
+
+pub fn thread_delete(thread: u64) -> Edit {
+    let thread = Snowflake(thread);
+    Edit::Thread(ThreadEdit::ThreadDelete { thread })
+}
+
+pub fn thread_join(thread: u64, user: u64) -> Result<Edit, Fail> {
+    Ok(Edit::Thread(ThreadEdit::ThreadJoin {
+        thread: Snowflake(thread),
+        user: Snowflake(user),
+        at: start()?,
+    }))
+}
+
+pub fn thread_leave(thread: u64, user: u64) -> Edit {
+    let thread = Snowflake(thread);
+    let user = Snowflake(user);
+    Edit::Thread(ThreadEdit::ThreadLeave { thread, user })
 }

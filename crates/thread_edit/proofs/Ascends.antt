@@ -1,0 +1,63 @@
+-- The lists of a record still ascend after each edit of threads.
+use Rattle.std.proofs.Common.{◌≡◌, ℕ, Bool, not, List, refl}
+use Rattle.std.specs.Prelude.{◌==◌, All}
+use Rattle.std.proofs.lemmas.List.Elements.{All-filter}
+use Rattle.collections.specs.ById.{IsById, put_id, changed_id, without_id}
+use Rattle.collections.proofs.Ids.{IsById-put, IsById-changed}
+use Rattle.collections.proofs.Finds.{IsById-filter}
+use Rattle.collections.proofs.Has.{All-put, All-changed}
+use Rattle.guild_model.specs.declared.thread.Thread.{Thread}
+use Rattle.guild_model.specs.declared.thread.ThreadKind.{ThreadKind}
+use Rattle.guild_model.specs.declared.message.MessageHead.{MessageHead}
+use Rattle.guild_model.specs.Record.{Record, thread_id, thread_member_id}
+use Rattle.guild_model.specs.Heads.{AreRecent}
+use Rattle.guild_model.specs.Ascending.{IsAscending}
+use Rattle.guild_model.proofs.Recent.{recent_left}
+use Rattle.thread_edit.specs.Threads.{new_thread_member, new_thread, thread_created, thread_changed, with_thread_name, stands_elsewhere, thread_deleted}
+use Rattle.thread_edit.specs.Archives.{with_archived}
+use Rattle.thread_edit.specs.ThreadMembers.{with_joined, with_left}
+
+abbrev HasInOrder : Thread → Type 0
+HasInOrder t = IsById thread_member_id t.members
+
+module _ (g : Record) (a : IsAscending g) where
+  threads_changed : (ts : List Thread) (ms : List MessageHead) → IsById thread_id ts → All HasInOrder ts → AreRecent ms → IsAscending (record g { threads = ts; messages = ms })
+  threads_changed ts ms threads joined messages = record {
+    roles = a.roles;
+    members = a.members;
+    channels = a.channels;
+    threads = threads;
+    voices = a.voices;
+    presences = a.presences;
+    held = a.held;
+    overwrites = a.overwrites;
+    joined = joined;
+    messages = messages;
+  }
+
+  pub thread_came : (thread parent : ℕ) (kind : ThreadKind) (name : List ℕ) (owner at : ℕ) → IsAscending (thread_created g thread parent kind name owner at)
+  thread_came thread parent kind name owner at =
+      let n : Thread = new_thread thread parent kind name owner at in
+      threads_changed (put_id thread_id n g.threads) g.messages (IsById-put thread_id n g.threads a.threads) (All-put thread_id HasInOrder n g.threads (tt, tt) a.joined) a.messages
+
+  changed : (at : ℕ) (f : Thread → Thread) → ((t : Thread) → thread_id (f t) ≡ thread_id t) → ((t : Thread) → HasInOrder t → HasInOrder (f t)) → IsAscending (thread_changed g at f)
+  changed at f same keeps =
+      threads_changed (changed_id thread_id at f g.threads) g.messages (IsById-changed thread_id at f g.threads same a.threads) (All-changed thread_id HasInOrder at f g.threads keeps a.joined) a.messages
+
+  pub renamed : (thread : ℕ) (name : List ℕ) → IsAscending (thread_changed g thread (with_thread_name name))
+  renamed thread name = changed thread (with_thread_name name) (λ t. refl) (λ t o. o)
+
+  pub archived : (thread : ℕ) (is : Bool) → IsAscending (thread_changed g thread (with_archived is))
+  archived thread is = changed thread (with_archived is) (λ t. refl) (λ t o. o)
+
+  pub user_joined : (thread user at : ℕ) → IsAscending (thread_changed g thread (with_joined user at))
+  user_joined thread user at = changed thread (with_joined user at) (λ t. refl) (λ t o. IsById-put thread_member_id (new_thread_member user at) t.members o)
+
+  pub user_left : (thread user : ℕ) → IsAscending (thread_changed g thread (with_left user))
+  user_left thread user = changed thread (with_left user) (λ t. refl) (λ t o. IsById-filter thread_member_id (λ m. not (thread_member_id m == user)) t.members o)
+
+  pub thread_gone : (thread : ℕ) → IsAscending (thread_deleted g thread)
+  thread_gone thread =
+      let others : Thread → Bool = λ t. not (thread_id t == thread) in
+      threads_changed (without_id thread_id thread g.threads) _ (IsById-filter thread_id others g.threads a.threads) (All-filter others HasInOrder g.threads a.joined)
+      (recent_left (stands_elsewhere thread) g.messages a.messages)

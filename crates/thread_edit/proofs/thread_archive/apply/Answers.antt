@@ -1,0 +1,8 @@
+use Rattle.std.proofs.Common.{true}
+use Rattle.thread_edit.proofs.Kept.{archived}
+use Rattle.thread_edit.proofs.thread_archive.apply.Goals as goal
+
+pub invariant_of-guild : goal.invariant_of-guild
+invariant_of-guild c =
+    let is_open = rw (← c.guild.view_is) at c.requires in
+    rw (c.change.ensures, c.thread.view_is) (archived _ is_open c.guild.invariant c.args.thread true)

@@ -1,0 +1,4 @@
+pub mod Threads
+pub mod Archives
+pub mod ThreadMembers
+pub mod ThreadEdits
