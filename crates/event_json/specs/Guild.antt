@@ -1,15 +1,21 @@
 -- Gateway Events, Guilds.
-use Rattle.std.specs.Prelude.{ℕ, List, codes, Bool, None}
+use Rattle.std.specs.Prelude.{ℕ, List, codes, Bool, None, Result, Ok}
 use Rattle.serde_json.specs.Data.{Data, boolean, string, object, Members, member, no_members}
 use Rattle.guild_model.specs.declared.role.Role.{Role}
 use Rattle.dispatch_types.specs.declared.dispatch.GuildCreate.{GuildCreate}
 use Rattle.object_json.specs.Kinds.{digits, count, list, member_if, true_if}
-use Rattle.object_json.specs.Role.{role_data}
-use Rattle.object_json.specs.Channel.{channel_data}
-use Rattle.object_json.specs.Member.{member_data}
-use Rattle.object_json.specs.Thread.{joined_thread_data}
-use Rattle.object_json.specs.Voice.{voice_data}
-use Rattle.object_json.specs.Presence.{presence_data}
+use Rattle.object_json.specs.Role.{role_data, role_from, RoleFits}
+use Rattle.object_json.specs.Channel.{channel_data, channel_from, ChannelFits}
+use Rattle.object_json.specs.Member.{member_data, member_from, MemberFits}
+use Rattle.object_json.specs.Thread.{joined_thread_data, joined_thread_from, JoinedThreadFits}
+use Rattle.object_json.specs.Voice.{voice_data, voice_from, VoiceFits}
+use Rattle.object_json.specs.Presence.{presence_data, presence_from, PresenceFits}
+use Rattle.json_view.specs.Fields.{and_then}
+use Rattle.object_json.specs.declared.fault.ReadFault.{ReadFault}
+use Rattle.dispatch_types.specs.declared.dispatch.Dispatch.{Dispatch}
+use Rattle.dispatch_types.specs.declared.dispatch.Dispatch.TheVariants.{GuildUpdate, GuildDelete, GuildRoleDelete}
+use Rattle.object_json.specs.Reading.{id_at, text_at, flag_at, small_at, is_there, list_at, value_at}
+use Rattle.object_json.specs.Fits.{Each, IsId, IsSmall}
 
 -- what follows the members
 abbrev pub guild_create_rest : GuildCreate → Members
@@ -55,3 +61,48 @@ guild_role_delete_data guild role =
     object (member (codes "guild_id") (digits guild)
     (member (codes "role_id") (digits role)
     no_members))
+
+-- ---- reading
+
+abbrev pub guild_create_from : Data → Result GuildCreate ReadFault
+guild_create_from d =
+    and_then (list_at channel_from (codes "channels") d) (λ channels.
+    and_then (id_at (codes "id") d) (λ id.
+    and_then (flag_at (codes "large") d) (λ large.
+    and_then (small_at (codes "member_count") d) (λ users.
+    and_then (list_at member_from (codes "members") d) (λ members.
+    and_then (text_at (codes "name") d) (λ name.
+    and_then (id_at (codes "owner_id") d) (λ owner.
+    and_then (list_at presence_from (codes "presences") d) (λ presences.
+    and_then (list_at role_from (codes "roles") d) (λ roles.
+    and_then (list_at joined_thread_from (codes "threads") d) (λ threads.
+    and_then (list_at voice_from (codes "voice_states") d) (λ voices.
+    Ok (record { id = id; name = name; owner = owner; roles = roles; channels = channels; members = members; member_count = users; large = large; threads = threads; voices = voices; presences = presences }))))))))))))
+
+abbrev pub GuildRestFits : GuildCreate → Type 0
+GuildRestFits g = IsId g.owner × Each PresenceFits g.presences × Each RoleFits g.roles × Each JoinedThreadFits g.threads × Each VoiceFits g.voices
+
+abbrev pub GuildCreateFits : GuildCreate → Type 0
+GuildCreateFits g = Each ChannelFits g.channels × IsId g.id × IsSmall g.member_count × Each MemberFits g.members × GuildRestFits g
+
+abbrev pub guild_update_from : Data → Result Dispatch ReadFault
+guild_update_from d =
+    and_then (id_at (codes "id") d) (λ id.
+    and_then (text_at (codes "name") d) (λ name.
+    and_then (id_at (codes "owner_id") d) (λ owner.
+    Ok (GuildUpdate id name owner))))
+
+abbrev pub guild_delete_from : Data → Result Dispatch ReadFault
+guild_delete_from d = and_then (id_at (codes "id") d) (λ id. Ok (GuildDelete id (is_there (codes "unavailable") d)))
+
+abbrev pub guild_role_from : Data → Result (ℕ × Role) ReadFault
+guild_role_from d =
+    and_then (id_at (codes "guild_id") d) (λ guild.
+    and_then (value_at role_from (codes "role") d) (λ role.
+    Ok (guild, role)))
+
+abbrev pub guild_role_delete_from : Data → Result Dispatch ReadFault
+guild_role_delete_from d =
+    and_then (id_at (codes "guild_id") d) (λ guild.
+    and_then (id_at (codes "role_id") d) (λ role.
+    Ok (GuildRoleDelete guild role)))

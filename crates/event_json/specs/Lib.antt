@@ -5,3 +5,4 @@ pub mod Member
 pub mod Message
 pub mod Body
 pub mod Text
+pub mod Read

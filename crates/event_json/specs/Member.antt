@@ -1,12 +1,19 @@
 -- Gateway Events, Guild Members.
-use Rattle.std.specs.Prelude.{ℕ, codes, None, option_map}
+use Rattle.std.specs.Prelude.{ℕ, codes, None, option_map, Result, Ok, IfSome}
 use Rattle.serde_json.specs.Data.{Data, string, object, member, no_members}
 use Rattle.guild_model.specs.declared.user.User.{User}
 use Rattle.dispatch_types.specs.declared.dispatch.MembersChunk.{MembersChunk}
 use Rattle.object_json.specs.Kinds.{digits, count, list, list_if, member_if}
-use Rattle.object_json.specs.User.{user_data}
-use Rattle.object_json.specs.Member.{member_data}
-use Rattle.object_json.specs.Presence.{presence_data}
+use Rattle.object_json.specs.User.{user_data, user_from}
+use Rattle.object_json.specs.Member.{member_data, member_from, MemberFits}
+use Rattle.object_json.specs.Presence.{presence_data, presence_from, PresenceFits}
+use Rattle.json_view.specs.Fields.{and_then}
+use Rattle.object_json.specs.declared.fault.ReadFault.{ReadFault}
+use Rattle.dispatch_types.specs.declared.dispatch.Dispatch.{Dispatch}
+use Rattle.dispatch_types.specs.declared.dispatch.Dispatch.TheVariants.{GuildMemberRemove}
+use Rattle.object_json.specs.Reading.{id_at, small_at, text_from, id_from, list_at, list_if_at, list_from, optional_at, value_at}
+use Rattle.object_json.specs.Fits.{Each, IsId, IsSmall}
+use Rattle.dispatch_types.specs.declared.members.MemberObject.{MemberObject}
 
 abbrev pub guild_member_remove_data : ℕ → User → Data
 guild_member_remove_data guild user =
@@ -25,3 +32,32 @@ members_chunk_data c =
     (member_if (codes "not_found") (list_if digits c.not_found)
     (member_if (codes "presences") (option_map (list presence_data) c.presences)
     no_members)))))))
+
+-- ---- reading
+
+-- a member with its guild
+abbrev pub guild_member_from : Data → Result (ℕ × MemberObject) ReadFault
+guild_member_from d =
+    and_then (id_at (codes "guild_id") d) (λ guild.
+    and_then (member_from d) (λ member.
+    Ok (guild, member)))
+
+abbrev pub guild_member_remove_from : Data → Result Dispatch ReadFault
+guild_member_remove_from d =
+    and_then (id_at (codes "guild_id") d) (λ guild.
+    and_then (value_at user_from (codes "user") d) (λ user.
+    Ok (GuildMemberRemove guild user)))
+
+abbrev pub members_chunk_from : Data → Result MembersChunk ReadFault
+members_chunk_from d =
+    and_then (small_at (codes "chunk_count") d) (λ chunks.
+    and_then (small_at (codes "chunk_index") d) (λ index.
+    and_then (id_at (codes "guild_id") d) (λ guild.
+    and_then (list_at member_from (codes "members") d) (λ members.
+    and_then (optional_at text_from (codes "nonce") d) (λ nonce.
+    and_then (list_if_at id_from (codes "not_found") d) (λ others.
+    and_then (optional_at (list_from presence_from) (codes "presences") d) (λ presences.
+    Ok (record { guild = guild; members = members; index = index; count = chunks; nonce = nonce; not_found = others; presences = presences }))))))))
+
+abbrev pub ChunkFits : MembersChunk → Type 0
+ChunkFits c = IsSmall c.count × IsSmall c.index × IsId c.guild × Each MemberFits c.members × Each IsId c.not_found × IfSome c.presences (Each PresenceFits)

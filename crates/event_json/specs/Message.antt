@@ -1,8 +1,14 @@
 -- Gateway Events, Messages.
-use Rattle.std.specs.Prelude.{ℕ, List, codes}
+use Rattle.std.specs.Prelude.{ℕ, List, codes, Result, Ok}
 use Rattle.serde_json.specs.Data.{Data, null, string, object, member, no_members}
 use Rattle.dispatch_types.specs.declared.messages.Reaction.{Reaction}
 use Rattle.object_json.specs.Kinds.{digits, count}
+use Rattle.json_view.specs.Fields.{and_then}
+use Rattle.object_json.specs.declared.fault.ReadFault.{ReadFault}
+use Rattle.dispatch_types.specs.declared.dispatch.Dispatch.{Dispatch}
+use Rattle.dispatch_types.specs.declared.dispatch.Dispatch.TheVariants.{MessageDelete, TypingStart}
+use Rattle.object_json.specs.Reading.{id_at, text_at, number_at, field_at}
+use Rattle.object_json.specs.Fits.{IsId}
 
 abbrev pub message_delete_data : ℕ → ℕ → ℕ → Data
 message_delete_data guild channel id =
@@ -35,3 +41,35 @@ typing_start_data guild channel user seconds =
     (member (codes "timestamp") (count seconds)
     (member (codes "user_id") (digits user)
     no_members))))
+
+-- ---- reading
+
+abbrev pub message_delete_from : Data → Result Dispatch ReadFault
+message_delete_from d =
+    and_then (id_at (codes "channel_id") d) (λ channel.
+    and_then (id_at (codes "guild_id") d) (λ guild.
+    and_then (id_at (codes "id") d) (λ id.
+    Ok (MessageDelete guild channel id))))
+
+abbrev pub emoji_at : Data → Result (List ℕ) ReadFault
+emoji_at d = and_then (field_at (codes "emoji") d) (text_at (codes "name"))
+
+abbrev pub reaction_from : Data → Result Reaction ReadFault
+reaction_from d =
+    and_then (id_at (codes "channel_id") d) (λ channel.
+    and_then (emoji_at d) (λ emoji.
+    and_then (id_at (codes "guild_id") d) (λ guild.
+    and_then (id_at (codes "message_id") d) (λ message.
+    and_then (id_at (codes "user_id") d) (λ user.
+    Ok (record { guild = guild; channel = channel; message = message; user = user; emoji = emoji }))))))
+
+abbrev pub ReactionFits : Reaction → Type 0
+ReactionFits r = IsId r.channel × IsId r.guild × IsId r.message × IsId r.user
+
+abbrev pub typing_start_from : Data → Result Dispatch ReadFault
+typing_start_from d =
+    and_then (id_at (codes "channel_id") d) (λ channel.
+    and_then (id_at (codes "guild_id") d) (λ guild.
+    and_then (number_at (codes "timestamp") d) (λ seconds.
+    and_then (id_at (codes "user_id") d) (λ user.
+    Ok (TypingStart guild channel user seconds)))))

@@ -2,12 +2,16 @@
 #![tactic(auto)]
 
 mod body;
+mod fault;
 mod guild;
 mod member;
 mod message;
+mod reading;
 mod ready;
 mod text;
 mod thread;
 
 pub use body::Body;
+pub use fault::DispatchFault;
+pub use reading::{read, reads_back};
 pub use text::{append_framed, framed, write};

@@ -1,15 +1,24 @@
-ghost use Rattle.std.specs.Prelude.{codes, option_map};
+ghost use Rattle.std.specs.Prelude.{OnOk, IfSome, codes, option_map};
+ghost use Rattle.serde_json.specs.View.{view};
+ghost use Rattle.object_json.specs.Reading.{UnlessMemory};
+ghost use Rattle.object_json.specs.Reading.{optional_at, list_from};
 ghost use Rattle.object_json.specs.Added.{Adds, AddsTokens, member_tokens_if};
 ghost use Rattle.object_json.specs.Kinds.{list};
-ghost use Rattle.object_json.specs.Presence.{presence_data};
-ghost use Rattle.event_json.specs.Member.{guild_member_remove_data, members_chunk_data};
+ghost use Rattle.object_json.specs.Presence.{presence_data, presence_from, PresenceFits};
+ghost use Rattle.object_json.specs.User.{UserFits};
+ghost use Rattle.object_json.specs.Fits.{Each, IsId};
+ghost use Rattle.event_json.specs.Member.{guild_member_remove_data, members_chunk_data, guild_member_from, guild_member_remove_from, members_chunk_from, ChunkFits};
 
 use collections::Seq;
-use dispatch_types::{MembersChunk, PresenceObject};
+use dispatch_types::{Dispatch, MemberObject, MembersChunk, PresenceObject};
 use guild_model::User;
 use json::Writer;
+use object_json::fault::ReadFault;
 use object_json::field::{close, id_field, open, small_field, text_field_if};
+use object_json::readable::{Readable, list_at, list_from, list_if_at, value_at};
+use object_json::reading::{id_at, optional_text_at, small_at};
 use object_json::written::{list_field, list_field_if, value_field};
+use serde_json::Value;
 use snowflake_id::Snowflake;
 use std::alloc::{AllocError, Global};
 
@@ -20,7 +29,8 @@ pub fn write_guild_member_remove(
     guild: Snowflake,
     user: &User,
 ) -> Result<(), AllocError>
-    ensures { Adds result out.old out.new (guild_member_remove_data guild user.now) }
+    ensures adds { Adds result out.old out.new (guild_member_remove_data guild user.now) }
+    ensures fits { OnOk result (IsId guild × UserFits user.now) }
 {
     open(out)?;
     id_field(out, "guild_id", guild)?;
@@ -34,7 +44,8 @@ fn presences_field_if(
     out: &mut Writer,
     presences: &Option<Seq<PresenceObject>>,
 ) -> Result<(), AllocError>
-    ensures { AddsTokens result out.old out.new (member_tokens_if (codes "presences") (option_map (list presence_data) presences.now)) }
+    ensures adds { AddsTokens result out.old out.new (member_tokens_if (codes "presences") (option_map (list presence_data) presences.now)) }
+    ensures fits { OnOk result (IfSome presences.now (Each PresenceFits)) }
 {
     match presences {
         Some(presences) => {
@@ -51,7 +62,8 @@ pub fn write_members_chunk(
     out: &mut Writer,
     chunk: &MembersChunk,
 ) -> Result<(), AllocError>
-    ensures { Adds result out.old out.new (members_chunk_data chunk.now) }
+    ensures adds { Adds result out.old out.new (members_chunk_data chunk.now) }
+    ensures fits { OnOk result (ChunkFits chunk.now) }
 {
     open(out)?;
     small_field(out, "chunk_count", chunk.count)?;
@@ -63,4 +75,59 @@ pub fn write_members_chunk(
     presences_field_if(alloc, out, &chunk.presences)?;
     close(out)?;
     Ok(())
+}
+
+/// Reads a member with its guild: the body of Guild Member Add and of Guild Member Update.
+pub fn read_guild_member(
+    alloc: Global,
+    body: &Value,
+) -> Result<(Snowflake, MemberObject), ReadFault>
+    ensures { UnlessMemory result (guild_member_from (view body.now)) }
+{
+    let guild = id_at(body, "guild_id")?;
+    let member = MemberObject::read(alloc, body)?;
+    Ok((guild, member))
+}
+
+/// Reads the body of Guild Member Remove.
+pub fn read_guild_member_remove(alloc: Global, body: &Value) -> Result<Dispatch, ReadFault>
+    ensures { UnlessMemory result (guild_member_remove_from (view body.now)) }
+{
+    let guild = id_at(body, "guild_id")?;
+    let user = value_at(alloc, body, "user")?;
+    Ok(Dispatch::GuildMemberRemove { guild, user })
+}
+
+fn presences_at(alloc: Global, body: &Value) -> Result<Option<Seq<PresenceObject>>, ReadFault>
+    ensures { UnlessMemory result (optional_at (list_from presence_from) (codes "presences") (view body.now)) }
+{
+    match body.get("presences") {
+        None => Ok(None),
+        Some(presences) => {
+            let presences = list_from(alloc, presences)?;
+            Ok(Some(presences))
+        }
+    }
+}
+
+/// Reads the body of Guild Members Chunk.
+pub fn read_members_chunk(alloc: Global, body: &Value) -> Result<MembersChunk, ReadFault>
+    ensures { UnlessMemory result (members_chunk_from (view body.now)) }
+{
+    let count = small_at(body, "chunk_count")?;
+    let index = small_at(body, "chunk_index")?;
+    let guild = id_at(body, "guild_id")?;
+    let members = list_at(alloc, body, "members")?;
+    let nonce = optional_text_at(alloc, body, "nonce")?;
+    let not_found = list_if_at(alloc, body, "not_found")?;
+    let presences = presences_at(alloc, body)?;
+    Ok(MembersChunk {
+        guild,
+        members,
+        index,
+        count,
+        nonce,
+        not_found,
+        presences,
+    })
 }

@@ -1,13 +1,19 @@
-ghost use Rattle.std.specs.Prelude.{codes};
+ghost use Rattle.std.specs.Prelude.{◌≡◌, OnOk, codes};
+ghost use Rattle.serde_json.specs.View.{view};
+ghost use Rattle.object_json.specs.Reading.{UnlessMemory};
 ghost use Rattle.object_json.specs.Added.{Adds, AddsTokens, member_tokens};
-ghost use Rattle.event_json.specs.Message.{message_delete_data, emoji_data, reaction_data, typing_start_data};
+ghost use Rattle.event_json.specs.Message.{message_delete_data, emoji_data, reaction_data, typing_start_data, message_delete_from, emoji_at, reaction_from, typing_start_from, ReactionFits};
+ghost use Rattle.object_json.specs.Fits.{IsId, IsWhole};
 
 use collections::Text;
-use dispatch_types::Reaction;
+use dispatch_types::{Dispatch, Reaction};
 use json::Writer;
+use object_json::fault::ReadFault;
 use object_json::field::{close, id_field, key, null_field, number_field, open, text_field};
+use object_json::reading::{field_at, id_at, number_at, text_at};
+use serde_json::Value;
 use snowflake_id::Snowflake;
-use std::alloc::AllocError;
+use std::alloc::{AllocError, Global};
 
 /// Writes the body of Message Delete.
 pub fn write_message_delete(
@@ -16,7 +22,8 @@ pub fn write_message_delete(
     channel: Snowflake,
     id: Snowflake,
 ) -> Result<(), AllocError>
-    ensures { Adds result out.old out.new (message_delete_data guild channel id) }
+    ensures adds { Adds result out.old out.new (message_delete_data guild channel id) }
+    ensures fits { OnOk result (IsId channel × IsId guild × IsId id) }
 {
     open(out)?;
     id_field(out, "channel_id", channel)?;
@@ -39,7 +46,8 @@ fn emoji_field(out: &mut Writer, name: &Text) -> Result<(), AllocError>
 
 /// Writes the body of Message Reaction Add and of Message Reaction Remove.
 pub fn write_reaction(out: &mut Writer, reaction: &Reaction) -> Result<(), AllocError>
-    ensures { Adds result out.old out.new (reaction_data reaction.now) }
+    ensures adds { Adds result out.old out.new (reaction_data reaction.now) }
+    ensures fits { OnOk result (ReactionFits reaction.now) }
 {
     open(out)?;
     id_field(out, "channel_id", reaction.channel)?;
@@ -59,7 +67,8 @@ pub fn write_typing_start(
     user: Snowflake,
     seconds: u64,
 ) -> Result<(), AllocError>
-    ensures { Adds result out.old out.new (typing_start_data guild channel user seconds) }
+    ensures adds { Adds result out.old out.new (typing_start_data guild channel user seconds) }
+    ensures fits { OnOk result (IsId channel × IsId guild × IsWhole seconds × IsId user) }
 {
     open(out)?;
     id_field(out, "channel_id", channel)?;
@@ -68,4 +77,55 @@ pub fn write_typing_start(
     id_field(out, "user_id", user)?;
     close(out)?;
     Ok(())
+}
+
+/// Reads the body of Message Delete.
+pub fn read_message_delete(body: &Value) -> Result<Dispatch, ReadFault>
+    ensures { result ≡ message_delete_from (view body.now) }
+{
+    let channel = id_at(body, "channel_id")?;
+    let guild = id_at(body, "guild_id")?;
+    let id = id_at(body, "id")?;
+    Ok(Dispatch::MessageDelete { guild, channel, id })
+}
+
+fn emoji_at(alloc: Global, body: &Value) -> Result<Text, ReadFault>
+    ensures { UnlessMemory result (emoji_at (view body.now)) }
+{
+    let emoji = field_at(body, "emoji")?;
+    text_at(alloc, emoji, "name")
+}
+
+/// Reads the body of Message Reaction Add and of Message Reaction Remove.
+pub fn read_reaction(alloc: Global, body: &Value) -> Result<Reaction, ReadFault>
+    ensures { UnlessMemory result (reaction_from (view body.now)) }
+{
+    let channel = id_at(body, "channel_id")?;
+    let emoji = emoji_at(alloc, body)?;
+    let guild = id_at(body, "guild_id")?;
+    let message = id_at(body, "message_id")?;
+    let user = id_at(body, "user_id")?;
+    Ok(Reaction {
+        guild,
+        channel,
+        message,
+        user,
+        emoji,
+    })
+}
+
+/// Reads the body of Typing Start.
+pub fn read_typing_start(body: &Value) -> Result<Dispatch, ReadFault>
+    ensures { result ≡ typing_start_from (view body.now) }
+{
+    let channel = id_at(body, "channel_id")?;
+    let guild = id_at(body, "guild_id")?;
+    let seconds = number_at(body, "timestamp")?;
+    let user = id_at(body, "user_id")?;
+    Ok(Dispatch::TypingStart {
+        guild,
+        channel,
+        user,
+        seconds,
+    })
 }

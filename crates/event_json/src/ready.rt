@@ -1,18 +1,27 @@
-ghost use Rattle.std.specs.Prelude.{◌≡◌, codes, option_map};
+ghost use Rattle.std.specs.Prelude.{◌≡◌, OnOk, IfSome, codes, option_map};
+ghost use Rattle.serde_json.specs.View.{view, items_view};
+ghost use Rattle.object_json.specs.Reading.{UnlessMemory};
+ghost use Rattle.object_json.specs.Reading.{items_from, list_at, optional_at};
 ghost use Rattle.object_json.specs.Added.{Adds, AddsTokens, member_tokens, member_tokens_if};
 ghost use Rattle.object_json.specs.Kinds.{list};
-ghost use Rattle.event_json.specs.Ready.{application_data, unavailable_data, shard_data, ready_data};
+ghost use Rattle.event_json.specs.Ready.{application_data, unavailable_data, shard_data, ready_data, unavailable_from, whole_from, shard_of, pair_from, shard_from, ready_from, ShardFits, ReadyFits};
+ghost use Rattle.object_json.specs.Fits.{Each, IsId};
 
 use collections::Seq;
 use dispatch_types::{Ready, Shard};
 use json::Writer;
+use object_json::fault::ReadFault;
 use object_json::field::{close, flag_field, id_field, key, number_field, open, text_field};
+use object_json::readable::value_at;
+use object_json::reading::{field_at, id_at, text_at};
 use object_json::written::value_field;
+use serde_json::Value;
 use snowflake_id::Snowflake;
 use std::alloc::{AllocError, Global};
 
 fn application_field(out: &mut Writer, user: Snowflake) -> Result<(), AllocError>
-    ensures { AddsTokens result out.old out.new (member_tokens (codes "application") (application_data user)) }
+    ensures adds { AddsTokens result out.old out.new (member_tokens (codes "application") (application_data user)) }
+    ensures fits { OnOk result (IsId user) }
 {
     key(out, "application")?;
     open(out)?;
@@ -23,7 +32,8 @@ fn application_field(out: &mut Writer, user: Snowflake) -> Result<(), AllocError
 }
 
 fn unavailable(out: &mut Writer, guild: Snowflake) -> Result<(), AllocError>
-    ensures { Adds result out.old out.new (unavailable_data guild) }
+    ensures adds { Adds result out.old out.new (unavailable_data guild) }
+    ensures fits { OnOk result (IsId guild) }
 {
     open(out)?;
     id_field(out, "id", guild)?;
@@ -33,7 +43,8 @@ fn unavailable(out: &mut Writer, guild: Snowflake) -> Result<(), AllocError>
 }
 
 fn guilds(out: &mut Writer, guilds: &[Snowflake]) -> Result<(), AllocError>
-    ensures { Adds result out.old out.new (list unavailable_data guilds.now) }
+    ensures adds { Adds result out.old out.new (list unavailable_data guilds.now) }
+    ensures fits { OnOk result (Each IsId guilds.now) }
 {
     out.begin_array()?;
     for guild in guilds {
@@ -44,7 +55,8 @@ fn guilds(out: &mut Writer, guilds: &[Snowflake]) -> Result<(), AllocError>
 }
 
 fn guilds_field(out: &mut Writer, ids: &Seq<Snowflake>) -> Result<(), AllocError>
-    ensures { AddsTokens result out.old out.new (member_tokens (codes "guilds") (list unavailable_data ids.now)) }
+    ensures adds { AddsTokens result out.old out.new (member_tokens (codes "guilds") (list unavailable_data ids.now)) }
+    ensures fits { OnOk result (Each IsId ids.now) }
 {
     key(out, "guilds")?;
     guilds(out, ids.as_slice())?;
@@ -52,7 +64,8 @@ fn guilds_field(out: &mut Writer, ids: &Seq<Snowflake>) -> Result<(), AllocError
 }
 
 fn shard(out: &mut Writer, shard: Shard) -> Result<(), AllocError>
-    ensures { Adds result out.old out.new (shard_data shard) }
+    ensures adds { Adds result out.old out.new (shard_data shard) }
+    ensures fits { OnOk result (ShardFits shard) }
 {
     out.begin_array()?;
     out.u64(shard.id())?;
@@ -62,7 +75,8 @@ fn shard(out: &mut Writer, shard: Shard) -> Result<(), AllocError>
 }
 
 fn shard_field_if(out: &mut Writer, of: Option<Shard>) -> Result<(), AllocError>
-    ensures { AddsTokens result out.old out.new (member_tokens_if (codes "shard") (option_map shard_data of)) }
+    ensures adds { AddsTokens result out.old out.new (member_tokens_if (codes "shard") (option_map shard_data of)) }
+    ensures fits { OnOk result (IfSome of ShardFits) }
 {
     let Some(of) = of else {
         return Ok(());
@@ -74,7 +88,8 @@ fn shard_field_if(out: &mut Writer, of: Option<Shard>) -> Result<(), AllocError>
 
 /// Writes the body of Ready (Gateway Events, Ready).
 pub fn write_ready(alloc: Global, out: &mut Writer, ready: &Ready) -> Result<(), AllocError>
-    ensures { Adds result out.old out.new (ready_data ready.now) }
+    ensures adds { Adds result out.old out.new (ready_data ready.now) }
+    ensures fits { OnOk result (ReadyFits ready.now) }
 {
     open(out)?;
     application_field(out, ready.user.id)?;
@@ -86,4 +101,92 @@ pub fn write_ready(alloc: Global, out: &mut Writer, ready: &Ready) -> Result<(),
     number_field(out, "v", 10)?;
     close(out)?;
     Ok(())
+}
+
+fn guilds_from(alloc: Global, list: &[Value]) -> Result<Seq<Snowflake>, ReadFault>
+    ensures { UnlessMemory result (items_from unavailable_from (items_view list.now)) }
+{
+    let mut guilds = Seq::new(alloc);
+    for value in list {
+        let guild = id_at(value, "id")?;
+        guilds.push(guild)?;
+    }
+    Ok(guilds)
+}
+
+fn guilds_at(alloc: Global, body: &Value) -> Result<Seq<Snowflake>, ReadFault>
+    ensures { UnlessMemory result (list_at unavailable_from (codes "guilds") (view body.now)) }
+{
+    match field_at(body, "guilds")?.as_array() {
+        None => Err(ReadFault::BadField),
+        Some(list) => guilds_from(alloc, list.as_slice()),
+    }
+}
+
+fn whole_from(value: &Value) -> Result<u64, ReadFault>
+    ensures { result ≡ whole_from (view value.now) }
+{
+    match value.as_u64() {
+        None => Err(ReadFault::BadField),
+        Some(number) => Ok(number),
+    }
+}
+
+fn shard_of(id: u64, count: u64) -> Result<Shard, ReadFault>
+    ensures { result ≡ shard_of id count }
+{
+    match Shard::new(id, count) {
+        Err(_) => Err(ReadFault::BadField),
+        Ok(shard) => Ok(shard),
+    }
+}
+
+fn pair_from(list: &[Value]) -> Result<Shard, ReadFault>
+    ensures { result ≡ pair_from (items_view list.now) }
+{
+    if list.len() != 2 {
+        return Err(ReadFault::BadField);
+    }
+    let id = whole_from(&list[0])?;
+    let count = whole_from(&list[1])?;
+    shard_of(id, count)
+}
+
+fn shard_from(value: &Value) -> Result<Shard, ReadFault>
+    ensures { result ≡ shard_from (view value.now) }
+{
+    match value.as_array() {
+        None => Err(ReadFault::BadField),
+        Some(list) => pair_from(list.as_slice()),
+    }
+}
+
+fn shard_at(body: &Value) -> Result<Option<Shard>, ReadFault>
+    ensures { result ≡ optional_at shard_from (codes "shard") (view body.now) }
+{
+    match body.get("shard") {
+        None => Ok(None),
+        Some(value) => {
+            let shard = shard_from(value)?;
+            Ok(Some(shard))
+        }
+    }
+}
+
+/// Reads the body of Ready.
+pub fn read_ready(alloc: Global, body: &Value) -> Result<Ready, ReadFault>
+    ensures { UnlessMemory result (ready_from (view body.now)) }
+{
+    let guilds = guilds_at(alloc, body)?;
+    let url = text_at(alloc, body, "resume_gateway_url")?;
+    let session = text_at(alloc, body, "session_id")?;
+    let shard = shard_at(body)?;
+    let user = value_at(alloc, body, "user")?;
+    Ok(Ready {
+        user,
+        guilds,
+        session,
+        url,
+        shard,
+    })
 }

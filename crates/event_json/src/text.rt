@@ -2,6 +2,7 @@ ghost use Rattle.std.specs.Prelude.{◌≡◌, ◌++◌, codes, decimal, IfOk, O
 ghost use Rattle.intent_set.specs.Kind.{name_of};
 ghost use Rattle.serde_json.specs.Data.{Data};
 ghost use Rattle.serde_json.specs.Written.{compact_text};
+ghost use Rattle.event_json.specs.Body.{DispatchFits};
 ghost use Rattle.event_json.specs.Text.{framed, framed_text, data_of};
 
 use crate::body::Body;
@@ -81,7 +82,8 @@ pub fn append_framed(
 /// The text of a dispatch with its number: compact, with the keys in byte order (Gateway, Payload
 /// Structure).
 pub fn write(alloc: Global, of: &Dispatch, number: u64) -> Result<String, AllocError>
-    ensures { IfOk result (λ text. string_bytes text ≡ compact_text (data_of of.now number)) }
+    ensures text { IfOk result (λ text. string_bytes text ≡ compact_text (data_of of.now number)) }
+    ensures fits { OnOk result (DispatchFits of.now) }
 {
     let body = Body::of(alloc, of)?;
     framed(alloc, &body, number, of.kind())

@@ -1,2 +1,4 @@
 pub mod Civils
 pub mod Shown
+pub mod Named
+pub mod Instants

@@ -1,3 +1,4 @@
 pub mod Civil
 pub mod Text
 pub mod Shown
+pub mod Named

@@ -3,6 +3,11 @@
 
 mod civil;
 mod digits;
+mod reading;
 mod writing;
 
+pub use reading::moment_of;
 pub use writing::moment_text;
+
+#[cfg(test)]
+mod tests;

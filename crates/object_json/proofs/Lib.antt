@@ -1,2 +1,5 @@
 pub mod Members
 pub mod Steps
+pub mod Lists
+pub mod Back
+pub mod Plain

@@ -1,5 +1,7 @@
 pub mod Kinds
 pub mod Added
+pub mod Reading
+pub mod Fits
 pub mod User
 pub mod Role
 pub mod Channel

@@ -1,7 +1,8 @@
-ghost use Rattle.std.specs.Prelude.{◌∷◌, [], option_map};
+ghost use Rattle.std.specs.Prelude.{◌∷◌, [], OnOk, IfSome, option_map};
 ghost use Rattle.json.specs.Token.{key as key_token, begin_object, end_object};
 ghost use Rattle.serde_json.specs.Data.{null, string, boolean, array, no_items};
 ghost use Rattle.object_json.specs.Added.{AddsTokens, member_tokens, member_tokens_if};
+ghost use Rattle.object_json.specs.Fits.{IsId, IsMask, IsSmall, IsMoment};
 ghost use Rattle.object_json.specs.Kinds.{digits, count, time, or_null, true_if};
 
 use collections::Text;
@@ -38,7 +39,8 @@ pub fn key(out: &mut Writer, name: &str) -> Result<(), AllocError>
 
 /// Writes an id under its key.
 pub fn id_field(out: &mut Writer, name: &str, id: Snowflake) -> Result<(), AllocError>
-    ensures { AddsTokens result out.old out.new (member_tokens name.now (digits id)) }
+    ensures adds { AddsTokens result out.old out.new (member_tokens name.now (digits id)) }
+    ensures fits { OnOk result (IsId id) }
 {
     out.key(name)?;
     out.quoted_u64(id.0)?;
@@ -47,7 +49,8 @@ pub fn id_field(out: &mut Writer, name: &str, id: Snowflake) -> Result<(), Alloc
 
 /// Writes an id under its key, or null.
 pub fn maybe_id_field(out: &mut Writer, name: &str, id: Option<Snowflake>) -> Result<(), AllocError>
-    ensures { AddsTokens result out.old out.new (member_tokens name.now (or_null digits id)) }
+    ensures adds { AddsTokens result out.old out.new (member_tokens name.now (or_null digits id)) }
+    ensures fits { OnOk result (IfSome id IsId) }
 {
     match id {
         Some(id) => id_field(out, name, id),
@@ -66,7 +69,8 @@ pub fn null_field(out: &mut Writer, name: &str) -> Result<(), AllocError>
 
 /// Writes a set of permissions under its key.
 pub fn mask_field(out: &mut Writer, name: &str, mask: Perms) -> Result<(), AllocError>
-    ensures { AddsTokens result out.old out.new (member_tokens name.now (digits mask)) }
+    ensures adds { AddsTokens result out.old out.new (member_tokens name.now (digits mask)) }
+    ensures fits { OnOk result (IsMask mask) }
 {
     out.key(name)?;
     out.quoted_u64(mask.mask())?;
@@ -103,7 +107,8 @@ pub fn number_field(out: &mut Writer, name: &str, number: u64) -> Result<(), All
 
 /// Writes a number of 32 bits under its key.
 pub fn small_field(out: &mut Writer, name: &str, number: u32) -> Result<(), AllocError>
-    ensures { AddsTokens result out.old out.new (member_tokens name.now (count number)) }
+    ensures adds { AddsTokens result out.old out.new (member_tokens name.now (count number)) }
+    ensures fits { OnOk result (IsSmall number) }
 {
     number_field(out, name, u64::from(number))
 }
@@ -124,7 +129,8 @@ pub fn time_field(
     name: &str,
     moment: Moment,
 ) -> Result<(), AllocError>
-    ensures { AddsTokens result out.old out.new (member_tokens name.now (time moment)) }
+    ensures adds { AddsTokens result out.old out.new (member_tokens name.now (time moment)) }
+    ensures fits { OnOk result (IsMoment moment) }
 {
     let text = moment_text(alloc, moment)?;
     out.key(name)?;
@@ -139,7 +145,8 @@ pub fn maybe_time_field(
     name: &str,
     moment: Option<Moment>,
 ) -> Result<(), AllocError>
-    ensures { AddsTokens result out.old out.new (member_tokens name.now (or_null time moment)) }
+    ensures adds { AddsTokens result out.old out.new (member_tokens name.now (or_null time moment)) }
+    ensures fits { OnOk result (IfSome moment IsMoment) }
 {
     match moment {
         Some(moment) => time_field(alloc, out, name, moment),
@@ -159,7 +166,8 @@ pub fn empty_field(out: &mut Writer, name: &str) -> Result<(), AllocError>
 
 /// Writes an id under its key, or nothing.
 pub fn id_field_if(out: &mut Writer, name: &str, id: Option<Snowflake>) -> Result<(), AllocError>
-    ensures { AddsTokens result out.old out.new (member_tokens_if name.now (option_map digits id)) }
+    ensures adds { AddsTokens result out.old out.new (member_tokens_if name.now (option_map digits id)) }
+    ensures fits { OnOk result (IfSome id IsId) }
 {
     match id {
         Some(id) => id_field(out, name, id),

@@ -1,11 +1,16 @@
-ghost use Rattle.std.specs.Prelude.{None};
+ghost use Rattle.std.specs.Prelude.{None, OnOk, IfSome};
 ghost use Rattle.object_json.specs.Added.{Adds};
-ghost use Rattle.object_json.specs.Member.{member_data};
+ghost use Rattle.object_json.specs.Fits.{IsId};
+ghost use Rattle.object_json.specs.Member.{member_data, MemberFits};
 
+use crate::fault::ReadFault;
 use crate::field::{close, id_field_if, maybe_text_field, maybe_time_field, open, time_field};
+use crate::readable::{Readable, list_at, value_at};
+use crate::reading::{nullable_text_at, nullable_time_at, time_at};
 use crate::written::{Written, list_field, value_field};
 use dispatch_types::MemberObject;
 use json::Writer;
+use serde_json::Value;
 use snowflake_id::Snowflake;
 use std::alloc::{AllocError, Global};
 
@@ -16,7 +21,8 @@ pub fn write_member(
     guild: Option<Snowflake>,
     member: &MemberObject,
 ) -> Result<(), AllocError>
-    ensures { Adds result out.old out.new (member_data guild member.now) }
+    ensures adds { Adds result out.old out.new (member_data guild member.now) }
+    ensures fits { OnOk result (IfSome guild IsId × MemberFits member.now) }
 {
     open(out)?;
     maybe_time_field(alloc, out, "communication_disabled_until", member.timeout)?;
@@ -33,10 +39,34 @@ pub fn write_member(
 impl Written for MemberObject {
     ghost use Rattle.std.specs.Prelude.{None};
     ghost use Rattle.object_json.specs.Member.{member_data};
+    ghost use Rattle.object_json.specs.Member.{MemberFits};
 
     ghost json = { member_data None };
 
+    ghost Fits = { MemberFits };
+
     fn write(&self, alloc: Global, out: &mut Writer) -> Result<(), AllocError> {
         write_member(alloc, out, None, self)
+    }
+}
+
+impl Readable for MemberObject {
+    ghost use Rattle.object_json.specs.Member.{member_from};
+
+    ghost from = { member_from };
+
+    fn read(alloc: Global, object: &Value) -> Result<MemberObject, ReadFault> {
+        let timeout = nullable_time_at(alloc, object, "communication_disabled_until")?;
+        let joined = time_at(alloc, object, "joined_at")?;
+        let nick = nullable_text_at(alloc, object, "nick")?;
+        let roles = list_at(alloc, object, "roles")?;
+        let user = value_at(alloc, object, "user")?;
+        Ok(MemberObject {
+            user,
+            nick,
+            roles,
+            joined,
+            timeout,
+        })
     }
 }

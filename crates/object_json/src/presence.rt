@@ -1,14 +1,21 @@
-ghost use Rattle.std.specs.Prelude.{codes};
+ghost use Rattle.std.specs.Prelude.{OnOk, codes};
 ghost use Rattle.serde_json.specs.Data.{string};
 ghost use Rattle.object_json.specs.Added.{AddsTokens, member_tokens};
 ghost use Rattle.guild_model.specs.Statuses.{status_name, shown_status};
-ghost use Rattle.object_json.specs.Presence.{partial_user_data};
+ghost use Rattle.object_json.specs.Fits.{IsId};
+ghost use Rattle.object_json.specs.Presence.{partial_user_data, partial_user_at};
+ghost use Rattle.std.specs.Prelude.{◌≡◌};
+ghost use Rattle.serde_json.specs.View.{view};
 
+use crate::fault::ReadFault;
 use crate::field::{close, empty_field, id_field, key, open};
+use crate::readable::Readable;
+use crate::reading::{field_at, id_at, status_at};
 use crate::written::Written;
 use dispatch_types::PresenceObject;
 use guild_model::{Activity, Status};
 use json::Writer;
+use serde_json::Value;
 use snowflake_id::Snowflake;
 use std::alloc::{AllocError, Global};
 
@@ -21,7 +28,8 @@ fn status_field(out: &mut Writer, activity: Option<Activity>) -> Result<(), Allo
 }
 
 fn partial_user_field(out: &mut Writer, user: Snowflake) -> Result<(), AllocError>
-    ensures { AddsTokens result out.old out.new (member_tokens (codes "user") (partial_user_data user)) }
+    ensures adds { AddsTokens result out.old out.new (member_tokens (codes "user") (partial_user_data user)) }
+    ensures fits { OnOk result (IsId user) }
 {
     key(out, "user")?;
     open(out)?;
@@ -32,8 +40,11 @@ fn partial_user_field(out: &mut Writer, user: Snowflake) -> Result<(), AllocErro
 
 impl Written for PresenceObject {
     ghost use Rattle.object_json.specs.Presence.{presence_data};
+    ghost use Rattle.object_json.specs.Presence.{PresenceFits};
 
     ghost json = { presence_data };
+
+    ghost Fits = { PresenceFits };
 
     fn write(&self, _alloc: Global, out: &mut Writer) -> Result<(), AllocError> {
         open(out)?;
@@ -43,5 +54,29 @@ impl Written for PresenceObject {
         partial_user_field(out, self.user)?;
         close(out)?;
         Ok(())
+    }
+}
+
+fn partial_user_at(object: &Value) -> Result<Snowflake, ReadFault>
+    ensures { result ≡ partial_user_at (view object.now) }
+{
+    let user = field_at(object, "user")?;
+    id_at(user, "id")
+}
+
+impl Readable for PresenceObject {
+    ghost use Rattle.object_json.specs.Presence.{presence_from};
+
+    ghost from = { presence_from };
+
+    fn read(_alloc: Global, object: &Value) -> Result<PresenceObject, ReadFault> {
+        let guild = id_at(object, "guild_id")?;
+        let status = status_at(object, "status")?;
+        let user = partial_user_at(object)?;
+        Ok(PresenceObject {
+            guild,
+            user,
+            status,
+        })
     }
 }

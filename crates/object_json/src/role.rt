@@ -1,13 +1,20 @@
+use crate::fault::ReadFault;
 use crate::field::{close, id_field, mask_field, open, small_field, text_field};
+use crate::readable::Readable;
+use crate::reading::{id_at, mask_at, small_at, text_at};
 use crate::written::Written;
 use guild_model::Role;
 use json::Writer;
+use serde_json::Value;
 use std::alloc::{AllocError, Global};
 
 impl Written for Role {
     ghost use Rattle.object_json.specs.Role.{role_data};
+    ghost use Rattle.object_json.specs.Role.{RoleFits};
 
     ghost json = { role_data };
+
+    ghost Fits = { RoleFits };
 
     fn write(&self, _alloc: Global, out: &mut Writer) -> Result<(), AllocError> {
         open(out)?;
@@ -17,5 +24,24 @@ impl Written for Role {
         small_field(out, "position", self.position)?;
         close(out)?;
         Ok(())
+    }
+}
+
+impl Readable for Role {
+    ghost use Rattle.object_json.specs.Role.{role_from};
+
+    ghost from = { role_from };
+
+    fn read(alloc: Global, object: &Value) -> Result<Role, ReadFault> {
+        let id = id_at(object, "id")?;
+        let name = text_at(alloc, object, "name")?;
+        let permissions = mask_at(object, "permissions")?;
+        let position = small_at(object, "position")?;
+        Ok(Role {
+            id,
+            name,
+            permissions,
+            position,
+        })
     }
 }

@@ -1,18 +1,25 @@
-ghost use Rattle.std.specs.Prelude.{◌++◌, ◌∷◌, [], codes, option_map};
+ghost use Rattle.std.specs.Prelude.{◌≡◌, ◌≤◌, ◌++◌, ◌∷◌, OnOk, IfSome, [], codes, option_map};
 ghost use Rattle.json.specs.Token.{begin_object};
 ghost use Rattle.object_json.specs.Added.{Adds, AddsTokens, Ends, member_tokens, member_tokens_if};
 ghost use Rattle.object_json.specs.Kinds.{digits, count};
 ghost use Rattle.guild_model.specs.Numbers.{thread_kind_number};
-ghost use Rattle.object_json.specs.Thread.{thread_data, thread_rest, thread_member_data, joined_data, metadata_data};
+ghost use Rattle.serde_json.specs.View.{view};
+ghost use Rattle.object_json.specs.Reading.{UnlessMemory, optional_at};
+ghost use Rattle.object_json.specs.Fits.{IsId, IsMoment};
+ghost use Rattle.object_json.specs.Thread.{ThreadMemberFits, ThreadRestFits, ThreadFits, thread_count_at, archived_at, joined_from, thread_data, thread_rest, thread_member_data, joined_data, metadata_data};
 
+use crate::fault::ReadFault;
 use crate::field::{
     close, flag_field, id_field, key, number_field, open, small_field, text_field, time_field,
     true_field_if,
 };
+use crate::readable::Readable;
+use crate::reading::{field_at, flag_at, id_at, number_at, text_at, thread_kind_at, time_at};
 use crate::written::{Written, value_field};
 use dispatch_types::{JoinedThread, ThreadCount, ThreadMemberObject, ThreadObject};
 use guild_model::{Moment, ThreadKind};
 use json::Writer;
+use serde_json::Value;
 use std::alloc::{AllocError, Global};
 
 /// Writes a thread's type under its key.
@@ -25,8 +32,11 @@ pub fn thread_kind_field(out: &mut Writer, kind: ThreadKind) -> Result<(), Alloc
 
 impl Written for ThreadMemberObject {
     ghost use Rattle.object_json.specs.Thread.{thread_member_data};
+    ghost use Rattle.object_json.specs.Thread.{ThreadMemberFits};
 
     ghost json = { thread_member_data };
+
+    ghost Fits = { ThreadMemberFits };
 
     fn write(&self, alloc: Global, out: &mut Writer) -> Result<(), AllocError> {
         open(out)?;
@@ -40,7 +50,8 @@ impl Written for ThreadMemberObject {
 }
 
 fn write_joined(alloc: Global, out: &mut Writer, joined: Moment) -> Result<(), AllocError>
-    ensures { Adds result out.old out.new (joined_data joined) }
+    ensures adds { Adds result out.old out.new (joined_data joined) }
+    ensures fits { OnOk result (IsMoment joined) }
 {
     open(out)?;
     number_field(out, "flags", 0)?;
@@ -54,7 +65,8 @@ fn joined_field_if(
     out: &mut Writer,
     joined: Option<Moment>,
 ) -> Result<(), AllocError>
-    ensures { AddsTokens result out.old out.new (member_tokens_if (codes "member") (option_map joined_data joined)) }
+    ensures adds { AddsTokens result out.old out.new (member_tokens_if (codes "member") (option_map joined_data joined)) }
+    ensures fits { OnOk result (IfSome joined IsMoment) }
 {
     let Some(joined) = joined else {
         return Ok(());
@@ -69,7 +81,8 @@ fn member_field_if(
     out: &mut Writer,
     member: &Option<ThreadMemberObject>,
 ) -> Result<(), AllocError>
-    ensures { AddsTokens result out.old out.new (member_tokens_if (codes "member") (option_map thread_member_data member.now)) }
+    ensures adds { AddsTokens result out.old out.new (member_tokens_if (codes "member") (option_map thread_member_data member.now)) }
+    ensures fits { OnOk result (IfSome member.now ThreadMemberFits) }
 {
     match member {
         Some(member) => {
@@ -82,7 +95,8 @@ fn member_field_if(
 
 /// Writes how many users are in a thread under its key.
 pub fn thread_count_field(out: &mut Writer, users: ThreadCount) -> Result<(), AllocError>
-    ensures { AddsTokens result out.old out.new (member_tokens (codes "member_count") (count users)) }
+    ensures adds { AddsTokens result out.old out.new (member_tokens (codes "member_count") (count users)) }
+    ensures fits { OnOk result (users ≤ 50) }
 {
     small_field(out, "member_count", users.get())?;
     Ok(())
@@ -100,7 +114,8 @@ fn metadata_field(out: &mut Writer, archived: bool) -> Result<(), AllocError>
 }
 
 fn begin_thread(out: &mut Writer, thread: &ThreadObject) -> Result<(), AllocError>
-    ensures { AddsTokens result out.old out.new (begin_object ∷ (member_tokens (codes "guild_id") (digits thread.now.guild) ++ member_tokens (codes "id") (digits thread.now.id))) }
+    ensures adds { AddsTokens result out.old out.new (begin_object ∷ (member_tokens (codes "guild_id") (digits thread.now.guild) ++ member_tokens (codes "id") (digits thread.now.id))) }
+    ensures fits { OnOk result (IsId thread.now.guild × IsId thread.now.id) }
 {
     open(out)?;
     id_field(out, "guild_id", thread.guild)?;
@@ -113,7 +128,8 @@ fn end_thread(
     newly_created: bool,
     thread: &ThreadObject,
 ) -> Result<(), AllocError>
-    ensures { Ends result out.old out.new (thread_rest newly_created thread.now) }
+    ensures adds { Ends result out.old out.new (thread_rest newly_created thread.now) }
+    ensures fits { OnOk result (ThreadRestFits thread.now) }
 {
     thread_count_field(out, thread.count)?;
     text_field(out, "name", &thread.name)?;
@@ -134,7 +150,8 @@ pub fn write_thread(
     newly_created: bool,
     thread: &ThreadObject,
 ) -> Result<(), AllocError>
-    ensures { Adds result out.old out.new (thread_data (option_map thread_member_data member.now) newly_created thread.now) }
+    ensures adds { Adds result out.old out.new (thread_data (option_map thread_member_data member.now) newly_created thread.now) }
+    ensures fits { OnOk result (IfSome member.now ThreadMemberFits × ThreadFits thread.now) }
 {
     begin_thread(out, thread)?;
     member_field_if(alloc, out, member)?;
@@ -146,8 +163,11 @@ pub fn write_thread(
 impl Written for ThreadObject {
     ghost use Rattle.std.specs.Prelude.{None, false};
     ghost use Rattle.object_json.specs.Thread.{thread_data};
+    ghost use Rattle.object_json.specs.Thread.{ThreadFits};
 
     ghost json = { thread_data None false };
+
+    ghost Fits = { ThreadFits };
 
     fn write(&self, alloc: Global, out: &mut Writer) -> Result<(), AllocError> {
         write_thread(alloc, out, &None, false, self)
@@ -157,13 +177,101 @@ impl Written for ThreadObject {
 /// A thread of Guild Create.
 impl Written for JoinedThread {
     ghost use Rattle.object_json.specs.Thread.{joined_thread_data};
+    ghost use Rattle.object_json.specs.Thread.{JoinedThreadFits};
 
     ghost json = { joined_thread_data };
+
+    ghost Fits = { JoinedThreadFits };
 
     fn write(&self, alloc: Global, out: &mut Writer) -> Result<(), AllocError> {
         begin_thread(out, &self.thread)?;
         joined_field_if(alloc, out, self.joined)?;
         end_thread(out, false, &self.thread)?;
         Ok(())
+    }
+}
+
+impl Readable for ThreadMemberObject {
+    ghost use Rattle.object_json.specs.Thread.{thread_member_from};
+
+    ghost from = { thread_member_from };
+
+    fn read(alloc: Global, object: &Value) -> Result<ThreadMemberObject, ReadFault> {
+        let thread = id_at(object, "id")?;
+        let joined = time_at(alloc, object, "join_timestamp")?;
+        let user = id_at(object, "user_id")?;
+        Ok(ThreadMemberObject {
+            thread,
+            user,
+            joined,
+        })
+    }
+}
+
+/// How many users are in a thread, at most 50.
+pub fn thread_count_at(object: &Value) -> Result<ThreadCount, ReadFault>
+    ensures { result ≡ thread_count_at (view object.now) }
+{
+    match ThreadCount::new(number_at(object, "member_count")?) {
+        Err(_) => Err(ReadFault::BadField),
+        Ok(count) => Ok(count),
+    }
+}
+
+fn archived_at(object: &Value) -> Result<bool, ReadFault>
+    ensures { result ≡ archived_at (view object.now) }
+{
+    let metadata = field_at(object, "thread_metadata")?;
+    flag_at(metadata, "archived")
+}
+
+impl Readable for ThreadObject {
+    ghost use Rattle.object_json.specs.Thread.{thread_from};
+
+    ghost from = { thread_from };
+
+    fn read(alloc: Global, object: &Value) -> Result<ThreadObject, ReadFault> {
+        let guild = id_at(object, "guild_id")?;
+        let id = id_at(object, "id")?;
+        let count = thread_count_at(object)?;
+        let name = text_at(alloc, object, "name")?;
+        let owner = id_at(object, "owner_id")?;
+        let parent = id_at(object, "parent_id")?;
+        let archived = archived_at(object)?;
+        let kind = thread_kind_at(object, "type")?;
+        Ok(ThreadObject {
+            guild,
+            id,
+            kind,
+            name,
+            owner,
+            parent,
+            archived,
+            count,
+        })
+    }
+}
+
+fn joined_at(alloc: Global, object: &Value) -> Result<Option<Moment>, ReadFault>
+    ensures { UnlessMemory result (optional_at joined_from (codes "member") (view object.now)) }
+{
+    match object.get("member") {
+        None => Ok(None),
+        Some(member) => {
+            let joined = time_at(alloc, member, "join_timestamp")?;
+            Ok(Some(joined))
+        }
+    }
+}
+
+impl Readable for JoinedThread {
+    ghost use Rattle.object_json.specs.Thread.{joined_thread_from};
+
+    ghost from = { joined_thread_from };
+
+    fn read(alloc: Global, object: &Value) -> Result<JoinedThread, ReadFault> {
+        let thread = ThreadObject::read(alloc, object)?;
+        let joined = joined_at(alloc, object)?;
+        Ok(JoinedThread { thread, joined })
     }
 }

@@ -1,10 +1,16 @@
 ghost use Rattle.object_json.specs.Added.{Adds};
-ghost use Rattle.object_json.specs.Voice.{voice_data};
+ghost use Rattle.std.specs.Prelude.{OnOk, IfSome};
+ghost use Rattle.object_json.specs.Fits.{IsId};
+ghost use Rattle.object_json.specs.Voice.{voice_data, VoiceFits};
 
+use crate::fault::ReadFault;
 use crate::field::{close, flag_field, id_field, id_field_if, maybe_id_field, open};
+use crate::readable::Readable;
+use crate::reading::{flag_at, id_at, nullable_id_at};
 use crate::written::Written;
 use dispatch_types::VoiceObject;
 use json::Writer;
+use serde_json::Value;
 use snowflake_id::Snowflake;
 use std::alloc::{AllocError, Global};
 
@@ -14,7 +20,8 @@ pub fn write_voice(
     guild: Option<Snowflake>,
     voice: &VoiceObject,
 ) -> Result<(), AllocError>
-    ensures { Adds result out.old out.new (voice_data guild voice.now) }
+    ensures adds { Adds result out.old out.new (voice_data guild voice.now) }
+    ensures fits { OnOk result (IfSome guild IsId × VoiceFits voice.now) }
 {
     open(out)?;
     maybe_id_field(out, "channel_id", voice.channel)?;
@@ -30,10 +37,32 @@ pub fn write_voice(
 impl Written for VoiceObject {
     ghost use Rattle.std.specs.Prelude.{None};
     ghost use Rattle.object_json.specs.Voice.{voice_data};
+    ghost use Rattle.object_json.specs.Voice.{VoiceFits};
 
     ghost json = { voice_data None };
 
+    ghost Fits = { VoiceFits };
+
     fn write(&self, _alloc: Global, out: &mut Writer) -> Result<(), AllocError> {
         write_voice(out, None, self)
+    }
+}
+
+impl Readable for VoiceObject {
+    ghost use Rattle.object_json.specs.Voice.{voice_from};
+
+    ghost from = { voice_from };
+
+    fn read(_alloc: Global, object: &Value) -> Result<VoiceObject, ReadFault> {
+        let channel = nullable_id_at(object, "channel_id")?;
+        let self_deaf = flag_at(object, "self_deaf")?;
+        let self_mute = flag_at(object, "self_mute")?;
+        let user = id_at(object, "user_id")?;
+        Ok(VoiceObject {
+            user,
+            channel,
+            self_mute,
+            self_deaf,
+        })
     }
 }

@@ -1,10 +1,12 @@
-ghost use Rattle.std.specs.Prelude.{◌∷◌, ◌≡◌, ◌++◌, [], option_map};
+ghost use Rattle.object_json.specs.Fits.{Each, IsPartCount};
+ghost use Rattle.std.specs.Prelude.{OnOk, ◌∷◌, ◌≡◌, ◌++◌, [], option_map};
 ghost use Rattle.serde_json.specs.Data.{object, no_members};
 ghost use Rattle.object_json.specs.Added.{Adds, AddsTokens, member_tokens, member_tokens_if};
 ghost use Rattle.object_json.specs.Kinds.{list, list_if, blanks};
 
 use crate::field::{close, key, open};
 use collections::Seq;
+use dispatch_types::PartCount;
 use json::Writer;
 use snowflake_id::Snowflake;
 use std::alloc::{AllocError, Global};
@@ -12,16 +14,22 @@ use std::alloc::{AllocError, Global};
 /// What is written as one JSON value.
 pub trait Written {
     ghost use Rattle.serde_json.specs.Data.{Data};
+    ghost use Rattle.std.specs.Prelude.{OnOk};
 
     ghost json: { Self → Data };
 
+    /// What the types of the fields hold.
+    ghost Fits: { Self → Type 0 };
+
     fn write(&self, alloc: Global, out: &mut Writer) -> Result<(), AllocError>
-        ensures { Adds result out.old out.new (json self.now) };
+        ensures adds { Adds result out.old out.new (json self.now) }
+        ensures fits { OnOk result (Fits self.now) };
 }
 
 /// Writes a list.
 pub fn list<T: Written>(alloc: Global, out: &mut Writer, items: &[T]) -> Result<(), AllocError>
-    ensures { Adds result out.old out.new (list T.json items.now) }
+    ensures adds { Adds result out.old out.new (list T.json items.now) }
+    ensures fits { OnOk result (Each T.Fits items.now) }
 {
     out.begin_array()?;
     for item in items {
@@ -38,7 +46,8 @@ pub fn list_field<T: Written + Drop>(
     name: &str,
     items: &Seq<T>,
 ) -> Result<(), AllocError>
-    ensures { AddsTokens result out.old out.new (member_tokens name.now (list T.json items.now)) }
+    ensures adds { AddsTokens result out.old out.new (member_tokens name.now (list T.json items.now)) }
+    ensures fits { OnOk result (Each T.Fits items.now) }
 {
     key(out, name)?;
     list(alloc, out, items.as_slice())?;
@@ -52,7 +61,8 @@ pub fn list_field_if<T: Written + Drop>(
     name: &str,
     items: &Seq<T>,
 ) -> Result<(), AllocError>
-    ensures { AddsTokens result out.old out.new (member_tokens_if name.now (list_if T.json items.now)) }
+    ensures adds { AddsTokens result out.old out.new (member_tokens_if name.now (list_if T.json items.now)) }
+    ensures fits { OnOk result (Each T.Fits items.now) }
 {
     if items.is_empty() {
         return Ok(());
@@ -68,7 +78,8 @@ pub fn value_field<T: Written>(
     name: &str,
     value: &T,
 ) -> Result<(), AllocError>
-    ensures { AddsTokens result out.old out.new (member_tokens name.now (T.json value.now)) }
+    ensures adds { AddsTokens result out.old out.new (member_tokens name.now (T.json value.now)) }
+    ensures fits { OnOk result (T.Fits value.now) }
 {
     key(out, name)?;
     value.write(alloc, out)?;
@@ -95,8 +106,7 @@ fn blanks(out: &mut Writer, count: u8) -> Result<(), AllocError>
     Ok(())
 }
 
-/// Writes a list of as many `{}` as the number says under its key.
-pub fn blanks_field(out: &mut Writer, name: &str, count: u8) -> Result<(), AllocError>
+fn blanks_field(out: &mut Writer, name: &str, count: u8) -> Result<(), AllocError>
     ensures { AddsTokens result out.old out.new (member_tokens name.now (blanks count)) }
 {
     key(out, name)?;
@@ -104,11 +114,23 @@ pub fn blanks_field(out: &mut Writer, name: &str, count: u8) -> Result<(), Alloc
     Ok(())
 }
 
+/// Writes a list of as many `{}` as there are embeds, attachments or components under its key.
+pub fn parts_field(out: &mut Writer, name: &str, count: PartCount) -> Result<(), AllocError>
+    ensures adds { AddsTokens result out.old out.new (member_tokens name.now (blanks count)) }
+    ensures fits { OnOk result (IsPartCount count) }
+{
+    blanks_field(out, name, count.get())?;
+    Ok(())
+}
+
 /// An id, as a text.
 impl Written for Snowflake {
     ghost use Rattle.object_json.specs.Kinds.{digits};
+    ghost use Rattle.object_json.specs.Fits.{IsId};
 
     ghost json = { digits };
+
+    ghost Fits = { IsId };
 
     fn write(&self, _alloc: Global, out: &mut Writer) -> Result<(), AllocError> {
         out.quoted_u64(self.0)?;

@@ -1,5 +1,5 @@
 use Rattle.object_json.proofs.Steps.{joined}
 use Rattle.event_json.proofs.member.write_guild_member_remove.Goals as goal
 
-pub returns : goal.returns
-returns c = joined c.in_ok-open.ensures (joined c.in_ok-id_field.ensures (joined c.in_ok-value_field.ensures c.in_ok-close.ensures))
+pub returns-clause-adds : goal.returns-clause-adds
+returns-clause-adds c = joined c.in_ok-open.ensures (joined c.in_ok-id_field.ensures.adds (joined c.in_ok-value_field.ensures.adds c.in_ok-close.ensures))

@@ -2,5 +2,5 @@ use Rattle.object_json.proofs.Steps.{joined}
 use Rattle.object_json.proofs.Members.{tokens_with}
 use Rattle.event_json.proofs.thread.write_thread_members_update.Goals as goal
 
-pub returns : goal.returns
-returns c = rw (tokens_with, tokens_with) (joined c.in_ok-open.ensures (joined c.in_ok-list_field_if.ensures (joined c.in_ok-id_field.ensures (joined c.in_ok-id_field-2.ensures (joined c.in_ok-thread_count_field.ensures (joined c.in_ok-list_field_if-2.ensures c.in_ok-close.ensures))))))
+pub returns-clause-adds : goal.returns-clause-adds
+returns-clause-adds c = rw (tokens_with, tokens_with) (joined c.in_ok-open.ensures (joined c.in_ok-list_field_if.ensures.adds (joined c.in_ok-id_field.ensures.adds (joined c.in_ok-id_field-2.ensures.adds (joined c.in_ok-thread_count_field.ensures.adds (joined c.in_ok-list_field_if-2.ensures.adds c.in_ok-close.ensures))))))

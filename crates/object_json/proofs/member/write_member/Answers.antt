@@ -2,5 +2,5 @@ use Rattle.object_json.proofs.Steps.{joined}
 use Rattle.object_json.proofs.Members.{tokens_with}
 use Rattle.object_json.proofs.member.write_member.Goals as goal
 
-pub returns : goal.returns
-returns c = rw tokens_with (joined c.in_ok-open.ensures (joined c.in_ok-maybe_time_field.ensures (joined c.in_ok-id_field_if.ensures (joined c.in_ok-time_field.ensures (joined c.in_ok-maybe_text_field.ensures (joined c.in_ok-list_field.ensures (joined c.in_ok-value_field.ensures c.in_ok-close.ensures)))))))
+pub returns-clause-adds : goal.returns-clause-adds
+returns-clause-adds c = rw tokens_with (joined c.in_ok-open.ensures (joined c.in_ok-maybe_time_field.ensures.adds (joined c.in_ok-id_field_if.ensures.adds (joined c.in_ok-time_field.ensures.adds (joined c.in_ok-maybe_text_field.ensures (joined c.in_ok-list_field.ensures.adds (joined c.in_ok-value_field.ensures.adds c.in_ok-close.ensures)))))))

@@ -6,4 +6,4 @@ use Rattle.object_json.proofs.message.timestamp_field.Goals as goal
 pub returns : goal.returns
 returns c =
     let P : ℕ → Type 0 = λ m. HasAdded c.args.out.now c.time_field.new.out (member_tokens (codes "timestamp") (time m)) in
-    subst P c.moment_of.ensures c.in_ok-time_field.ensures
+    subst P c.moment_of.ensures c.in_ok-time_field.ensures.adds

@@ -1,5 +1,5 @@
 use Rattle.object_json.proofs.Steps.{joined}
 use Rattle.object_json.proofs.channel.ChannelObjectWritten.write.Goals as goal
 
-pub returns : goal.returns
-returns c = joined c.in_ok-open.ensures (joined c.in_ok-id_field.ensures (joined c.in_ok-id_field-2.ensures (joined c.in_ok-text_field.ensures (joined c.in_ok-maybe_id_field.ensures (joined c.in_ok-list_field.ensures (joined c.in_ok-small_field.ensures (joined c.in_ok-channel_kind_field.ensures c.in_ok-close.ensures)))))))
+pub returns-clause-adds : goal.returns-clause-adds
+returns-clause-adds c = joined c.in_ok-open.ensures (joined c.in_ok-id_field.ensures.adds (joined c.in_ok-id_field-2.ensures.adds (joined c.in_ok-text_field.ensures (joined c.in_ok-maybe_id_field.ensures.adds (joined c.in_ok-list_field.ensures.adds (joined c.in_ok-small_field.ensures.adds (joined c.in_ok-channel_kind_field.ensures c.in_ok-close.ensures)))))))

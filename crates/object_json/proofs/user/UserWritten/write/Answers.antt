@@ -1,5 +1,5 @@
 use Rattle.object_json.proofs.Steps.{joined}
 use Rattle.object_json.proofs.user.UserWritten.write.Goals as goal
 
-pub returns : goal.returns
-returns c = joined c.in_ok-open.ensures (joined c.in_ok-flag_field.ensures (joined c.in_ok-id_field.ensures (joined c.in_ok-text_field.ensures c.in_ok-close.ensures)))
+pub returns-clause-adds : goal.returns-clause-adds
+returns-clause-adds c = joined c.in_ok-open.ensures (joined c.in_ok-flag_field.ensures (joined c.in_ok-id_field.ensures.adds (joined c.in_ok-text_field.ensures c.in_ok-close.ensures)))

@@ -1,0 +1,132 @@
+ghost use Rattle.std.specs.Prelude.{◌≡◌};
+ghost use Rattle.serde_json.specs.View.{view, items_view};
+ghost use Rattle.object_json.specs.Reading.{UnlessMemory, value_at, optional_at, items_from, list_from, list_at, list_if_at, few_from, parts_at};
+
+use crate::fault::ReadFault;
+use crate::reading::{field_at, id_from};
+use collections::Seq;
+use dispatch_types::PartCount;
+use serde_json::Value;
+use snowflake_id::Snowflake;
+use std::alloc::Global;
+
+/// What is read from one JSON value.
+pub trait Readable {
+    ghost use Rattle.std.specs.Prelude.{Result};
+    ghost use Rattle.serde_json.specs.Data.{Data};
+    ghost use Rattle.serde_json.specs.View.{view};
+    ghost use Rattle.object_json.specs.Reading.{UnlessMemory};
+    ghost use Rattle.object_json.specs.declared.fault.ReadFault.{ReadFault};
+
+    ghost from: { Data → Result Self ReadFault };
+
+    fn read(alloc: Global, value: &Value) -> Result<Self, ReadFault>
+        ensures { UnlessMemory result (from (view value.now)) };
+}
+
+/// What a key's value is read as.
+pub fn value_at<T: Readable + Drop>(
+    alloc: Global,
+    object: &Value,
+    name: &str,
+) -> Result<T, ReadFault>
+    ensures { UnlessMemory result (value_at T.from name.now (view object.now)) }
+{
+    let value = field_at(object, name)?;
+    T::read(alloc, value)
+}
+
+/// The same of a key that may be left out.
+pub fn optional_at<T: Readable + Drop>(
+    alloc: Global,
+    object: &Value,
+    name: &str,
+) -> Result<Option<T>, ReadFault>
+    ensures { UnlessMemory result (optional_at T.from name.now (view object.now)) }
+{
+    match object.get(name) {
+        None => Ok(None),
+        Some(value) => {
+            let item = T::read(alloc, value)?;
+            Ok(Some(item))
+        }
+    }
+}
+
+fn items_from<T: Readable + Drop>(alloc: Global, list: &[Value]) -> Result<Seq<T>, ReadFault>
+    ensures { UnlessMemory result (items_from T.from (items_view list.now)) }
+{
+    let mut items = Seq::new(alloc);
+    for value in list {
+        let item = T::read(alloc, value)?;
+        items.push(item)?;
+    }
+    Ok(items)
+}
+
+/// The list that a value is.
+pub fn list_from<T: Readable + Drop>(alloc: Global, value: &Value) -> Result<Seq<T>, ReadFault>
+    ensures { UnlessMemory result (list_from T.from (view value.now)) }
+{
+    match value.as_array() {
+        None => Err(ReadFault::BadField),
+        Some(list) => items_from(alloc, list.as_slice()),
+    }
+}
+
+/// A list.
+pub fn list_at<T: Readable + Drop>(
+    alloc: Global,
+    object: &Value,
+    name: &str,
+) -> Result<Seq<T>, ReadFault>
+    ensures { UnlessMemory result (list_at T.from name.now (view object.now)) }
+{
+    let value = field_at(object, name)?;
+    list_from(alloc, value)
+}
+
+/// A list that may be left out.
+pub fn list_if_at<T: Readable + Drop>(
+    alloc: Global,
+    object: &Value,
+    name: &str,
+) -> Result<Seq<T>, ReadFault>
+    ensures { UnlessMemory result (list_if_at T.from name.now (view object.now)) }
+{
+    match object.get(name) {
+        None => Ok(Seq::new(alloc)),
+        Some(value) => list_from(alloc, value),
+    }
+}
+
+#[tactic(auto, using(crate::proofs::Lists::items_view_len))]
+fn parts_of(list: &[Value]) -> Result<PartCount, ReadFault>
+    ensures { result ≡ few_from (items_view list.now) }
+{
+    match PartCount::new(list.len()) {
+        Err(_) => Err(ReadFault::BadField),
+        Ok(count) => Ok(count),
+    }
+}
+
+/// How many embeds, attachments or components there are.
+pub fn parts_at(object: &Value, name: &str) -> Result<PartCount, ReadFault>
+    ensures { result ≡ parts_at name.now (view object.now) }
+{
+    match field_at(object, name)?.as_array() {
+        None => Err(ReadFault::BadField),
+        Some(list) => parts_of(list.as_slice()),
+    }
+}
+
+/// An id, as a text.
+impl Readable for Snowflake {
+    ghost use Rattle.object_json.specs.Reading.{id_from};
+
+    ghost from = { id_from };
+
+    fn read(_alloc: Global, value: &Value) -> Result<Snowflake, ReadFault> {
+        id_from(value)
+    }
+}
