@@ -1,0 +1,7 @@
+use Rattle.std.proofs.Common.{◌≡◌, ℕ, take}
+use Rattle.thread_sync.specs.Seen.{is_among}
+use Rattle.thread_sync.specs.Sync.{uncovers}
+use Rattle.thread_sync.proofs.sync.uncovered_parents.Given as goal
+
+abbrev pub invariant-loop-thread : goal.invariant-loop-thread
+invariant-loop-thread l = (id : ℕ) → is_among l.parents id ≡ uncovers l.was l.standing (take l.thread-index l.threads) id

@@ -1,0 +1,4 @@
+pub mod Sight
+pub mod Seen
+pub mod Sync
+pub mod Law

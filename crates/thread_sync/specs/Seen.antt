@@ -1,0 +1,39 @@
+-- What a user sees of a guild: the channels, and the active threads.
+use Rattle.std.specs.Prelude.{ℕ, List, [], map, filter, Bool, ◌&&◌, Option, Some, None}
+use Rattle.collections.specs.ById.{find_id, has_id}
+use Rattle.guild_model.specs.declared.member.Member.{Member}
+use Rattle.guild_model.specs.declared.channel.Channel.{Channel}
+use Rattle.guild_model.specs.declared.thread.Thread.{Thread}
+use Rattle.guild_model.specs.Record.{Record, own_id, member_id, channel_id, thread_id}
+use Rattle.guild_model.specs.Sight.{Standing, standing, sees, sees_in, is_in}
+use Rattle.dispatch_types.specs.Projection.{is_active, seen_threads}
+use Rattle.thread_sync.specs.declared.seen.Seen.{Seen}
+
+-- one of these ids
+abbrev pub is_among : List ℕ → ℕ → Bool
+is_among ids id = has_id own_id id ids
+
+-- a channel that is seen, and an active thread that is
+abbrev pub shows_channel : Standing → Channel → Bool
+shows_channel s c = sees s c.id
+
+abbrev pub shows : Standing → Thread → Bool
+shows s t = is_active t && sees_in s t.parent t.kind (is_in s.me.user.id t)
+
+-- an active thread that is seen, in one of some channels
+abbrev pub shows_in : Standing → List ℕ → Thread → Bool
+shows_in s channels t = is_among channels t.parent && shows s t
+
+abbrev pub sees_channel : Record → Member → Channel → Bool
+sees_channel s me c = shows_channel (standing s me) c
+
+abbrev pub visible_to : Record → Member → Seen
+visible_to s me = record { channels = map channel_id (filter (sees_channel s me) s.channels); threads = map thread_id (seen_threads s me) }
+
+abbrev pub visible_of : Record → Option Member → Seen
+visible_of s None = record { channels = []; threads = [] }
+visible_of s (Some me) = visible_to s me
+
+-- a user that is no member sees nothing
+abbrev pub visible : Record → ℕ → Seen
+visible s user = visible_of s (find_id member_id user s.members)

@@ -1,0 +1,233 @@
+//! The sync of what a change of permissions uncovers (Gateway Events, Thread List Sync).
+
+ghost use Rattle.std.specs.Prelude.{◌≡◌, ℕ, ◌&&◌, ◌||◌, not, true, is_some, IfOk, map, filter};
+ghost use Rattle.std.specs.List.{list_any, filter_map};
+ghost use Rattle.guild_model.specs.Record.{channel_id};
+ghost use Rattle.guild_model.specs.Consistent.{has_threads};
+ghost use Rattle.guild_model.specs.Sight.{sees};
+ghost use Rattle.dispatch_types.specs.Objects.{thread_object};
+ghost use Rattle.thread_sync.specs.Seen.{is_among, shows_channel, shows, shows_in};
+ghost use Rattle.thread_sync.specs.Sync.{is_new, uncovers, is_gained, own_membership, sync, uncovered};
+
+use crate::seen::{Seen, is_private, shows_in};
+use collections::{ById, Seq};
+use dispatch_types::{Dispatch, ThreadMemberObject, ThreadObject, Viewer};
+use guild_model::{Channel, ChannelKind, Guild, Member, Thread};
+use overwrite_eval::StandingRef;
+use snowflake_id::Snowflake;
+use std::alloc::{AllocError, Global};
+
+fn has_threads(kind: ChannelKind) -> bool
+    ensures { result ≡ has_threads kind }
+{
+    match kind {
+        ChannelKind::Text | ChannelKind::Announcement | ChannelKind::Forum => true,
+        ChannelKind::Voice | ChannelKind::Category | ChannelKind::Stage => false,
+    }
+}
+
+// Whether a thread is an active private one that is seen, and was not seen before.
+fn is_uncovered(was: &Seen, standing: &StandingRef, thread: &Thread) -> bool
+    ensures { result ≡ (shows standing.now thread.now && is_new was.now thread.now) }
+{
+    !thread.archived
+        && is_private(thread.kind)
+        && !was.threads.contains(thread.id.0)
+        && standing.sees_thread(thread)
+}
+
+// The parents of such threads.
+fn uncovered_parents(
+    alloc: Global,
+    was: &Seen,
+    standing: &StandingRef,
+    threads: &[Thread],
+) -> Result<ById<Snowflake>, AllocError>
+    ensures { IfOk result (λ parents. (id : ℕ) → is_among parents id ≡ uncovers was.now standing.now threads.now id) }
+{
+    let mut parents = ById::new(alloc);
+    for thread in threads {
+        if is_uncovered(was, standing, thread) {
+            parents.put(thread.parent)?;
+        }
+    }
+    Ok(parents)
+}
+
+fn is_gained(
+    was: &Seen,
+    uncovered: &ById<Snowflake>,
+    standing: &StandingRef,
+    channel: &Channel,
+) -> bool
+    ensures { result ≡ is_gained was.now (is_among uncovered.now) standing.now channel.now }
+{
+    has_threads(channel.kind)
+        && (!was.channels.contains(channel.id.0) || uncovered.contains(channel.id.0))
+        && standing.sees(channel.id)
+}
+
+fn gained_parents(
+    alloc: Global,
+    was: &Seen,
+    uncovered: &ById<Snowflake>,
+    standing: &StandingRef,
+    channels: &[Channel],
+) -> Result<Vec<Snowflake>, AllocError>
+    ensures { IfOk result (λ ids. ids.items ≡ map channel_id (filter (is_gained was.now (is_among uncovered.now) standing.now) channels.now)) }
+{
+    channels
+        .iter()
+        .filter(|channel| is_gained(was, uncovered, standing, channel))
+        .map(|channel| channel.id)
+        .collect(alloc)
+}
+
+// The threads that are listed.
+fn listed<'a>(
+    alloc: Global,
+    standing: &StandingRef,
+    parents: &ById<Snowflake>,
+    threads: &'a [Thread],
+) -> Result<Vec<&'a Thread>, AllocError>
+    requires { (id : ℕ) → is_among parents.now id ≡ true → sees standing.now id ≡ true }
+    ensures { IfOk result (λ listed. map (λ thread. thread.now) listed.items ≡ filter (shows_in standing.now parents.now) threads.now) }
+{
+    threads
+        .iter()
+        .filter(|thread| shows_in(standing, parents, thread))
+        .collect(alloc)
+}
+
+fn objects(
+    alloc: Global,
+    guild: Snowflake,
+    threads: &[&Thread],
+) -> Result<Seq<ThreadObject>, AllocError>
+    ensures { IfOk result (λ objects. objects ≡ map (thread_object guild) (map (λ thread. thread.now) threads.now)) }
+{
+    let mut objects = Seq::new(alloc);
+    for thread in threads {
+        objects.push(ThreadObject::of(alloc, guild, thread)?)?;
+    }
+    Ok(objects)
+}
+
+fn own_membership(user: Snowflake, thread: &Thread) -> Option<ThreadMemberObject>
+    ensures { result ≡ own_membership user thread.now }
+{
+    match thread.members.get(user.0) {
+        Some(member) => Some(ThreadMemberObject {
+            thread: thread.id,
+            user: member.user,
+            joined: member.joined,
+        }),
+        None => None,
+    }
+}
+
+fn own_memberships(
+    alloc: Global,
+    user: Snowflake,
+    threads: &[&Thread],
+) -> Result<Seq<ThreadMemberObject>, AllocError>
+    ensures { IfOk result (λ members. members ≡ filter_map (own_membership user) (map (λ thread. thread.now) threads.now)) }
+{
+    let mut members = Seq::new(alloc);
+    for thread in threads {
+        if let Some(member) = own_membership(user, thread) {
+            members.push(member)?;
+        }
+    }
+    Ok(members)
+}
+
+/// The sync of what a member sees now and did not see before, `was` being what it saw: each parent that
+/// it gained with all active threads in it that it sees and its memberships in them; nothing exactly
+/// where no parent is gained (Gateway Events, Thread List Sync; Threads, Syncing for Channel Gain).
+pub fn sync(
+    alloc: Global,
+    was: &Seen,
+    guild: &Guild,
+    me: &Member,
+) -> Result<Option<Dispatch>, AllocError>
+    ensures { IfOk result (λ told. told ≡ sync was.now guild.now me.now) }
+{
+    let standing = StandingRef::in_guild(guild, me);
+    let threads = guild.threads.as_slice();
+    let channels = guild.channels.as_slice();
+    let uncovered = uncovered_parents(alloc, was, &standing, threads)?;
+    let gained = gained_parents(alloc, was, &uncovered, &standing, channels)?;
+    if gained.is_empty() {
+        return Ok(None);
+    }
+    let parents = ById::from_ascending(Vec::from_slice(alloc, gained.as_slice())?);
+    let listed = listed(alloc, &standing, &parents, threads)?;
+    Ok(Some(Dispatch::ThreadListSync {
+        guild: guild.id,
+        channels: Seq::from_vec(gained),
+        threads: objects(alloc, guild.id, listed.as_slice())?,
+        members: own_memberships(alloc, me.user.id, listed.as_slice())?,
+    }))
+}
+
+/// The sync of what a viewer's user sees now and did not see before, `was` being what it saw: each
+/// parent that it sees, and either did not see before or sees a private thread in that it did not see
+/// before, with all active threads in these that it sees and its memberships in them. Nothing exactly
+/// where no parent is gained, as to a user that is no member (Gateway Events, Thread List Sync; Threads,
+/// Syncing for Channel Gain).
+pub fn uncovered(
+    alloc: Global,
+    was: &Seen,
+    guild: &Guild,
+    viewer: &Viewer,
+) -> Result<Option<Dispatch>, AllocError>
+    ensures { IfOk result (λ told. told ≡ uncovered was.now guild.now viewer.now.user) }
+{
+    match guild.member(viewer.user) {
+        Some(me) => sync(alloc, was, guild, me),
+        None => Ok(None),
+    }
+}
+
+// Whether a channel is a parent that is seen, and was not seen before.
+fn is_new_parent(was: &Seen, standing: &StandingRef, channel: &Channel) -> bool
+    ensures { result ≡ (has_threads channel.now.kind && (shows_channel standing.now channel.now && not (is_among was.now.channels channel.now.id))) }
+{
+    has_threads(channel.kind) && !was.channels.contains(channel.id.0) && standing.sees(channel.id)
+}
+
+fn is_any_parent_new(was: &Seen, standing: &StandingRef, channels: &[Channel]) -> bool
+    ensures { result ≡ list_any (λ channel. has_threads channel.kind && (shows_channel standing.now channel && not (is_among was.now.channels channel.id))) channels.now }
+{
+    channels
+        .iter()
+        .any(|channel| is_new_parent(was, standing, channel))
+}
+
+fn is_any_uncovered(was: &Seen, standing: &StandingRef, threads: &[Thread]) -> bool
+    ensures { result ≡ list_any (λ thread. shows standing.now thread && is_new was.now thread) threads.now }
+{
+    threads
+        .iter()
+        .any(|thread| is_uncovered(was, standing, thread))
+}
+
+// Whether a member gains a parent.
+fn gains(was: &Seen, guild: &Guild, me: &Member) -> bool
+    ensures { result ≡ is_some (sync was.now guild.now me.now) }
+{
+    let standing = StandingRef::in_guild(guild, me);
+    is_any_parent_new(was, &standing, guild.channels.as_slice())
+        || is_any_uncovered(was, &standing, guild.threads.as_slice())
+}
+
+/// Whether [`uncovered`] gives a sync.
+pub fn gained(was: &Seen, guild: &Guild, viewer: &Viewer) -> bool
+    ensures { result ≡ is_some (uncovered was.now guild.now viewer.now.user) }
+{
+    match guild.member(viewer.user) {
+        Some(me) => gains(was, guild, me),
+        None => false,
+    }
+}
