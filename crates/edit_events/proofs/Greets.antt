@@ -32,16 +32,9 @@ use Rattle.dispatch_types.specs.Projection.{told, listed, is_active, thread_view
 use Rattle.dispatch_types.specs.Fold.{Held, thread_view_id, user_id, own_member, thread_of, joined_thread, created, created_view, on_open, begun, changed, purged, purge, folded}
 use Rattle.dispatch_types.proofs.Objects.{channels-back, member-back, members-back, voices-back, presences-back}
 use Rattle.dispatch_types.proofs.Views.{purged-open, projection-open}
+use Rattle.event_views.proofs.Lists.{listed-same}
 use Rattle.edit_events.specs.Greeting.{is_near, is_shown, is_told, is_large, joined_at, thread_told, greeting}
 use Rattle.edit_events.specs.Law.{Agrees, GreetingHolds}
-
--- lists that agree where they are told
-pub listed-same : {T : Type 0} (intents bit : ℕ) (xs ys : List T) → (has_bit intents bit ≡ true → xs ≡ ys) → listed intents bit xs ≡ listed intents bit ys
-listed-same intents bit xs ys same = by_bit (has_bit intents bit) same
-  where
-    by_bit : (b : Bool) → (b ≡ true → xs ≡ ys) → (if b then xs else []) ≡ (if b then ys else [])
-    by_bit true same = same refl
-    by_bit false same = refl
 
 -- a served viewer's own member
 pub served-found : (v : Viewer) (s : Record) (me : Member) → served v s ≡ Some me → find_id member_id v.user s.members ≡ Some me

@@ -1,21 +1,17 @@
 -- After what an edit owes, a client holds the projection of the record after it.
-use Rattle.std.proofs.Common.{◌≡◌, ℕ, Bool, true, false, List, [], ◌∷◌, Option, Some, None, if◌then◌else◌, refl, sym, ap, subst, ◌∙◌, eq-eqb}
-use Rattle.std.specs.Prelude.{◌==◌, ◌&&◌, not, filter, length, is_some, All}
-use Rattle.std.specs.Option.{option_or, is_none}
-use Rattle.std.proofs.lemmas.List.Elements.{All-nil, All-cons}
-use Rattle.std.proofs.lemmas.Bool.{eqb-true}
-use Rattle.collections.specs.ById.{find_id, has_id, put_id, IsById}
-use Rattle.collections.proofs.Ids.{IsById-put}
-use Rattle.collections.proofs.Finds.{find-put}
-use Rattle.collections.proofs.Mapped.{all-put}
+use Rattle.std.proofs.Common.{◌≡◌, ℕ, Bool, true, false, List, [], ◌∷◌, ◌++◌, Option, Some, None, if◌then◌else◌, refl, sym, ap, subst, ◌∙◌, eq-eqb}
+use Rattle.std.specs.Prelude.{◌==◌, ◌&&◌, not, is_some, option_map, All}
+use Rattle.std.specs.Option.{is_none}
+use Rattle.collections.specs.ById.{find_id}
 use Rattle.perm_bits.specs.Bits.{has_bit}
-use Rattle.intent_set.specs.Intents.{guilds, guild_members}
+use Rattle.intent_set.specs.Intents.{guilds}
 use Rattle.guild_model.specs.declared.member.Member.{Member}
 use Rattle.guild_model.specs.declared.verdict.Verdict.{Verdict}
-use Rattle.guild_model.specs.declared.verdict.Verdict.TheVariants.{NotOpen, AlreadyOpen, Unavailable, IdTaken}
-use Rattle.guild_model.specs.Record.{Record, own_id, role_id, member_id}
-use Rattle.guild_model.specs.Tests.{first_of, refused_if, too_long, too_many}
+use Rattle.guild_model.specs.declared.verdict.Verdict.TheVariants.{NotOpen, AlreadyOpen, Unavailable}
+use Rattle.guild_model.specs.Record.{Record, member_id}
+use Rattle.guild_model.specs.Tests.{first_of, refused_if, too_long, unknown_member}
 use Rattle.guild_model.specs.Ascending.{IsAscending, IsWell}
+use Rattle.guild_model.proofs.Tests.{first_passes, not_refused}
 use Rattle.dispatch_types.specs.declared.viewer.Viewer.{Viewer}
 use Rattle.dispatch_types.specs.declared.view.GuildView.{GuildView}
 use Rattle.dispatch_types.specs.declared.view.GuildView.TheVariants as view
@@ -23,219 +19,306 @@ use Rattle.dispatch_types.specs.declared.view.OpenView.{OpenView}
 use Rattle.dispatch_types.specs.declared.dispatch.Dispatch.{Dispatch}
 use Rattle.dispatch_types.specs.declared.dispatch.Dispatch.TheVariants.{GuildCreate, GuildUpdate, GuildDelete}
 use Rattle.dispatch_types.specs.Serves.{in_shard, served, serves}
-use Rattle.dispatch_types.specs.Projection.{told, listed, is_known, open_view, view_as, projection}
-use Rattle.dispatch_types.specs.Fold.{Held, on_open, purged, purge, folded, fold_from}
-use Rattle.dispatch_types.proofs.Views.{purged-open, projection-blind, projection-unserved, projection-open}
-use Rattle.dispatch_types.proofs.Folds.{guild_of, seen_here}
+use Rattle.dispatch_types.specs.Projection.{view_as, open_view, projection}
+use Rattle.dispatch_types.specs.Fold.{Held, if_unavailable, on_open, begun, purged, purge, folded, fold_from}
+use Rattle.dispatch_types.proofs.Views.{projection-blind, projection-unserved, projection-open}
+use Rattle.edit_events.proofs.Out.{projection-out}
+use Rattle.thread_sync.specs.Seen.{visible_to}
+use Rattle.thread_sync.specs.Sync.{sync}
+use Rattle.event_views.specs.Asked.{asked, told_if}
+use Rattle.event_views.specs.Has.{Has}
+use Rattle.event_views.proofs.Steps.{IsOf, whole, by_guilds, by_asked_then}
+use Rattle.event_views.proofs.Told.{same, told-guild}
+use Rattle.event_views.proofs.Rights.{follows-rights}
+use Rattle.event_views.proofs.Blind.{IsBlind, blind-fold}
+use Rattle.guild_model.specs.declared.presence.Activity.{Activity}
+use Rattle.guild_model.specs.Statuses.{status_activity}
 use Rattle.role_member_edit.specs.declared.RoleMemberEdit.{RoleMemberEdit}
 use Rattle.role_member_edit.specs.declared.RoleMemberEdit.TheVariants.{RoleCreate, RoleUpdate, RoleDelete, MemberAdd, MemberRemove, MemberNick, MemberTimeout, MemberRoleAdd, MemberRoleRemove}
-use Rattle.role_member_edit.specs.Members.{new_member, member_added, member_add_verdict}
+use Rattle.role_member_edit.specs.RoleMember.{role_member_verdict, role_member_applied}
+use Rattle.role_member_events.proofs.Follows.{follows-role_member}
+use Rattle.channel_edit.specs.declared.ChannelEdit.{ChannelEdit}
+use Rattle.channel_edit.specs.declared.ChannelEdit.TheVariants.{ChannelCreate, ChannelUpdate, ChannelDelete, OverwriteSet, OverwriteDelete}
+use Rattle.channel_edit.specs.ChannelEdits.{channel_verdict, channel_applied}
+use Rattle.channel_events.specs.Ends.{channel_note}
+use Rattle.channel_events.specs.Rows.{channel_row}
+use Rattle.channel_events.proofs.Follows.{follows-channel}
+use Rattle.thread_edit.specs.declared.ThreadEdit.{ThreadEdit}
+use Rattle.thread_edit.specs.declared.ThreadEdit.TheVariants.{ThreadCreate, ThreadRename, ThreadArchive, ThreadUnarchive, ThreadDelete, ThreadJoin, ThreadLeave}
+use Rattle.thread_edit.specs.ThreadEdits.{thread_verdict, thread_applied}
+use Rattle.thread_events.specs.Ends.{thread_note}
+use Rattle.thread_events.specs.Rows.{thread_row}
+use Rattle.thread_events.proofs.Follows.{follows-thread}
+use Rattle.voice_presence.specs.declared.VoicePresenceEdit.{VoicePresenceEdit}
+use Rattle.voice_presence.specs.declared.VoicePresenceEdit.TheVariants.{VoiceSet, PresenceSet}
+use Rattle.voice_presence.specs.Presences.{with_activity}
+use Rattle.voice_presence.specs.VoicePresence.{voice_presence_verdict, voice_presence_applied}
+use Rattle.voice_presence_events.specs.Rows.{voice_presence_row}
+use Rattle.voice_presence_events.proofs.Follows.{follows-voice_presence}
 use Rattle.edit_apply.specs.declared.guild.GuildEdit.{GuildEdit}
 use Rattle.edit_apply.specs.declared.guild.GuildEdit.TheVariants.{GuildOpen, GuildRename, GuildOwner, GuildOutage, GuildBack}
 use Rattle.edit_apply.specs.declared.Edit.{Edit}
 use Rattle.edit_apply.specs.declared.Edit.TheVariants as edit
 use Rattle.edit_apply.specs.Guilds.{out_of_service, guild_opened}
 use Rattle.edit_apply.specs.Edits.{verdict, applied, after, after_verdict, accepts}
+use Rattle.edit_apply.proofs.Well.{keeps}
 use Rattle.edit_events.specs.Greeting.{greeting}
-use Rattle.edit_events.specs.Due.{asked, row, due_between, due, owed}
-use Rattle.edit_events.specs.Law.{Agrees, is_built, is_built_viewer, EditKeeps}
-use Rattle.edit_events.proofs.Greets.{greeting-id, greets, served-found, listed-same}
+use Rattle.edit_events.specs.Was.{note_of, was_of}
+use Rattle.edit_events.specs.Due.{guild_updated, row, due_to, due_between, due, owed}
+use Rattle.edit_events.specs.Law.{Agrees, is_built, EditKeeps}
+use Rattle.edit_events.proofs.Greets.{greets, served-found}
+use Rattle.edit_events.proofs.Others.{id-kept, row-of}
 
--- of the tests of an accepted edit each passes
-first-passes : (o : Option Verdict) (os : List (Option Verdict)) → first_of (o ∷ os) ≡ None → o ≡ None
-first-passes None os e = refl
-first-passes (Some x) os e = absurd (cc)
+-- ---- what the tests of an accepted edit say
 
-rest-passes : (o : Option Verdict) (os : List (Option Verdict)) → first_of (o ∷ os) ≡ None → first_of os ≡ None
-rest-passes None os e = e
-rest-passes (Some x) os e = absurd (cc)
+opens : (b : Bool) → not b ≡ false → b ≡ true
+opens true e = refl
+opens false e = absurd (cc)
 
-test-passes : (b : Bool) (x : Verdict) → refused_if b x ≡ None → b ≡ false
-test-passes true x e = absurd (cc)
-test-passes false x e = refl
+-- in a guild that is open and available
+in_service : (s : Record) → out_of_service s ≡ None → (s.opened ≡ true) × (s.outage ≡ false)
+in_service s e =
+    let tests = first_passes (refused_if (not s.opened) NotOpen) (refused_if s.outage Unavailable ∷ []) e in
+    (opens s.opened (not_refused (not s.opened) NotOpen tests.0), not_refused s.outage Unavailable (first_passes (refused_if s.outage Unavailable) [] tests.1).0)
 
-available : (s : Record) → out_of_service s ≡ None → s.outage ≡ false
-available s e = test-passes s.outage Unavailable (first-passes (refused_if s.outage Unavailable) [] (rest-passes (refused_if (not s.opened) NotOpen) (refused_if s.outage Unavailable ∷ []) e))
-
--- the viewer was not served before, and may be now
-pub comes : (s : Record) (v : Viewer) (h : Held) (e : Edit) → IsAscending s → s.outage ≡ false → h.bot ≡ v.user → h.view ≡ None → (o : Option Member) → served v s ≡ o → Agrees s v (fold_from v.intents s.id h (due_between s v false o e))
-comes s v h e ascends here bot none None is = record { bot = bot; view = none ∙ sym (projection-unserved s v h.known is) }
-comes s v h e ascends here bot none (Some me) is = by_intents (has_bit v.intents guilds) refl
-  where
-    by_intents : (b : Bool) → has_bit v.intents guilds ≡ b → Agrees s v (fold_from v.intents s.id h (if b then GuildCreate (greeting s v me) ∷ [] else []))
-    by_intents true asks = greets s v me ascends (served-found v s me is) h is here asks bot
-    by_intents false blind = record { bot = bot; view = none ∙ sym (projection-blind s v h.known blind) }
+-- ---- who is served
 
 -- a viewer that is not served before and after is told nothing
-pub stays-away : (s t : Record) (v : Viewer) (h : Held) → served v s ≡ None → served v t ≡ None → Agrees s v h → Agrees t v h
+stays-away : (s t : Record) (v : Viewer) (h : Held) → served v s ≡ None → served v t ≡ None → Agrees s v h → Agrees t v h
 stays-away s t v h before now agrees = record { bot = agrees.bot; view = agrees.view ∙ (projection-unserved s v h.known before ∙ sym (projection-unserved t v h.known now)) }
 
--- nor does one without GUILDS hold anything
-pub stays-blind : (s t : Record) (v : Viewer) (h : Held) → has_bit v.intents guilds ≡ false → Agrees s v h → Agrees t v h
-stays-blind s t v h blind agrees = record { bot = agrees.bot; view = agrees.view ∙ (projection-blind s v h.known blind ∙ sym (projection-blind t v h.known blind)) }
+-- one without GUILDS holds nothing
+blind-agrees : (t : Record) (v : Viewer) (h : Held) → has_bit v.intents guilds ≡ false → IsBlind v.user h → Agrees t v h
+blind-agrees t v h lacks blind = record { bot = blind.bot; view = blind.view ∙ sym (projection-blind t v h.known lacks) }
 
--- a dispatch of the guild makes the view before the view after
-pub follows : (s t : Record) (v : Viewer) (h : Held) (me me' : Member) (d : Dispatch) (f : OpenView → OpenView) → t.id ≡ s.id
-    → has_bit v.intents guilds ≡ true → served v s ≡ Some me → served v t ≡ Some me' → s.outage ≡ false → t.outage ≡ false
-    → folded v.intents s.id h d ≡ record h { view = on_open (purged v.intents s.id) (on_open f h.view) }
-    → f (open_view s v.intents h.known me) ≡ open_view t v.intents h.known me'
-    → Agrees s v h → Agrees t v (folded v.intents s.id h d)
-follows s t v h me me' d f same asks before now here here' makes turns agrees =
-    let brings : on_open (purged v.intents s.id) (on_open f h.view) ≡ projection t v h.known =
-    ap (λ o. on_open (purged v.intents s.id) (on_open f o)) (agrees.view ∙ projection-open s v h.known me asks before here)
-    ∙ (ap (λ (w : OpenView). Some (view.Open (purged v.intents s.id w))) turns
-    ∙ (ap (λ g. Some (view.Open (purged v.intents g (open_view t v.intents h.known me')))) (sym same)
-    ∙ (ap (λ (w : OpenView). Some (view.Open w)) (purged-open t v.intents h.known me')
-    ∙ sym (projection-open t v h.known me' asks now here')))) in
-    subst (λ (held : Held). Agrees t v held) (sym makes) (record { bot = agrees.bot; view = brings })
+blind-before : (s : Record) (v : Viewer) (h : Held) → has_bit v.intents guilds ≡ false → Agrees s v h → IsBlind v.user h
+blind-before s v h lacks agrees = record { bot = agrees.bot; view = agrees.view ∙ projection-blind s v h.known lacks }
 
--- guild_open
-ascends-opened : (s : Record) (name : List ℕ) (owner : ℕ) (owner_name : List ℕ) (perms at : ℕ) → IsAscending s → IsAscending (guild_opened s name owner owner_name perms at)
-ascends-opened s name owner owner_name perms at h = record {
-  roles = (tt, tt);
-  members = (tt, tt);
-  channels = h.channels;
-  threads = h.threads;
-  voices = h.voices;
-  presences = h.presences;
-  held = All-cons (λ (m : Member). IsById own_id m.roles) (new_member owner owner_name false at) [] tt (All-nil (λ (m : Member). IsById own_id m.roles));
-  overwrites = h.overwrites;
-  joined = h.joined;
-  messages = h.messages;
-}
+-- the guild comes
+comes : (t : Record) (v : Viewer) (h : Held) (me : Member) → IsAscending t → t.outage ≡ false → h.bot ≡ v.user → (has_bit v.intents guilds ≡ false → h.view ≡ None) → served v t ≡ Some me
+    → Agrees t v (fold_from v.intents t.id h (asked v false (GuildCreate (greeting t v me))))
+comes t v h me ascends here bot none is = by_intents (has_bit v.intents guilds) refl
+  where
+    by_intents : (b : Bool) → has_bit v.intents guilds ≡ b → Agrees t v (fold_from v.intents t.id h (if b then GuildCreate (greeting t v me) ∷ [] else []))
+    by_intents true asks = greets t v me ascends (served-found v t me is) h is here asks bot
+    by_intents false lacks = blind-agrees t v h lacks (record { bot = bot; view = none lacks })
 
-not-served : (s : Record) (v : Viewer) → s.opened ≡ false → served v s ≡ None
-not-served s v shut = ap (λ b. if b && in_shard v.shard s.id then find_id member_id v.user s.members else None) shut
-
-keeps-opened : (s : Record) (v : Viewer) (h : Held) (name : List ℕ) (owner : ℕ) (owner_name : List ℕ) (perms at : ℕ) → IsWell s
-    → verdict s (edit.Guild (GuildOpen name owner owner_name perms at)) ≡ None → Agrees s v h
-    → Agrees (guild_opened s name owner owner_name perms at) v (fold_from v.intents s.id h (due s (edit.Guild (GuildOpen name owner owner_name perms at)) v))
-keeps-opened s v h name owner owner_name perms at well ok agrees =
-    let e : Edit = edit.Guild (GuildOpen name owner owner_name perms at) in
-    let t : Record = guild_opened s name owner owner_name perms at in
-    let shut : s.opened ≡ false = test-passes s.opened AlreadyOpen (first-passes (refused_if s.opened AlreadyOpen) (too_long 100 name ∷ too_long 100 owner_name ∷ []) ok) in
-    let away : served v s ≡ None = not-served s v shut in
-    let here : s.outage ≡ false = ap (λ (g : Record). g.outage) (well.consistent.empty shut) in
-    let none : h.view ≡ None = agrees.view ∙ projection-unserved s v h.known away in
-    subst (λ b. Agrees t v (fold_from v.intents s.id h (due_between t v (is_some b) (served v t) e))) (sym away)
-    (comes t v h e (ascends-opened s name owner owner_name perms at well.ascending) here agrees.bot none (served v t) refl)
-
--- guild_rename
-folded-update : (intents : ℕ) (h : Held) (guild : ℕ) (name : List ℕ) (owner : ℕ) → folded intents guild h (GuildUpdate guild name owner) ≡ record h { view = on_open (purged intents guild) (on_open (λ w. record w { name = name; owner = owner }) h.view) }
+-- the guild goes, or falls out
+folded-gone : (intents guild : ℕ) (h : Held) (unavailable : Bool) → folded intents guild h (GuildDelete guild unavailable) ≡ record { bot = h.bot; view = on_open (purged intents guild) (if_unavailable intents unavailable); known = [] }
 unfolding folded
-folded-update intents h guild name owner = ap (purge intents guild) (seen_here intents guild guild (λ w. record w { name = name; owner = owner }) h refl)
+folded-gone intents guild h unavailable = ap (λ b. purge intents guild (begun b (if_unavailable intents unavailable) [] h)) (eq-eqb guild guild refl)
 
-keeps-renamed : (s : Record) (v : Viewer) (h : Held) (name : List ℕ) → verdict s (edit.Guild (GuildRename name)) ≡ None → Agrees s v h
-    → Agrees (record s { name = name }) v (fold_from v.intents s.id h (due s (edit.Guild (GuildRename name)) v))
-keeps-renamed s v h name ok agrees = by_member (served v s) refl
+goes : (t : Record) (v : Viewer) (h : Held) → h.bot ≡ v.user → (has_bit v.intents guilds ≡ false → h.view ≡ None) → served v t ≡ None
+    → Agrees t v (fold_from v.intents t.id h (asked v false (GuildDelete t.id false)))
+goes t v h bot none is = by_intents (has_bit v.intents guilds) refl
   where
-    by_intents : (me : Member) (b : Bool) → served v s ≡ Some me → has_bit v.intents guilds ≡ b → Agrees (record s { name = name }) v (fold_from v.intents s.id h (if b then GuildUpdate s.id name s.owner ∷ [] else []))
-    by_intents me true is asks =
-        let here : s.outage ≡ false = available s (first-passes (out_of_service s) (too_long 100 name ∷ []) ok) in
-        follows s (record s { name = name }) v h me me (GuildUpdate s.id name s.owner) (λ w. record w { name = name; owner = s.owner }) refl asks is is here here (folded-update v.intents h s.id name s.owner) refl agrees
-    by_intents me false is blind = stays-blind s (record s { name = name }) v h blind agrees
+    by_intents : (b : Bool) → has_bit v.intents guilds ≡ b → Agrees t v (fold_from v.intents t.id h (if b then GuildDelete t.id false ∷ [] else []))
+    by_intents true asks = subst (λ (held : Held). Agrees t v held) (sym (folded-gone v.intents t.id h false)) (record { bot = bot; view = sym (projection-unserved t v [] is) })
+    by_intents false lacks = blind-agrees t v h lacks (record { bot = bot; view = none lacks })
 
-    by_member : (o : Option Member) → served v s ≡ o → Agrees (record s { name = name }) v (fold_from v.intents s.id h (due_between (record s { name = name }) v (is_some o) o (edit.Guild (GuildRename name))))
-    by_member None is = stays-away s (record s { name = name }) v h is is agrees
-    by_member (Some me) is = by_intents me (has_bit v.intents guilds) is refl
-
--- member_add
-ascends-added : (s : Record) (user : ℕ) (name : List ℕ) (bot : Bool) (at : ℕ) → IsAscending s → IsAscending (member_added s user name bot at)
-ascends-added s user name bot at h = record {
-  roles = h.roles;
-  members = IsById-put member_id (new_member user name bot at) s.members h.members;
-  channels = h.channels;
-  threads = h.threads;
-  voices = h.voices;
-  presences = h.presences;
-  held = all-put member_id (λ (m : Member). IsById own_id m.roles) (new_member user name bot at) s.members tt h.held;
-  overwrites = h.overwrites;
-  joined = h.joined;
-  messages = h.messages;
-}
-
-abbrev pub no_member : Option Member
-no_member = None
-
-no-either : (b : Bool) → (if b then no_member else no_member) ≡ no_member
-no-either true = refl
-no-either false = refl
-
--- members alone are shown to no viewer without GUILD_MEMBERS
-pub projection-members : (s : Record) (v : Viewer) (known : List ℕ) (ms : List Member) → has_bit v.intents guild_members ≡ false
-    → served v (record s { members = ms }) ≡ served v s → projection (record s { members = ms }) v known ≡ projection s v known
-unfolding projection
-projection-members s v known ms blind same =
-    ap (λ o. if has_bit v.intents guilds then view_as t v.intents known o else None) same
-    ∙ ap (λ o. if has_bit v.intents guilds then o else None) (by_member (served v s))
+falls-out : (t : Record) (v : Viewer) (h : Held) (me : Member) → h.bot ≡ v.user → (has_bit v.intents guilds ≡ false → h.view ≡ None) → served v t ≡ Some me → t.outage ≡ true
+    → Agrees t v (fold_from v.intents t.id h (asked v false (GuildDelete t.id true)))
+falls-out t v h me bot none is out = by_intents (has_bit v.intents guilds) refl
   where
-    t : Record
-    t = record s { members = ms }
+    by_intents : (b : Bool) → has_bit v.intents guilds ≡ b → Agrees t v (fold_from v.intents t.id h (if b then GuildDelete t.id true ∷ [] else []))
+    by_intents true asks =
+        let tells : on_open (purged v.intents t.id) (if_unavailable v.intents true) ≡ Some view.Unavailable = ap (λ b. on_open (purged v.intents t.id) (if b then Some view.Unavailable else None)) asks in
+        subst (λ (held : Held). Agrees t v held) (sym (folded-gone v.intents t.id h true)) (record { bot = bot; view = tells ∙ sym (projection-out t v [] me asks is out) })
+    by_intents false lacks = blind-agrees t v h lacks (record { bot = bot; view = none lacks })
 
-    told-same : {T : Type 0} (x y : T) → told v.intents guild_members x ≡ told v.intents guild_members y
-    told-same x y = ap (λ b. if b then Some x else None) blind ∙ sym (ap (λ b. if b then Some y else None) blind)
+-- ---- the list of an edit, for a viewer that is served before and after it
 
-    open-same : (me : Member) → open_view (record s { members = ms }) v.intents known me ≡ open_view s v.intents known me
-    open-same me =
-        let members : listed v.intents guild_members (filter (is_known known) ms) ≡ listed v.intents guild_members (filter (is_known known) s.members) = listed-same v.intents guild_members _ _ (λ asked. absurd (cc)) in
-        let count : told v.intents guild_members (length ms) ≡ told v.intents guild_members (length s.members) = told-same (length ms) (length s.members) in
-        cc
+-- what is to be shown of each edit
+abbrev Follows : Record → Viewer → Held → Edit → Type 0
+Follows s v h e = (me me' : Member) → served v s ≡ Some me → served v (applied s e) ≡ Some me' → has_bit v.intents guilds ≡ true
+    → Has s v me h → Has (applied s e) v me' (fold_from v.intents s.id h (row (note_of s (Some me) e) (applied s e) v me' e))
 
-    by_member : (o : Option Member) → view_as (record s { members = ms }) v.intents known o ≡ view_as s v.intents known o
-    by_member None = refl
-    by_member (Some me) = ap (λ (w : OpenView). Some (if s.outage then view.Unavailable else view.Open w)) (open-same me)
-
-no-member : (o : Option Member) → is_some o ≡ false → o ≡ None
-no-member None e = refl
-no-member (Some m) e = absurd (cc)
-
-keeps-added : (s : Record) (v : Viewer) (h : Held) (user : ℕ) (name : List ℕ) (bot : Bool) (at : ℕ) → IsWell s
-    → verdict s (edit.RoleMember (MemberAdd user name bot at)) ≡ None → has_bit v.intents guild_members ≡ false → Agrees s v h
-    → Agrees (member_added s user name bot at) v (fold_from v.intents s.id h (due s (edit.RoleMember (MemberAdd user name bot at)) v))
-keeps-added s v h user name bot at well ok blind agrees = by_own (user == v.user) refl
+-- where a guild is available before and after
+in_view : (s : Record) (v : Viewer) (h : Held) (e : Edit) → IsWell (applied s e) → s.outage ≡ false → (applied s e).outage ≡ false → Follows s v h e
+    → Agrees s v h → Agrees (applied s e) v (fold_from v.intents s.id h (due s e v))
+in_view s v h e well' here here' follows agrees = by_members (served v s) (served v (applied s e)) refl refl
   where
-    found-after : find_id member_id v.user (put_id member_id (new_member user name bot at) s.members) ≡ (if user == v.user then Some (new_member user name bot at) else find_id member_id v.user s.members)
-    found-after = find-put member_id (new_member user name bot at) v.user s.members
+    blind : has_bit v.intents guilds ≡ false → h.view ≡ None
+    blind lacks = agrees.view ∙ projection-blind s v h.known lacks
 
-    -- of another user nothing is told
-    told-none : (o : Option Member) → due_between (member_added s user name bot at) v (is_some o) o (edit.RoleMember (MemberAdd user name bot at)) ≡ []
-    told-none None = refl
-    told-none (Some me) = refl
+    -- the same told by the guild's id after it
+    at_id : (ds : List Dispatch) → Agrees (applied s e) v (fold_from v.intents (applied s e).id h ds) → Agrees (applied s e) v (fold_from v.intents s.id h ds)
+    at_id ds = subst (λ g. Agrees (applied s e) v (fold_from v.intents g h ds)) (id-kept s e)
 
-    by_own : (b : Bool) → (user == v.user) ≡ b → Agrees (member_added s user name bot at) v (fold_from v.intents s.id h (due s (edit.RoleMember (MemberAdd user name bot at)) v))
-    by_own true own =
-        let t : Record = member_added s user name bot at in
-        let e : Edit = edit.RoleMember (MemberAdd user name bot at) in
-        let here : s.outage ≡ false = available s (first-passes (out_of_service s) (member_add_verdict s user name ∷ []) ok) in
-        let judged : member_add_verdict s user name ≡ None = first-passes (member_add_verdict s user name) [] (rest-passes (out_of_service s) (member_add_verdict s user name ∷ []) ok) in
-        let absent : has_id member_id user s.members ≡ false = test-passes (has_id member_id user s.members) IdTaken (first-passes (refused_if (has_id member_id user s.members) IdTaken) (too_many 1000 (length s.members) ∷ too_long 100 name ∷ []) judged) in
-        let stranger : find_id member_id v.user s.members ≡ None = subst (λ u. find_id member_id u s.members ≡ None) (eqb-true user v.user own) (no-member (find_id member_id user s.members) absent) in
-        let away : served v s ≡ None = ap (λ o. if s.opened && in_shard v.shard s.id then o else None) stranger ∙ no-either (s.opened && in_shard v.shard s.id) in
-        let none : h.view ≡ None = agrees.view ∙ projection-unserved s v h.known away in
-        subst (λ b. Agrees t v (fold_from v.intents s.id h (due_between t v (is_some b) (served v t) e))) (sym away)
-        (comes t v h e (ascends-added s user name bot at well.ascending) here agrees.bot none (served v t) refl)
-    by_own false other =
-        let t : Record = member_added s user name bot at in
-        let e : Edit = edit.RoleMember (MemberAdd user name bot at) in
-        let same : served v t ≡ served v s = ap (λ o. if s.opened && in_shard v.shard s.id then o else None) (found-after ∙ ap (λ b. if b then Some (new_member user name bot at) else find_id member_id v.user s.members) other) in
-        let none : due s e v ≡ [] = ap (λ o. due_between t v (serves v s) o e) same ∙ told-none (served v s) in
-        subst (λ ds. Agrees t v (fold_from v.intents s.id h ds)) (sym none)
-        (record { bot = agrees.bot; view = agrees.view ∙ sym (projection-members s v h.known t.members blind same) })
+    by_intents : (me me' : Member) → served v s ≡ Some me → served v (applied s e) ≡ Some me' → (b : Bool) → has_bit v.intents guilds ≡ b → Agrees (applied s e) v (fold_from v.intents s.id h (row (note_of s (Some me) e) (applied s e) v me' e))
+    by_intents me me' is is' true asks =
+        let has = follows me me' is is' asks (record { bot = agrees.bot; view = agrees.view ∙ projection-open s v h.known me asks is here }) in
+        record { bot = has.bot; view = has.view ∙ sym (projection-open (applied s e) v (fold_from v.intents s.id h (row (note_of s (Some me) e) (applied s e) v me' e)).known me' asks is' here') }
+    by_intents me me' is is' false lacks =
+        at_id (row (note_of s (Some me) e) (applied s e) v me' e)
+        (blind-agrees (applied s e) v (fold_from v.intents (applied s e).id h (row (note_of s (Some me) e) (applied s e) v me' e)) lacks
+        (blind-fold v.intents (applied s e).id lacks v.user (applied s e).id h (row (note_of s (Some me) e) (applied s e) v me' e) (row-of (applied s e) v (note_of s (Some me) e) me' e) (blind-before s v h lacks agrees)))
 
-not-true : (b : Bool) → not b ≡ true → b ≡ false
-not-true true e = absurd (cc)
-not-true false e = refl
+    by_members : (o o' : Option Member) → served v s ≡ o → served v (applied s e) ≡ o' → Agrees (applied s e) v (fold_from v.intents s.id h (due_to (applied s e) v (is_some o) (note_of s o e) o' e))
+    by_members None None is is' = stays-away s (applied s e) v h is is' agrees
+    by_members None (Some me') is is' = at_id (asked v false (GuildCreate (greeting (applied s e) v me'))) (comes (applied s e) v h me' well'.ascending here' agrees.bot blind is')
+    by_members (Some me) None is is' = at_id (asked v false (GuildDelete (applied s e).id false)) (goes (applied s e) v h agrees.bot blind is')
+    by_members (Some me) (Some me') is is' = by_intents me me' is is' (has_bit v.intents guilds) refl
 
-keeps-applied : (s : Record) (e : Edit) (v : Viewer) (h : Held) → IsWell s → verdict s e ≡ None → is_built e ≡ true → is_built_viewer v ≡ true → Agrees s v h → Agrees (applied s e) v (fold_from v.intents s.id h (due s e v))
-keeps-applied s (edit.Guild (GuildOpen name owner owner_name perms at)) v h well ok built viewer agrees = keeps-opened s v h name owner owner_name perms at well ok agrees
-keeps-applied s (edit.Guild (GuildRename name)) v h well ok built viewer agrees = keeps-renamed s v h name ok agrees
-keeps-applied s (edit.RoleMember (MemberAdd user name bot at)) v h well ok built viewer agrees = keeps-added s v h user name bot at well ok (not-true (has_bit v.intents guild_members) viewer) agrees
-keeps-applied s _ v h well ok built viewer agrees = absurd (cc)
+-- ---- the edits of the guild itself
+
+-- a guild that opens has served nobody
+keeps-opened : (s : Record) (v : Viewer) (h : Held) (name : List ℕ) (owner : ℕ) (owner_name : List ℕ) (perms at : ℕ) → IsWell s
+    → IsWell (guild_opened s name owner owner_name perms at) → verdict s (edit.Guild (GuildOpen name owner owner_name perms at)) ≡ None → Agrees s v h
+    → Agrees (guild_opened s name owner owner_name perms at) v (fold_from v.intents s.id h (due s (edit.Guild (GuildOpen name owner owner_name perms at)) v))
+keeps-opened s v h name owner owner_name perms at well after ok agrees =
+    in_view s v h (edit.Guild (GuildOpen name owner owner_name perms at)) after here here (λ me me' is is' asks has. absurd (cc (shut-out, is))) agrees
+  where
+    shut : s.opened ≡ false
+    shut = not_refused s.opened AlreadyOpen (first_passes (refused_if s.opened AlreadyOpen) (too_long 100 name ∷ too_long 100 owner_name ∷ []) ok).0
+
+    here : s.outage ≡ false
+    here = ap (λ (g : Record). g.outage) (well.consistent.empty shut)
+
+    shut-out : served v s ≡ None
+    shut-out = ap (λ b. if b && in_shard v.shard s.id then find_id member_id v.user s.members else None) shut
+
+follows-renamed : (s : Record) (v : Viewer) (h : Held) (name : List ℕ) → Follows s v h (edit.Guild (GuildRename name))
+follows-renamed s v h name me me' is is' asks has =
+    let mine : me ≡ me' = cc in
+    by_guilds (record s { name = name }) v s.id h me' false (GuildUpdate s.id name s.owner) asks refl
+    (whole s (record s { name = name }) v h me me' (GuildUpdate s.id name s.owner) (λ w. record w { name = name; owner = s.owner }) same refl (told-guild v.intents s.id h name s.owner)
+    (ap (λ (m : Member). open_view (record s { name = name }) v.intents h.known m) mine) has)
+
+follows-owner : (s : Record) (v : Viewer) (h : Held) (user : ℕ) → IsWell s → Follows s v h (edit.Guild (GuildOwner user))
+follows-owner s v h user well me me' is is' asks has =
+    let t : Record = record s { owner = user } in
+    let mine : me ≡ me' = cc in
+    subst (λ (m : Member). Has (record s { owner = user }) v m (fold_from v.intents s.id h (guild_updated (record s { owner = user }) v ++ told_if v (sync (visible_to s me) (record s { owner = user }) m)))) mine
+    (by_asked_then t v s.id h me false (GuildUpdate s.id s.name user) (told_if v (sync (visible_to s me) t me))
+    (λ e. follows-rights s t v h me me well (record { id = refl; channels = λ c. refl; threads = refl }) refl asks (GuildUpdate s.id s.name user) (λ w. record w { name = s.name; owner = user }) same (told-guild v.intents s.id h s.name user) refl has)
+    (λ e. absurd (cc)))
+
+keeps-outage : (s : Record) (v : Viewer) (h : Held) → Agrees s v h → Agrees (record s { outage = true }) v (fold_from v.intents s.id h (due s (edit.Guild GuildOutage) v))
+keeps-outage s v h agrees = by_member (served v s) refl
+  where
+    by_member : (o : Option Member) → served v s ≡ o → Agrees (record s { outage = true }) v (fold_from v.intents s.id h (due_to (record s { outage = true }) v (is_some o) (note_of s o (edit.Guild GuildOutage)) o (edit.Guild GuildOutage)))
+    by_member None is = stays-away s (record s { outage = true }) v h is is agrees
+    by_member (Some me) is = falls-out (record s { outage = true }) v h me agrees.bot (λ lacks. agrees.view ∙ projection-blind s v h.known lacks) is refl
+
+keeps-back : (s : Record) (v : Viewer) (h : Held) → IsWell (record s { outage = false }) → Agrees s v h → Agrees (record s { outage = false }) v (fold_from v.intents s.id h (due s (edit.Guild GuildBack) v))
+keeps-back s v h after agrees = by_member (served v s) refl
+  where
+    by_member : (o : Option Member) → served v s ≡ o → Agrees (record s { outage = false }) v (fold_from v.intents s.id h (due_to (record s { outage = false }) v (is_some o) (note_of s o (edit.Guild GuildBack)) o (edit.Guild GuildBack)))
+    by_member None is = stays-away s (record s { outage = false }) v h is is agrees
+    by_member (Some me) is = comes (record s { outage = false }) v h me after.ascending refl agrees.bot (λ lacks. agrees.view ∙ projection-blind s v h.known lacks) is
+
+-- ---- all edits
+
+voice_presence-here : (s : Record) (e : VoicePresenceEdit) → (voice_presence_applied s e).outage ≡ s.outage
+voice_presence-here s (VoiceSet user None mute deaf) = refl
+voice_presence-here s (VoiceSet user (Some channel) mute deaf) = refl
+voice_presence-here s (PresenceSet user status) = by_activity (status_activity status)
+  where
+    by_activity : (a : Option Activity) → (with_activity s user a).outage ≡ s.outage
+    by_activity None = refl
+    by_activity (Some a) = refl
+
+voice_presence-served : (s : Record) (e : VoicePresenceEdit) (v : Viewer) → served v (voice_presence_applied s e) ≡ served v s
+voice_presence-served s (VoiceSet user None mute deaf) v = refl
+voice_presence-served s (VoiceSet user (Some channel) mute deaf) v = refl
+voice_presence-served s (PresenceSet user status) v = by_activity (status_activity status)
+  where
+    by_activity : (a : Option Activity) → served v (with_activity s user a) ≡ served v s
+    by_activity None = refl
+    by_activity (Some a) = refl
+
+role_member-here : (s : Record) (e : RoleMemberEdit) → (role_member_applied s e).outage ≡ s.outage
+role_member-here s (RoleCreate role name perms position) = refl
+role_member-here s (RoleUpdate role name perms position) = refl
+role_member-here s (RoleDelete role) = refl
+role_member-here s (MemberAdd user name bot at) = refl
+role_member-here s (MemberRemove user) = refl
+role_member-here s (MemberNick user nick) = refl
+role_member-here s (MemberTimeout user until) = refl
+role_member-here s (MemberRoleAdd user role) = refl
+role_member-here s (MemberRoleRemove user role) = refl
+
+channel-here : (s : Record) (e : ChannelEdit) → (channel_applied s e).outage ≡ s.outage
+channel-here s (ChannelCreate channel kind name parent position sync) = refl
+channel-here s (ChannelUpdate channel name parent position) = refl
+channel-here s (ChannelDelete channel) = refl
+channel-here s (OverwriteSet channel id kind allow deny) = refl
+channel-here s (OverwriteDelete channel id kind) = refl
+
+channel-served : (s : Record) (e : ChannelEdit) (v : Viewer) → served v (channel_applied s e) ≡ served v s
+channel-served s (ChannelCreate channel kind name parent position sync) v = refl
+channel-served s (ChannelUpdate channel name parent position) v = refl
+channel-served s (ChannelDelete channel) v = refl
+channel-served s (OverwriteSet channel id kind allow deny) v = refl
+channel-served s (OverwriteDelete channel id kind) v = refl
+
+thread-here : (s : Record) (e : ThreadEdit) → (thread_applied s e).outage ≡ s.outage
+thread-here s (ThreadCreate thread parent kind name owner at) = refl
+thread-here s (ThreadRename thread name) = refl
+thread-here s (ThreadArchive thread) = refl
+thread-here s (ThreadUnarchive thread) = refl
+thread-here s (ThreadDelete thread) = refl
+thread-here s (ThreadJoin thread user at) = refl
+thread-here s (ThreadLeave thread user) = refl
+
+thread-served : (s : Record) (e : ThreadEdit) (v : Viewer) → served v (thread_applied s e) ≡ served v s
+thread-served s (ThreadCreate thread parent kind name owner at) v = refl
+thread-served s (ThreadRename thread name) v = refl
+thread-served s (ThreadArchive thread) v = refl
+thread-served s (ThreadUnarchive thread) v = refl
+thread-served s (ThreadDelete thread) v = refl
+thread-served s (ThreadJoin thread user at) v = refl
+thread-served s (ThreadLeave thread user) v = refl
+
+keeps-applied : (s : Record) (e : Edit) (v : Viewer) (h : Held) → IsWell s → IsWell (applied s e) → verdict s e ≡ None → is_built e ≡ true → Agrees s v h → Agrees (applied s e) v (fold_from v.intents s.id h (due s e v))
+keeps-applied s (edit.Guild (GuildOpen name owner owner_name perms at)) v h well after ok built agrees = keeps-opened s v h name owner owner_name perms at well after ok agrees
+keeps-applied s (edit.Guild (GuildRename name)) v h well after ok built agrees =
+    let here = in_service s (first_passes (out_of_service s) (too_long 100 name ∷ []) ok).0 in
+    in_view s v h (edit.Guild (GuildRename name)) after here.1 here.1 (follows-renamed s v h name) agrees
+keeps-applied s (edit.Guild (GuildOwner user)) v h well after ok built agrees =
+    let here = in_service s (first_passes (out_of_service s) (unknown_member s user ∷ []) ok).0 in
+    in_view s v h (edit.Guild (GuildOwner user)) after here.1 here.1 (follows-owner s v h user well) agrees
+keeps-applied s (edit.Guild GuildOutage) v h well after ok built agrees = keeps-outage s v h agrees
+keeps-applied s (edit.Guild GuildBack) v h well after ok built agrees = keeps-back s v h after agrees
+keeps-applied s (edit.RoleMember e) v h well after ok built agrees =
+    let tests = first_passes (out_of_service s) (role_member_verdict s e ∷ []) ok in
+    let here = in_service s tests.0 in
+    in_view s v h (edit.RoleMember e) after here.1 (role_member-here s e ∙ here.1)
+    (λ me me' is is' asks has. follows-role_member s v h me me' e well after here.0 (first_passes (role_member_verdict s e) [] tests.1).0 (served-found v s me is) (served-found v (role_member_applied s e) me' is') asks has) agrees
+keeps-applied s (edit.Channel e) v h well after ok built agrees =
+    let tests = first_passes (out_of_service s) (channel_verdict s e ∷ []) ok in
+    let here = in_service s tests.0 in
+    in_view s v h (edit.Channel e) after here.1 (channel-here s e ∙ here.1)
+    (λ me me' is is' asks has.
+    let same_me : Some me ≡ Some me' = sym is ∙ (sym (channel-served s e v) ∙ is') in
+    let mine : me ≡ me' = cc in
+    subst (λ (m : Member). Has (channel_applied s e) v m (fold_from v.intents s.id h (channel_row (channel_note s me e) (channel_applied s e) v m e))) mine
+    (follows-channel s v h me e well after here.0 (first_passes (channel_verdict s e) [] tests.1).0 (served-found v s me is) asks has)) agrees
+keeps-applied s (edit.Thread e) v h well after ok built agrees =
+    let tests = first_passes (out_of_service s) (thread_verdict s e ∷ []) ok in
+    let here = in_service s tests.0 in
+    in_view s v h (edit.Thread e) after here.1 (thread-here s e ∙ here.1)
+    (λ me me' is is' asks has.
+    let same_me : Some me ≡ Some me' = sym is ∙ (sym (thread-served s e v) ∙ is') in
+    let mine : me ≡ me' = cc in
+    subst (λ (m : Member). Has (thread_applied s e) v m (fold_from v.intents s.id h (thread_row (thread_note s me e) (thread_applied s e) v m e))) mine
+    (follows-thread s v h me e well after here.0 (first_passes (thread_verdict s e) [] tests.1).0 (served-found v s me is) asks has)) agrees
+keeps-applied s (edit.VoicePresence e) v h well after ok built agrees =
+    let tests = first_passes (out_of_service s) (voice_presence_verdict s e ∷ []) ok in
+    let here = in_service s tests.0 in
+    in_view s v h (edit.VoicePresence e) after here.1 (voice_presence-here s e ∙ here.1)
+    (λ me me' is is' asks has.
+    let same_me : Some me ≡ Some me' = sym is ∙ (sym (voice_presence-served s e v) ∙ is') in
+    let mine : me ≡ me' = cc in
+    subst (λ (m : Member). Has (voice_presence_applied s e) v m (fold_from v.intents s.id h (voice_presence_row (voice_presence_applied s e) v e))) mine
+    (follows-voice_presence s v h me e has)) agrees
+keeps-applied s (edit.Message e) v h well after ok built agrees = absurd (cc)
 
 pub edit_keeps : EditKeeps
 unfolding owed
-edit_keeps s e v h well built viewer agrees = by_verdict (verdict s e) refl
+edit_keeps s e v h well built agrees = by_verdict (verdict s e) refl (keeps s e well)
   where
-    by_verdict : (o : Option Verdict) → verdict s e ≡ o → Agrees (after_verdict o s e) v (fold_from v.intents s.id h (if is_none o then due s e v else []))
-    by_verdict None ok = keeps-applied s e v h well ok built viewer agrees
-    by_verdict (Some x) ok = agrees
+    by_verdict : (o : Option Verdict) → verdict s e ≡ o → IsWell (after_verdict o s e) → Agrees (after_verdict o s e) v (fold_from v.intents s.id h (if is_none o then due s e v else []))
+    by_verdict None ok after = keeps-applied s e v h well after ok built agrees
+    by_verdict (Some x) ok after = agrees

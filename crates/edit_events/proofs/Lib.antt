@@ -1,3 +1,4 @@
 pub mod Greets
+pub mod Out
 pub mod Keeps
 pub mod Others

@@ -3,7 +3,6 @@ use Rattle.std.proofs.Common.{◌≡◌, ℕ, Bool, true, false, List, [], ◌�
 use Rattle.std.specs.Prelude.{◌==◌, All, option_map}
 use Rattle.std.proofs.lemmas.List.Elements.{All-nil, All-cons}
 use Rattle.collections.specs.ById.{find_id}
-use Rattle.intent_set.specs.Asks.{asks}
 use Rattle.guild_model.specs.declared.member.Member.{Member}
 use Rattle.guild_model.specs.declared.presence.Activity.{Activity}
 use Rattle.guild_model.specs.declared.user.User.{User}
@@ -12,11 +11,11 @@ use Rattle.guild_model.specs.Statuses.{status_activity}
 use Rattle.dispatch_types.specs.declared.viewer.Viewer.{Viewer}
 use Rattle.dispatch_types.specs.declared.dispatch.Dispatch.{Dispatch}
 use Rattle.dispatch_types.specs.declared.dispatch.Dispatch.TheVariants.{GuildCreate, GuildUpdate, GuildDelete}
-use Rattle.dispatch_types.specs.Kinds.{kind_of}
 use Rattle.dispatch_types.specs.Serves.{served, serves}
 use Rattle.dispatch_types.proofs.Views.{purge-stays}
 use Rattle.dispatch_types.proofs.Folds.{guild_of, folded-elsewhere, fold-elsewhere}
 use Rattle.channel_edit.specs.declared.ChannelEdit.TheVariants.{ChannelCreate, ChannelUpdate, ChannelDelete, OverwriteSet, OverwriteDelete}
+use Rattle.thread_edit.specs.declared.ThreadEdit.TheVariants.{ThreadCreate, ThreadRename, ThreadArchive, ThreadUnarchive, ThreadDelete, ThreadJoin, ThreadLeave}
 use Rattle.voice_presence.specs.declared.VoicePresenceEdit.TheVariants.{VoiceSet, PresenceSet}
 use Rattle.voice_presence.specs.Voices.{voice_was_set}
 use Rattle.voice_presence.specs.Presences.{with_activity}
@@ -28,7 +27,17 @@ use Rattle.edit_apply.specs.declared.Edit.{Edit}
 use Rattle.edit_apply.specs.declared.Edit.TheVariants as edit
 use Rattle.edit_apply.specs.Edits.{applied, accepts}
 use Rattle.edit_events.specs.Greeting.{greeting}
-use Rattle.edit_events.specs.Due.{asked, row, due_between, due, owed}
+use Rattle.event_views.proofs.Steps.{IsOf, asked-of, append-of}
+use Rattle.event_views.proofs.Rights.{sync-of}
+use Rattle.role_member_events.proofs.Of.{row-of as role_member-of}
+use Rattle.channel_events.proofs.Follows.{row-of as channel-of}
+use Rattle.thread_events.proofs.Follows.{row-of as thread-of}
+use Rattle.voice_presence_events.proofs.Follows.{row-of as voice_presence-of}
+use Rattle.edit_events.specs.declared.due.Before.{Before}
+use Rattle.edit_events.specs.declared.due.Before.TheVariants.{Nothing, Owner, RoleMember, Channel, Thread}
+use Rattle.edit_events.specs.declared.due.Was.{Was}
+use Rattle.edit_events.specs.Was.{was_of}
+use Rattle.edit_events.specs.Due.{row, due_to, due_between, due, owed}
 use Rattle.edit_events.specs.Law.{ProjectionStays, OthersStay, GreetingStays}
 use Rattle.edit_events.proofs.Greets.{greeting-id}
 
@@ -68,6 +77,13 @@ id-kept s (edit.Channel (ChannelUpdate channel name parent position)) = refl
 id-kept s (edit.Channel (ChannelDelete channel)) = refl
 id-kept s (edit.Channel (OverwriteSet channel id kind allow deny)) = refl
 id-kept s (edit.Channel (OverwriteDelete channel id kind)) = refl
+id-kept s (edit.Thread (ThreadCreate thread parent kind name owner at)) = refl
+id-kept s (edit.Thread (ThreadRename thread name)) = refl
+id-kept s (edit.Thread (ThreadArchive thread)) = refl
+id-kept s (edit.Thread (ThreadUnarchive thread)) = refl
+id-kept s (edit.Thread (ThreadDelete thread)) = refl
+id-kept s (edit.Thread (ThreadJoin thread user at)) = refl
+id-kept s (edit.Thread (ThreadLeave thread user)) = refl
 id-kept s (edit.VoicePresence (VoiceSet user channel mute deaf)) = voice-id s user channel mute deaf
 id-kept s (edit.VoicePresence (PresenceSet user status)) = presence-id s user (status_activity status)
 id-kept s (edit.Message (MessageCreate message place author body)) = written-id s (option_map member_user (find_id member_id author s.members)) message place body.mentions
@@ -78,32 +94,32 @@ id-kept s (edit.Message (ReactionRemove message user emoji)) = refl
 id-kept s (edit.Message (Typing place user at)) = refl
 
 -- each dispatch that is owed is of the guild
-abbrev pub IsOf : ℕ → Dispatch → Type 0
-IsOf guild d = guild_of d ≡ Some guild
+pub row-of : (after : Record) (v : Viewer) (note : Before) (me : Member) (e : Edit) → All (IsOf after.id) (row note after v me e)
+row-of after v note me (edit.Guild (GuildRename name)) = asked-of after.id v false (GuildUpdate after.id after.name after.owner) refl
+row-of after v (Owner was) me (edit.Guild (GuildOwner user)) = append-of after.id _ _ (asked-of after.id v false (GuildUpdate after.id after.name after.owner) refl) (sync-of was after v me)
+row-of after v note me (edit.Guild GuildOutage) = asked-of after.id v false (GuildDelete after.id true) refl
+row-of after v note me (edit.Guild GuildBack) = asked-of after.id v false (GuildCreate (greeting after v me)) (ap (λ id. Some id) (greeting-id after v me))
+row-of after v (RoleMember note) me (edit.RoleMember e) = role_member-of after v note me e
+row-of after v (Channel note) me (edit.Channel e) = channel-of after v note me e
+row-of after v (Thread note) me (edit.Thread e) = thread-of note after v me e
+row-of after v note me (edit.VoicePresence e) = voice_presence-of after v e
+row-of after v note me _ = All-nil (IsOf after.id)
 
-asked-of : (guild : ℕ) (v : Viewer) (own : Bool) (d : Dispatch) → IsOf guild d → All (IsOf guild) (asked v own d)
-asked-of guild v own d of = by_test (asks v.intents (kind_of d) own)
+due_between-of : (after : Record) (v : Viewer) (was : Was) (me : Option Member) (e : Edit) → All (IsOf after.id) (due_between after v was me e)
+due_between-of after v was me e = by_served was.served me
   where
-    by_test : (b : Bool) → All (IsOf guild) (if b then d ∷ [] else [])
-    by_test true = All-cons (IsOf guild) d [] of (All-nil (IsOf guild))
-    by_test false = All-nil (IsOf guild)
-
-row-of : (after : Record) (v : Viewer) (e : Edit) → All (IsOf after.id) (row after v e)
-row-of after v (edit.Guild (GuildRename name)) = asked-of after.id v false (GuildUpdate after.id after.name after.owner) refl
-row-of after v _ = All-nil (IsOf after.id)
-
-due_between-of : (after : Record) (v : Viewer) (before : Bool) (me : Option Member) (e : Edit) → All (IsOf after.id) (due_between after v before me e)
-due_between-of after v false None e = All-nil (IsOf after.id)
-due_between-of after v false (Some me) e = asked-of after.id v false (GuildCreate (greeting after v me)) (ap (λ id. Some id) (greeting-id after v me))
-due_between-of after v true None e = asked-of after.id v false (GuildDelete after.id false) refl
-due_between-of after v true (Some me) e = row-of after v e
+    by_served : (b : Bool) (o : Option Member) → All (IsOf after.id) (due_to after v b was.note o e)
+    by_served false None = All-nil (IsOf after.id)
+    by_served false (Some me) = asked-of after.id v false (GuildCreate (greeting after v me)) (ap (λ id. Some id) (greeting-id after v me))
+    by_served true None = asked-of after.id v false (GuildDelete after.id false) refl
+    by_served true (Some me) = row-of after v was.note me e
 
 owed-of : (s : Record) (e : Edit) (v : Viewer) → All (IsOf s.id) (owed s e v)
 unfolding owed
 owed-of s e v = by_verdict (accepts s e)
   where
     by_verdict : (b : Bool) → All (IsOf s.id) (if b then due s e v else [])
-    by_verdict true = subst (λ guild. All (IsOf guild) (due s e v)) (id-kept s e) (due_between-of (applied s e) v (serves v s) (served v (applied s e)) e)
+    by_verdict true = subst (λ guild. All (IsOf guild) (due s e v)) (id-kept s e) (due_between-of (applied s e) v (was_of s v e) (served v (applied s e)) e)
     by_verdict false = All-nil (IsOf s.id)
 
 pub others_stay : OthersStay

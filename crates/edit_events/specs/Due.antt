@@ -1,37 +1,56 @@
 -- What an accepted edit owes to a viewer (Gateway Events, Receive Events; Gateway, Gateway Intents).
-use Rattle.std.specs.Prelude.{ℕ, List, [], ◌∷◌, Bool, true, false, Option, Some, None, is_some, if◌then◌else◌}
-use Rattle.intent_set.specs.Asks.{asks}
+use Rattle.std.specs.Prelude.{ℕ, List, [], ◌∷◌, ◌++◌, Bool, true, false, Option, Some, None, is_some, if◌then◌else◌}
 use Rattle.guild_model.specs.declared.member.Member.{Member}
 use Rattle.guild_model.specs.Record.{Record}
 use Rattle.dispatch_types.specs.declared.viewer.Viewer.{Viewer}
 use Rattle.dispatch_types.specs.declared.dispatch.Dispatch.{Dispatch}
 use Rattle.dispatch_types.specs.declared.dispatch.Dispatch.TheVariants.{GuildCreate, GuildUpdate, GuildDelete}
-use Rattle.dispatch_types.specs.Kinds.{kind_of}
-use Rattle.dispatch_types.specs.Serves.{served, serves}
+use Rattle.dispatch_types.specs.Serves.{served}
+use Rattle.thread_sync.specs.Sync.{sync}
+use Rattle.event_views.specs.Asked.{asked, told_if}
+use Rattle.role_member_events.specs.Rows.{role_member_row}
+use Rattle.channel_events.specs.Rows.{channel_row}
+use Rattle.thread_events.specs.Rows.{thread_row}
+use Rattle.voice_presence_events.specs.Rows.{voice_presence_row}
 use Rattle.edit_apply.specs.declared.Edit.{Edit}
 use Rattle.edit_apply.specs.declared.Edit.TheVariants as edit
-use Rattle.edit_apply.specs.declared.GuildEdit.TheVariants.{GuildRename}
+use Rattle.edit_apply.specs.declared.guild.GuildEdit.TheVariants.{GuildRename, GuildOwner, GuildOutage, GuildBack}
 use Rattle.edit_apply.specs.Edits.{accepts, applied}
+use Rattle.edit_events.specs.declared.due.Before.{Before}
+use Rattle.edit_events.specs.declared.due.Before.TheVariants.{Owner, RoleMember, Channel, Thread}
+use Rattle.edit_events.specs.declared.due.Was.{Was}
 use Rattle.edit_events.specs.Greeting.{greeting}
+use Rattle.edit_events.specs.Was.{was_of}
 
--- a dispatch where the viewer's intents ask for it; `own`: it is about the viewer's own bot
-abbrev pub asked : Viewer → Bool → Dispatch → List Dispatch
-asked v own d = if asks v.intents (kind_of d) own then d ∷ [] else []
+-- the guild's name and owner
+abbrev pub guild_updated : Record → Viewer → List Dispatch
+guild_updated after v = asked v false (GuildUpdate after.id after.name after.owner)
 
--- the list of an edit for a viewer that is served before and after it
-abbrev pub row : Record → Viewer → Edit → List Dispatch
-row after v (edit.Guild (GuildRename name)) = asked v false (GuildUpdate after.id after.name after.owner)
-row after v _ = []
+-- the list of an edit for a viewer that is served before and after it, by what was noted before, the
+-- record after and the viewer's own member after
+abbrev pub row : Before → Record → Viewer → Member → Edit → List Dispatch
+row note after v me (edit.Guild (GuildRename name)) = guild_updated after v
+row (Owner was) after v me (edit.Guild (GuildOwner user)) = guild_updated after v ++ told_if v (sync was after me)
+row note after v me (edit.Guild GuildOutage) = asked v false (GuildDelete after.id true)
+row note after v me (edit.Guild GuildBack) = asked v false (GuildCreate (greeting after v me))
+row (RoleMember note) after v me (edit.RoleMember e) = role_member_row note after v me e
+row (Channel note) after v me (edit.Channel e) = channel_row note after v me e
+row (Thread note) after v me (edit.Thread e) = thread_row note after v me e
+row note after v me (edit.VoicePresence e) = voice_presence_row after v e
+row note after v me _ = []
 
 -- one that is served only after it is told the guild, one that is served only before it that the guild is gone
-abbrev pub due_between : Record → Viewer → Bool → Option Member → Edit → List Dispatch
-due_between after v false None e = []
-due_between after v false (Some me) e = asked v false (GuildCreate (greeting after v me))
-due_between after v true None e = asked v false (GuildDelete after.id false)
-due_between after v true (Some me) e = row after v e
+abbrev pub due_to : Record → Viewer → Bool → Before → Option Member → Edit → List Dispatch
+due_to after v false note None e = []
+due_to after v false note (Some me) e = asked v false (GuildCreate (greeting after v me))
+due_to after v true note None e = asked v false (GuildDelete after.id false)
+due_to after v true note (Some me) e = row note after v me e
+
+abbrev pub due_between : Record → Viewer → Was → Option Member → Edit → List Dispatch
+due_between after v was me e = due_to after v was.served was.note me e
 
 abbrev pub due : Record → Edit → Viewer → List Dispatch
-due s e v = due_between (applied s e) v (serves v s) (served v (applied s e)) e
+due s e v = due_between (applied s e) v (was_of s v e) (served v (applied s e)) e
 
 -- a refused edit owes nothing
 unfoldable pub owed : Record → Edit → Viewer → List Dispatch

@@ -1,7 +1,7 @@
 -- A client that was told all that it is owed holds the projection.
-use Rattle.std.specs.Prelude.{◌≡◌, ℕ, List, Bool, true, false, not, ◌&&◌, ◌==◌, Option, Some}
+use Rattle.std.specs.Prelude.{◌≡◌, ℕ, List, Bool, true, false, ◌==◌, Option, Some}
 use Rattle.perm_bits.specs.Bits.{has_bit}
-use Rattle.intent_set.specs.Intents.{guilds, guild_members}
+use Rattle.intent_set.specs.Intents.{guilds}
 use Rattle.guild_model.specs.declared.member.Member.{Member}
 use Rattle.guild_model.specs.Record.{Record}
 use Rattle.guild_model.specs.Ascending.{IsWell}
@@ -13,8 +13,6 @@ use Rattle.dispatch_types.specs.Projection.{projection}
 use Rattle.dispatch_types.specs.Fold.{Held, purge, folded, fold_from}
 use Rattle.edit_apply.specs.declared.Edit.{Edit}
 use Rattle.edit_apply.specs.declared.Edit.TheVariants as edit
-use Rattle.edit_apply.specs.declared.GuildEdit.TheVariants.{GuildOpen, GuildRename}
-use Rattle.role_member_edit.specs.declared.RoleMemberEdit.TheVariants.{MemberAdd}
 use Rattle.edit_apply.specs.Edits.{after}
 use Rattle.edit_events.specs.Greeting.{greeting}
 use Rattle.edit_events.specs.Due.{owed}
@@ -26,18 +24,16 @@ pub record Agrees (s : Record) (v : Viewer) (h : Held) : Type 0 where
 
 -- the edits whose events are built
 abbrev pub is_built : Edit → Bool
-is_built (edit.Guild (GuildOpen name owner owner_name perms at)) = true
-is_built (edit.Guild (GuildRename name)) = true
-is_built (edit.RoleMember (MemberAdd user name bot at)) = true
-is_built _ = false
-
--- of other members' coming and going nothing is sent yet
-abbrev pub is_built_viewer : Viewer → Bool
-is_built_viewer v = not (has_bit v.intents guild_members)
+is_built (edit.Guild e) = true
+is_built (edit.RoleMember e) = true
+is_built (edit.Channel e) = true
+is_built (edit.Thread e) = true
+is_built (edit.VoicePresence e) = true
+is_built (edit.Message e) = false
 
 -- after what an edit owes, the client holds the projection of the record after it
 abbrev pub EditKeeps : Type 0
-EditKeeps = (s : Record) (e : Edit) (v : Viewer) (h : Held) → IsWell s → is_built e ≡ true → is_built_viewer v ≡ true
+EditKeeps = (s : Record) (e : Edit) (v : Viewer) (h : Held) → IsWell s → is_built e ≡ true
     → Agrees s v h → Agrees (after s e) v (fold_from v.intents s.id h (owed s e v))
 
 -- a purge leaves a client that holds the projection as it is

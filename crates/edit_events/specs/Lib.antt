@@ -1,4 +1,4 @@
 pub mod Greeting
-pub mod Due
 pub mod Was
+pub mod Due
 pub mod Law

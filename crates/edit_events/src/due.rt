@@ -1,43 +1,85 @@
 //! What an accepted edit owes to a viewer (Gateway Events, Receive Events).
 
-ghost use Rattle.std.specs.Prelude.{◌≡◌, IfOk, false, [], ◌∷◌};
+ghost use Rattle.std.specs.Prelude.{◌≡◌, ◌++◌, IfOk, OnOk, Some, false, true};
 ghost use Rattle.dispatch_types.specs.Serves.{served};
+ghost use Rattle.thread_sync.specs.Sync.{sync};
+ghost use Rattle.event_views.specs.Asked.{asked, told_if};
 ghost use Rattle.edit_events.specs.Greeting.{greeting};
-ghost use Rattle.edit_events.specs.Due.{asked, row, due_between};
-ghost use Rattle.edit_events.specs.Was.{was_of};
+ghost use Rattle.edit_events.specs.Due.{guild_updated, row, due_to, due_between};
+ghost use Rattle.edit_events.specs.Was.{note_of, was_of};
 
 use crate::create::greeting;
-use dispatch_types::{Dispatch, Viewer, served, serves};
+use channel_events::ChannelNote;
+use dispatch_types::{Dispatch, Viewer, served};
 use edit_apply::{Edit, GuildEdit};
+use event_views::one;
 use guild_model::{Guild, Member};
 use intent_set::Kind;
+use role_member_events::RoleMemberNote;
 use std::alloc::{AllocError, Global};
+use thread_events::ThreadNote;
+use thread_sync::Seen;
+use thread_sync::seen::visible_to;
+use thread_sync::sync::sync;
+
+/// What is noted for a viewer that is served before an edit, by the kind of edit.
+#[derive(Drop)]
+pub enum Before {
+    /// The edit asks for nothing of the record before it.
+    Nothing,
+    /// Before another member is the owner: what the viewer saw.
+    Owner(Seen),
+    RoleMember(RoleMemberNote),
+    Channel(ChannelNote),
+    Thread(ThreadNote),
+}
 
 /// What has to be known of the record before an edit.
 #[derive(Drop)]
 pub struct Was {
     /// Whether the viewer was served.
     pub served: bool,
+    pub note: Before,
+}
+
+fn before_edit(
+    alloc: Global,
+    before: &Guild,
+    me: &Member,
+    edit: &Edit,
+) -> Result<Before, AllocError>
+    ensures { IfOk result (λ note. note ≡ note_of before.now (Some me.now) edit.now) }
+{
+    match edit {
+        Edit::Guild(GuildEdit::GuildOwner { .. }) => {
+            Ok(Before::Owner(visible_to(alloc, before, me)?))
+        }
+        Edit::RoleMember(edit) => Ok(Before::RoleMember(role_member_events::note(
+            alloc, before, me, edit,
+        )?)),
+        Edit::Channel(edit) => Ok(Before::Channel(channel_events::note(alloc, before, me, edit)?)),
+        Edit::Thread(edit) => Ok(Before::Thread(thread_events::note(before, me, edit))),
+        _ => Ok(Before::Nothing),
+    }
 }
 
 /// Keeps what [`events`] has to know of the record before an edit.
-pub fn note(_alloc: Global, before: &Guild, edit: &Edit, viewer: &Viewer) -> Result<Was, AllocError>
+pub fn note(alloc: Global, before: &Guild, edit: &Edit, viewer: &Viewer) -> Result<Was, AllocError>
     ensures { IfOk result (λ was. was ≡ was_of before.now viewer.now edit.now) }
 {
-    Ok(Was {
-        served: serves(before, viewer),
-    })
+    match served(before, viewer) {
+        Some(me) => Ok(Was {
+            served: true,
+            note: before_edit(alloc, before, me, edit)?,
+        }),
+        None => Ok(Was {
+            served: false,
+            note: Before::Nothing,
+        }),
+    }
 }
 
-fn one(alloc: Global, dispatch: Dispatch) -> Result<Vec<Dispatch>, AllocError>
-    ensures { IfOk result (λ list. list.items ≡ dispatch ∷ []) }
-{
-    let mut list = Vec::new(alloc);
-    list.push(dispatch)?;
-    Ok(list)
-}
-
-// The guild, for a viewer that was not served before.
+// The guild, for a viewer that was not served before or that comes back from an outage.
 fn created(
     alloc: Global,
     guild: &Guild,
@@ -53,9 +95,14 @@ fn created(
     one(alloc, Dispatch::GuildCreate(create))
 }
 
-// The guild's end, for a viewer that is served no longer.
-fn gone(alloc: Global, guild: &Guild, viewer: &Viewer) -> Result<Vec<Dispatch>, AllocError>
-    ensures { IfOk result (λ list. list.items ≡ asked viewer.now false (Dispatch.GuildDelete guild.now.id false)) }
+// The guild's end, for a viewer that is served no longer, or its outage.
+fn gone(
+    alloc: Global,
+    guild: &Guild,
+    viewer: &Viewer,
+    unavailable: bool,
+) -> Result<Vec<Dispatch>, AllocError>
+    ensures { IfOk result (λ list. list.items ≡ asked viewer.now false (Dispatch.GuildDelete guild.now.id unavailable)) }
 {
     if !viewer.intents.asks(Kind::GuildDelete, false) {
         return Ok(Vec::new(alloc));
@@ -64,14 +111,14 @@ fn gone(alloc: Global, guild: &Guild, viewer: &Viewer) -> Result<Vec<Dispatch>, 
         alloc,
         Dispatch::GuildDelete {
             id: guild.id,
-            unavailable: false,
+            unavailable,
         },
     )
 }
 
 // The guild's name and owner.
 fn updated(alloc: Global, guild: &Guild, viewer: &Viewer) -> Result<Vec<Dispatch>, AllocError>
-    ensures { IfOk result (λ list. list.items ≡ asked viewer.now false (Dispatch.GuildUpdate guild.now.id guild.now.name guild.now.owner)) }
+    ensures { IfOk result (λ list. list.items ≡ guild_updated guild.now viewer.now) }
 {
     if !viewer.intents.asks(Kind::GuildUpdate, false) {
         return Ok(Vec::new(alloc));
@@ -84,17 +131,53 @@ fn updated(alloc: Global, guild: &Guild, viewer: &Viewer) -> Result<Vec<Dispatch
     one(alloc, update)
 }
 
+// The guild's name and owner, and then what the viewer gained.
+fn owner_updated(
+    alloc: Global,
+    was: &Seen,
+    after: &Guild,
+    viewer: &Viewer,
+    me: &Member,
+) -> Result<Vec<Dispatch>, AllocError>
+    ensures { IfOk result (λ list. list.items ≡ guild_updated after.now viewer.now ++ told_if viewer.now (sync was.now after.now me.now)) }
+{
+    let mut list = updated(alloc, after, viewer)?;
+    if viewer.intents.asks(Kind::ThreadListSync, false) {
+        if let Some(gains) = sync(alloc, was, after, me)? {
+            list.push(gains)?;
+        }
+    }
+    Ok(list)
+}
+
 // The list of an edit for a viewer that is served before and after it.
 fn row(
     alloc: Global,
+    note: &Before,
     after: &Guild,
     viewer: &Viewer,
+    me: &Member,
     edit: &Edit,
 ) -> Result<Vec<Dispatch>, AllocError>
-    ensures { IfOk result (λ list. list.items ≡ row after.now viewer.now edit.now) }
+    ensures { IfOk result (λ list. list.items ≡ row note.now after.now viewer.now me.now edit.now) }
 {
-    match edit {
-        Edit::Guild(GuildEdit::GuildRename { .. }) => updated(alloc, after, viewer),
+    match (note, edit) {
+        (_, Edit::Guild(GuildEdit::GuildRename { .. })) => updated(alloc, after, viewer),
+        (Before::Owner(was), Edit::Guild(GuildEdit::GuildOwner { .. })) => {
+            owner_updated(alloc, was, after, viewer, me)
+        }
+        (_, Edit::Guild(GuildEdit::GuildOutage)) => gone(alloc, after, viewer, true),
+        (_, Edit::Guild(GuildEdit::GuildBack)) => created(alloc, after, viewer, me),
+        (Before::RoleMember(note), Edit::RoleMember(edit)) => {
+            role_member_events::row(alloc, note, after, viewer, me, edit)
+        }
+        (Before::Channel(note), Edit::Channel(edit)) => {
+            channel_events::row(alloc, note, after, viewer, me, edit)
+        }
+        (Before::Thread(note), Edit::Thread(edit)) => {
+            thread_events::row(alloc, note, after, viewer, me, edit)
+        }
+        (_, Edit::VoicePresence(edit)) => voice_presence_events::row(alloc, after, viewer, edit),
         _ => Ok(Vec::new(alloc)),
     }
 }
@@ -110,12 +193,12 @@ pub fn events(
     was: &Was,
     viewer: &Viewer,
 ) -> Result<Vec<Dispatch>, AllocError>
-    ensures { IfOk result (λ list. list.items ≡ due_between after.now viewer.now was.now.served (served viewer.now after.now) edit.now) }
+    ensures { IfOk result (λ list. list.items ≡ due_between after.now viewer.now was.now (served viewer.now after.now) edit.now) }
 {
     match (was.served, served(after, viewer)) {
         (false, None) => Ok(Vec::new(alloc)),
         (false, Some(me)) => created(alloc, after, viewer, me),
-        (true, None) => gone(alloc, after, viewer),
-        (true, Some(_)) => row(alloc, after, viewer, edit),
+        (true, None) => gone(alloc, after, viewer, false),
+        (true, Some(me)) => row(alloc, &was.note, after, viewer, me, edit),
     }
 }

@@ -6,7 +6,7 @@ pub mod due;
 pub mod law;
 
 pub use create::greeting;
-pub use due::{Was, events, note};
+pub use due::{Before, Was, events, note};
 
 #[cfg(test)]
 mod tests;

@@ -1,0 +1,182 @@
+-- A client that is told what an edit of channels owes holds the view of the record after it.
+use Rattle.std.proofs.Common.{◌≡◌, ℕ, Bool, true, false, not, ◌||◌, List, [], ◌∷◌, Option, Some, None, if◌then◌else◌, refl, sym, ap, subst, ◌∙◌, length, eq-eqb}
+use Rattle.std.specs.Prelude.{◌==◌, ◌++◌, flat_map, is_some, option_map, All}
+use Rattle.std.proofs.lemmas.List.Elements.{All-nil}
+use Rattle.collections.specs.ById.{find_id, has_id, put_id, changed_id}
+use Rattle.collections.proofs.Finds.{key-found, find-put, find-changed}
+use Rattle.collections.proofs.Has.{All-found}
+use Rattle.collections.proofs.Filters.{changed-put}
+use Rattle.perm_bits.specs.Bits.{has_bit}
+use Rattle.intent_set.specs.Intents.{guilds}
+use Rattle.guild_model.specs.declared.member.Member.{Member}
+use Rattle.guild_model.specs.declared.channel.Channel.{Channel}
+use Rattle.guild_model.specs.declared.channel.ChannelKind.{ChannelKind}
+use Rattle.guild_model.specs.declared.verdict.Verdict.{Verdict}
+use Rattle.guild_model.specs.declared.verdict.Verdict.TheVariants.{IdTaken, UnknownChannel}
+use Rattle.guild_model.specs.Record.{Record, channel_id, thread_id}
+use Rattle.guild_model.specs.Consistent.{is_place}
+use Rattle.guild_model.specs.Ascending.{IsWell, HasOrderedOverwrites}
+use Rattle.guild_model.specs.Tests.{refused_if, first_of, too_long, too_many, unknown_channel}
+use Rattle.guild_model.proofs.Tests.{first_passes, not_refused}
+use Rattle.channel_edit.specs.declared.ChannelEdit.{ChannelEdit}
+use Rattle.channel_edit.specs.declared.ChannelEdit.TheVariants as edit
+use Rattle.channel_edit.specs.Channels.{unknown_parent, wrong_parent, wrong_parent_of, new_channel, channel_create_verdict, channel_created, with_settings, with_channel_changed}
+use Rattle.channel_edit.specs.ChannelEnd.{channel_deleted, channel_delete_verdict}
+use Rattle.channel_edit.specs.OverwriteEdits.{unknown_target, without_room, with_overwrite, unknown_overwrite, without_overwrite}
+use Rattle.dispatch_types.specs.declared.viewer.Viewer.{Viewer}
+use Rattle.dispatch_types.specs.declared.dispatch.Dispatch.{Dispatch}
+use Rattle.dispatch_types.specs.declared.dispatch.Dispatch.TheVariants.{ChannelCreate, ChannelUpdate, ChannelDelete, VoiceStateUpdate}
+use Rattle.dispatch_types.specs.declared.channels.ChannelObject.{ChannelObject}
+use Rattle.dispatch_types.specs.Objects.{channel_object}
+use Rattle.dispatch_types.specs.Fold.{Held, set_channel, fold_from}
+use Rattle.thread_sync.specs.Seen.{visible_to}
+use Rattle.thread_sync.specs.Sync.{sync}
+use Rattle.thread_sync.specs.Law.{kind_in, ChangesRights}
+use Rattle.thread_sync.proofs.Sights.{channel-created-keeps, channel-changed-keeps}
+use Rattle.event_views.specs.Has.{Has}
+use Rattle.event_views.specs.Asked.{told_if}
+use Rattle.event_views.proofs.Rights.{follows-rights, sync-of}
+use Rattle.event_views.proofs.Steps.{IsOf, asked-of, append-of}
+use Rattle.event_views.proofs.Told.{same, told-channel_update}
+use Rattle.event_views.specs.Ended.{voice_end}
+use Rattle.channel_events.specs.declared.ends.ChannelEnd.{ChannelEnd}
+use Rattle.channel_events.specs.declared.ends.ChannelNote.{ChannelNote}
+use Rattle.channel_events.specs.Ends.{channel_end, end_of}
+use Rattle.channel_events.specs.Law.{ChannelEditKeeps}
+use Rattle.channel_events.specs.Rows.{told_of, created, updated, left, gone, deleted, rights_changed, channel_row}
+use Rattle.channel_events.proofs.Puts.{puts-channel, follows-channel_put, follows-channel_changed}
+use Rattle.channel_events.proofs.Gone.{follows-gone}
+
+-- what the tests of an edit let through
+place_free : (s : Record) (channel : ℕ) (kind : ChannelKind) (name : List ℕ) (parent : Option ℕ) → channel_create_verdict s channel kind name parent ≡ None → has_id channel_id channel s.channels ≡ false
+place_free s channel kind name parent e =
+    no_channel (has_id channel_id channel s.channels)
+    (not_refused (is_place s channel) IdTaken
+    (first_passes (refused_if (is_place s channel) IdTaken) (unknown_parent s parent ∷ wrong_parent s kind parent ∷ too_many 500 (length s.channels) ∷ too_long 100 name ∷ []) e).0)
+  where
+    no_channel : (b : Bool) → (b || has_id thread_id channel s.threads) ≡ false → b ≡ false
+    no_channel true e = absurd (cc)
+    no_channel false e = refl
+
+there : (s : Record) (channel : ℕ) → unknown_channel s channel ≡ None → (c : Channel) × (find_id channel_id channel s.channels ≡ Some c)
+there s channel e = by_case (find_id channel_id channel s.channels) refl (not_refused (not (has_id channel_id channel s.channels)) UnknownChannel e)
+  where
+    by_case : (o : Option Channel) → find_id channel_id channel s.channels ≡ o → not (is_some o) ≡ false → (c : Channel) × (find_id channel_id channel s.channels ≡ Some c)
+    by_case None is e = absurd (cc)
+    by_case (Some c) is e = (c, is)
+
+-- the channel that is put is found
+found-put : (c : Channel) (cs : List Channel) → find_id channel_id c.id (put_id channel_id c cs) ≡ Some c
+found-put c cs = find-put channel_id c c.id cs ∙ ap (λ here. if here then Some c else find_id channel_id c.id cs) (eq-eqb c.id c.id refl)
+
+-- one that changes is found changed
+found-changed : (channel : ℕ) (f : Channel → Channel) (c : Channel) (cs : List Channel) → ((c : Channel) → (f c).id ≡ c.id) → find_id channel_id channel cs ≡ Some c → find_id channel_id channel (changed_id channel_id channel f cs) ≡ Some (f c)
+found-changed channel f c cs same found =
+    find-changed channel_id channel f same channel cs
+    ∙ (ap (λ here. if here then option_map f (find_id channel_id channel cs) else find_id channel_id channel cs) (eq-eqb channel channel refl) ∙ ap (option_map f) found)
+
+-- of a channel that is there and keeps its id
+module _ (s : Record) (v : Viewer) (h : Held) (me : Member) (well : IsWell s) (asks : has_bit v.intents guilds ≡ true) where
+  pub follows-created : (channel : ℕ) (kind : ChannelKind) (name : List ℕ) (parent : Option ℕ) (position : ℕ) (sync : Bool)
+      → IsWell (channel_created s channel kind name parent position sync) → channel_create_verdict s channel kind name parent ≡ None
+      → Has s v me h → Has (channel_created s channel kind name parent position sync) v me (fold_from v.intents s.id h (created (channel_created s channel kind name parent position sync) v channel))
+  follows-created channel kind name parent position sync after ok has =
+      let c : Channel = new_channel s channel kind name parent position sync in
+      let t : Record = channel_created s channel kind name parent position sync in
+      let found : find_id channel_id channel t.channels ≡ Some c = found-put c s.channels in
+      let ordered : HasOrderedOverwrites c = All-found channel_id HasOrderedOverwrites channel t.channels c after.ascending.overwrites found in
+      subst (λ o. Has t v me (fold_from v.intents s.id h (told_of t v ChannelCreate o))) (sym found)
+      (follows-channel_put s v h me c t.channels refl ordered well.ascending.threads (channel-created-keeps s me c well.consistent (place_free s channel kind name parent ok)) asks has)
+
+  module _ (channel : ℕ) (f : Channel → Channel) (c : Channel) (same_id : (c : Channel) → (f c).id ≡ c.id) (known : find_id channel_id channel s.channels ≡ Some c) (after : IsWell (with_channel_changed s channel f)) where
+    abbrev pub t : Record
+    t = with_channel_changed s channel f
+
+    found : find_id channel_id channel t.channels ≡ Some (f c)
+    found = found-changed channel f c s.channels same_id known
+
+    put : t.channels ≡ put_id channel_id (f c) s.channels
+    put = changed-put channel_id channel f c s.channels well.ascending.channels same_id known
+
+    ordered : HasOrderedOverwrites (f c)
+    ordered = All-found channel_id HasOrderedOverwrites channel t.channels (f c) after.ascending.overwrites found
+
+    -- with its overwrites as they were
+    pub follows-changed : ((c : Channel) → (f c).overwrites ≡ c.overwrites) → Has s v me h → Has t v me (fold_from v.intents s.id h (updated t v channel))
+    follows-changed overwrites has =
+        subst (λ o. Has t v me (fold_from v.intents s.id h (told_of t v ChannelUpdate o))) (sym found)
+        (follows-channel_changed s v h me (f c) t.channels put ordered well.ascending.threads (channel-changed-keeps s me f channel same_id overwrites) asks has)
+
+    -- with other overwrites: the sync brings the threads that the update does not
+    pub follows-overwrites : ((c : Channel) → (f c).kind ≡ c.kind) → Has s v me h → Has t v me (fold_from v.intents s.id h (rights_changed t v (visible_to s me) me channel))
+    follows-overwrites kinds has =
+        subst (λ (ds : List Dispatch). Has t v me (fold_from v.intents s.id h (ds ++ told_if v (sync (visible_to s me) t me)))) (sym update)
+        (follows-rights s t v h me me well rights refl asks (ChannelUpdate o) (set_channel o) same (told-channel_update v.intents s.id h o refl) (puts-channel s v h me (f c) t.channels put ordered h.known) has)
+      where
+        o : ChannelObject
+        o = channel_object s.id (f c)
+
+        update : updated t v channel ≡ ChannelUpdate o ∷ []
+        update = ap (told_of t v ChannelUpdate) found ∙ ap (λ b. if b then ChannelUpdate o ∷ [] else []) asks
+
+        rights : ChangesRights s t
+        rights = record { id = refl; channels = λ id. ap (option_map kind_in) (find-changed channel_id channel f same_id id s.channels) ∙ by_case (channel == id) (find_id channel_id id s.channels); threads = refl }
+          where
+            by_case : (here : Bool) (x : Option Channel) → option_map kind_in (if here then option_map f x else x) ≡ option_map kind_in x
+            by_case true None = refl
+            by_case true (Some x) = ap (λ (k : ChannelKind). Some k) (kinds x)
+            by_case false x = refl
+
+  pub follows-deleted : (channel : ℕ) → channel_delete_verdict s channel ≡ None
+      → Has s v me h → Has (channel_deleted s channel) v me (fold_from v.intents s.id h (deleted (channel_deleted s channel) v (channel_end s channel)))
+  follows-deleted channel ok has =
+      let known = there s channel ok in
+      subst (λ o. Has (channel_deleted s channel) v me (fold_from v.intents s.id h (deleted (channel_deleted s channel) v (option_map (end_of s) o)))) (sym known.1)
+      (subst (λ id. Has (channel_deleted s id) v me (fold_from v.intents s.id h (deleted (channel_deleted s id) v (Some (end_of s known.0))))) (key-found channel_id channel s.channels known.0 known.1)
+      (follows-gone s v h me known.0 well.ascending asks has))
+
+-- the first test of each is that the channel is there
+known-first : (s : Record) (channel : ℕ) (tests : List (Option Verdict)) → first_of (unknown_channel s channel ∷ tests) ≡ None → (c : Channel) × (find_id channel_id channel s.channels ≡ Some c)
+known-first s channel tests ok = there s channel (first_passes (unknown_channel s channel) tests ok).0
+
+pub follows-channel : ChannelEditKeeps
+follows-channel s v h me (edit.ChannelCreate channel kind name parent position sync) well after is_open ok own asks has =
+    follows-created s v h me well asks channel kind name parent position sync after ok has
+follows-channel s v h me (edit.ChannelUpdate channel name parent position) well after is_open ok own asks has =
+    let known = known-first s channel (unknown_parent s parent ∷ wrong_parent_of s (find_id channel_id channel s.channels) parent ∷ too_long 100 name ∷ []) ok in
+    follows-changed s v h me well asks channel (with_settings name parent position) known.0 (λ c. refl) known.1 after (λ c. refl) has
+follows-channel s v h me (edit.ChannelDelete channel) well after is_open ok own asks has = follows-deleted s v h me well asks channel ok has
+follows-channel s v h me (edit.OverwriteSet channel id kind allow deny) well after is_open ok own asks has =
+    let known = known-first s channel (unknown_target s id kind ∷ without_room (find_id channel_id channel s.channels) id kind ∷ []) ok in
+    follows-overwrites s v h me well asks channel (with_overwrite kind (record { id = id; allow = allow; deny = deny })) known.0 (λ c. refl) known.1 after (λ c. refl) has
+follows-channel s v h me (edit.OverwriteDelete channel id kind) well after is_open ok own asks has =
+    let known = known-first s channel (unknown_overwrite (find_id channel_id channel s.channels) id kind ∷ []) ok in
+    follows-overwrites s v h me well asks channel (without_overwrite kind id) known.0 (λ c. refl) known.1 after (λ c. refl) has
+
+-- ---- each dispatch is of the guild
+
+module _ (s : Record) (v : Viewer) where
+  told-of : (dispatch : ChannelObject → Dispatch) → ((c : Channel) → IsOf s.id (dispatch (channel_object s.id c))) → (o : Option Channel) → All (IsOf s.id) (told_of s v dispatch o)
+  told-of dispatch of None = All-nil (IsOf s.id)
+  told-of dispatch of (Some c) = asked-of s.id v false (dispatch (channel_object s.id c)) (of c)
+
+  updated-of : (channel : ℕ) → All (IsOf s.id) (updated s v channel)
+  updated-of channel = told-of ChannelUpdate (λ c. refl) (find_id channel_id channel s.channels)
+
+  each-of : {T : Type 0} (f : T → List Dispatch) → ((x : T) → All (IsOf s.id) (f x)) → (xs : List T) → All (IsOf s.id) (flat_map f xs)
+  each-of f of [] = All-nil (IsOf s.id)
+  each-of f of (x ∷ xs) = append-of s.id (f x) (flat_map f xs) (of x) (each-of f of xs)
+
+  deleted-of : (o : Option ChannelEnd) → All (IsOf s.id) (deleted s v o)
+  deleted-of None = All-nil (IsOf s.id)
+  deleted-of (Some end) =
+      append-of s.id (flat_map (left s v) end.voices) (flat_map (updated s v) end.children ++ gone s v end.channel)
+      (each-of (left s v) (λ x. asked-of s.id v false (VoiceStateUpdate s.id (voice_end x)) refl) end.voices)
+      (append-of s.id (flat_map (updated s v) end.children) (gone s v end.channel) (each-of (updated s v) updated-of end.children) (asked-of s.id v false (ChannelDelete (channel_object s.id end.channel)) refl))
+
+  pub row-of : (note : ChannelNote) (me : Member) (e : ChannelEdit) → All (IsOf s.id) (channel_row note s v me e)
+  row-of note me (edit.ChannelCreate channel kind name parent position sync) = told-of ChannelCreate (λ c. refl) (find_id channel_id channel s.channels)
+  row-of note me (edit.ChannelUpdate channel name parent position) = updated-of channel
+  row-of note me (edit.ChannelDelete channel) = deleted-of note.end
+  row-of note me (edit.OverwriteSet channel id kind allow deny) = append-of s.id (updated s v channel) (told_if v (sync note.seen s me)) (updated-of channel) (sync-of note.seen s v me)
+  row-of note me (edit.OverwriteDelete channel id kind) = append-of s.id (updated s v channel) (told_if v (sync note.seen s me)) (updated-of channel) (sync-of note.seen s v me)

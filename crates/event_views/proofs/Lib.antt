@@ -1,0 +1,10 @@
+pub mod Steps
+pub mod Told
+pub mod Lists
+pub mod Rights
+pub mod Voices
+pub mod Shown
+pub mod Threads
+pub mod Unarchived
+pub mod Left
+pub mod Blind

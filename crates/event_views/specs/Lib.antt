@@ -1,0 +1,4 @@
+pub mod Asked
+pub mod Has
+pub mod Ended
+pub mod Threads

@@ -1,0 +1,5 @@
+pub mod Membership
+pub mod Rights
+pub mod Gone
+pub mod Follows
+pub mod Of

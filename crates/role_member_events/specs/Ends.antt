@@ -1,0 +1,39 @@
+-- What has to be known of the record before an edit of roles or members.
+use Rattle.std.specs.Prelude.{ℕ, Option, Some, None}
+use Rattle.collections.specs.ById.{find_id, has_id}
+use Rattle.guild_model.specs.declared.member.Member.{Member}
+use Rattle.guild_model.specs.Record.{Record, member_id, voice_id, presence_id}
+use Rattle.thread_sync.specs.declared.seen.Seen.{Seen}
+use Rattle.thread_sync.specs.Seen.{visible_to}
+use Rattle.event_views.specs.Threads.{threads_left}
+use Rattle.role_member_edit.specs.declared.RoleMemberEdit.{RoleMemberEdit}
+use Rattle.role_member_edit.specs.declared.RoleMemberEdit.TheVariants.{RoleCreate, RoleUpdate, RoleDelete, MemberAdd, MemberRemove, MemberNick, MemberTimeout, MemberRoleAdd, MemberRoleRemove}
+use Rattle.role_member_events.specs.declared.ends.MemberEnd.{MemberEnd}
+use Rattle.role_member_events.specs.declared.ends.RoleMemberNote.{RoleMemberNote}
+
+abbrev pub end_of : Record → Member → Option Member → Option MemberEnd
+end_of s me None = None
+end_of s me (Some m) = Some (record {
+  user = m.user;
+  presence = has_id presence_id m.user.id s.presences;
+  voice = find_id voice_id m.user.id s.voices;
+  threads = threads_left s me m.user.id;
+})
+
+-- what the viewer sees, where a change of rights may change it
+abbrev pub before_rights : Record → Member → RoleMemberNote
+before_rights s me = record { seen = Some (visible_to s me); end = None }
+
+abbrev pub before_nothing : RoleMemberNote
+before_nothing = record { seen = None; end = None }
+
+abbrev pub role_member_note : Record → Member → RoleMemberEdit → RoleMemberNote
+role_member_note s me (RoleUpdate role name perms position) = before_rights s me
+role_member_note s me (RoleDelete role) = before_rights s me
+role_member_note s me (MemberRoleAdd user role) = before_rights s me
+role_member_note s me (MemberRoleRemove user role) = before_rights s me
+role_member_note s me (MemberRemove user) = record { seen = None; end = end_of s me (find_id member_id user s.members) }
+role_member_note s me (RoleCreate role name perms position) = before_nothing
+role_member_note s me (MemberAdd user name bot at) = before_nothing
+role_member_note s me (MemberNick user nick) = before_nothing
+role_member_note s me (MemberTimeout user until) = before_nothing

@@ -1,0 +1,113 @@
+//! What has to be known of the record before an edit of roles or members.
+
+ghost use Rattle.std.specs.Prelude.{◌≡◌, IfOk};
+ghost use Rattle.collections.specs.ById.{find_id};
+ghost use Rattle.guild_model.specs.Record.{member_id};
+ghost use Rattle.event_views.specs.Threads.{threads_left};
+ghost use Rattle.role_member_events.specs.Ends.{end_of, before_rights, role_member_note};
+
+use collections::{Duplicate, Seq};
+use guild_model::{Guild, Member, User, Voice};
+use overwrite_eval::StandingRef;
+use role_member_edit::RoleMemberEdit;
+use snowflake_id::Snowflake;
+use std::alloc::{AllocError, Global};
+use thread_sync::Seen;
+use thread_sync::seen::visible_to;
+
+/// A member that goes.
+#[derive(Drop)]
+pub struct MemberEnd {
+    pub user: User,
+    /// Whether it had a presence.
+    pub presence: bool,
+    /// Its voice state, if it was in voice.
+    pub voice: Option<Voice>,
+    /// The active threads that it was in and that the viewer saw, ascending.
+    pub threads: Seq<Snowflake>,
+}
+
+/// What is noted before an edit.
+#[derive(Drop)]
+pub struct RoleMemberNote {
+    /// What the viewer saw, where the edit may change it.
+    pub seen: Option<Seen>,
+    /// The member that goes, if one does.
+    pub end: Option<MemberEnd>,
+}
+
+fn threads_left(
+    alloc: Global,
+    before: &Guild,
+    me: &Member,
+    user: Snowflake,
+) -> Result<Vec<Snowflake>, AllocError>
+    ensures { IfOk result (λ ids. ids.items ≡ threads_left before.now me.now user) }
+{
+    let standing = StandingRef::in_guild(before, me);
+    let threads = before.threads.as_slice();
+    threads
+        .iter()
+        .filter(|thread| !thread.archived && standing.sees_thread(thread))
+        .filter(|thread| thread.members.contains(user.0))
+        .map(|thread| thread.id)
+        .collect(alloc)
+}
+
+fn end_of(
+    alloc: Global,
+    before: &Guild,
+    me: &Member,
+    user: Snowflake,
+) -> Result<Option<MemberEnd>, AllocError>
+    ensures { IfOk result (λ end. end ≡ end_of before.now me.now (find_id member_id user before.now.members)) }
+{
+    let Some(member) = before.member(user) else {
+        return Ok(None);
+    };
+    let user = member.user.id;
+    Ok(Some(MemberEnd {
+        user: member.user.duplicate(alloc)?,
+        presence: before.presences.contains(user.0),
+        voice: before.voices.get(user.0).copied(),
+        threads: Seq::from_vec(threads_left(alloc, before, me, user)?),
+    }))
+}
+
+fn before_rights(alloc: Global, before: &Guild, me: &Member) -> Result<RoleMemberNote, AllocError>
+    ensures { IfOk result (λ note. note ≡ before_rights before.now me.now) }
+{
+    Ok(RoleMemberNote {
+        seen: Some(visible_to(alloc, before, me)?),
+        end: None,
+    })
+}
+
+/// Keeps what [`row`](crate::row) has to know of the record before an edit, where the viewer's own
+/// member is `me`.
+pub fn note(
+    alloc: Global,
+    before: &Guild,
+    me: &Member,
+    edit: &RoleMemberEdit,
+) -> Result<RoleMemberNote, AllocError>
+    ensures { IfOk result (λ note. note ≡ role_member_note before.now me.now edit.now) }
+{
+    match edit {
+        RoleMemberEdit::RoleUpdate { .. } => before_rights(alloc, before, me),
+        RoleMemberEdit::RoleDelete { .. } => before_rights(alloc, before, me),
+        RoleMemberEdit::MemberRoleAdd { .. } => before_rights(alloc, before, me),
+        RoleMemberEdit::MemberRoleRemove { .. } => before_rights(alloc, before, me),
+        RoleMemberEdit::MemberRemove { user } => Ok(RoleMemberNote {
+            seen: None,
+            end: end_of(alloc, before, me, *user)?,
+        }),
+        RoleMemberEdit::RoleCreate { .. }
+        | RoleMemberEdit::MemberAdd { .. }
+        | RoleMemberEdit::MemberNick { .. }
+        | RoleMemberEdit::MemberTimeout { .. } => Ok(RoleMemberNote {
+            seen: None,
+            end: None,
+        }),
+    }
+}
