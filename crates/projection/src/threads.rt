@@ -1,0 +1,78 @@
+ghost use Rattle.std.specs.Prelude.{◌≡◌, map, min, length, IfOk};
+ghost use Rattle.intent_set.specs.Intents.{guild_members};
+ghost use Rattle.dispatch_types.specs.Projection.{told, thread_view, seen_threads};
+
+use collections::ById;
+use dispatch_types::{ThreadCount, ThreadView};
+use guild_model::{Guild, Member, Thread, ThreadMember};
+use intent_set::Intents;
+use overwrite_eval::StandingRef;
+use snowflake_id::Snowflake;
+use std::alloc::{AllocError, Global};
+
+// How many users are in a thread, cut at 50, where GUILD_MEMBERS tells.
+fn count(intents: Intents, thread: &Thread) -> Option<u32>
+    ensures { result ≡ told intents guild_members (min 50 (length thread.now.members)) }
+{
+    if intents.has(Intents::GUILD_MEMBERS) {
+        Some(ThreadCount::of(thread.members.len()).get())
+    } else {
+        None
+    }
+}
+
+fn thread_view(
+    alloc: Global,
+    intents: Intents,
+    user: Snowflake,
+    thread: &Thread,
+) -> Result<ThreadView, AllocError>
+    ensures { IfOk result (λ view. view ≡ thread_view intents user thread.now) }
+{
+    Ok(ThreadView {
+        id: thread.id,
+        kind: thread.kind,
+        name: thread.name.copy(alloc)?,
+        owner: thread.owner,
+        parent: thread.parent,
+        mine: thread.members.get(user.0).copied(),
+        count: count(intents, thread),
+    })
+}
+
+// The views of the active threads that a member sees.
+fn views(
+    alloc: Global,
+    guild: &Guild,
+    intents: Intents,
+    me: &Member,
+) -> Result<Vec<ThreadView>, AllocError>
+    ensures { IfOk result (λ views. views.items
+        ≡ map (thread_view intents me.now.user.id) (seen_threads guild.now me.now)) }
+{
+    let standing = StandingRef::in_guild(guild, me);
+    let threads = guild.threads.as_slice();
+    let mut views = Vec::new(alloc);
+    for thread in threads {
+        if !thread.archived && standing.sees_thread(thread) {
+            views.push(thread_view(alloc, intents, me.user.id, thread)?)?;
+        }
+    }
+    Ok(views)
+}
+
+// The active threads that a member sees, as it holds them.
+pub(crate) fn threads(
+    alloc: Global,
+    guild: &Guild,
+    intents: Intents,
+    me: &Member,
+) -> Result<ById<ThreadView>, AllocError>
+    ensures { IfOk result (λ threads. threads
+        ≡ map (thread_view intents me.now.user.id) (seen_threads guild.now me.now)) }
+{
+    // The threads ascend, so do those that are seen.
+    let _threads = guild.threads.as_slice();
+    let views = views(alloc, guild, intents, me)?;
+    Ok(ById::from_ascending(views))
+}
