@@ -5,6 +5,8 @@ use std::alloc::{AllocError, Global};
 use std::process::Abort;
 use std::test::Fail;
 
+mod permissions;
+
 const HEADS: &str = r#"{"step":"bot","token":"t1","user":"9","name":"bee","privileged":33026}
 {"step":"guild","id":"1"}
 {"step":"edit","guild":"1","do":"guild_open","name":"den","owner":"5","owner_name":"ann","perms":"1024","at":0}

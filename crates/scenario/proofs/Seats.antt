@@ -11,9 +11,10 @@ use Rattle.dispatch_types.specs.Fold.{contains}
 use Rattle.edit_apply.specs.declared.Edit.{Edit}
 use Rattle.dispatch_types.specs.declared.viewer.Viewer.{Viewer}
 use Rattle.session_core.specs.declared.bot.Bot.{Bot}
-use Rattle.session_core.specs.State.{State, opened, has_link, with_link}
+use Rattle.session_core.specs.State.{State, Session, Detached, opened, has_link, with_link, gone}
+use Rattle.session_core.specs.Ends.{is_final, silent_of, lost, all_gone, left, client_closed}
 use Rattle.session_core.specs.Frames.{Move, Nothing, Answers, Shuts, Begins, moved as after_move, move_of}
-use Rattle.worker_core.specs.World.{Worker, Input, Look, Open, Frame, taken, outputs, Output, looked, entered, Sent, begins_with}
+use Rattle.worker_core.specs.World.{Worker, Input, Look, Open, Frame, Lost, Closed, Tick, cursors, ended_at, taken, outputs, Output, looked, entered, Sent, begins_with}
 use Rattle.worker_core.specs.Spent.{spends}
 use Rattle.worker_core.specs.Outputs.{all_written}
 use Rattle.worker_core.specs.Telling.{FaultBy}
@@ -24,7 +25,7 @@ use Rattle.worker_core.proofs.Worlds.{looked_seen}
 use Rattle.scenario.specs.declared.seat.Cursor.{Cursor}
 use Rattle.scenario.specs.declared.seat.Seat.{Seat}
 use Rattle.scenario.specs.Player.{for_worker, given_sends, given_spends}
-use Rattle.scenario.specs.Stands.{SeatSteps, SeatFails, SeatsStep, SeatsFail, Sits, AllSit, moved, all_moved, all_sends, any_spends, cursor_id, cursor_value, cursor_at}
+use Rattle.scenario.specs.Stands.{SeatSteps, SeatFails, SeatsStep, SeatsFail, Sits, AllSit, moved, all_moved, all_sends, any_spends, cursor_id, cursor_value, cursor_at, is_look}
 
 differ : (a b : ℕ) → a < b → (a == b) ≡ false
 differ a b h = grind (arith, nat_tests)
@@ -141,23 +142,59 @@ moved_number conn now sent Answers s = refl
 moved_number conn now sent (Shuts code) s = refl
 moved_number conn now sent (Begins bot viewer) s = refl
 
+all_gone_number : (conns : List ℕ) (now : ℕ) (s : State Sent) → (all_gone conns now s).worker ≡ s.worker
+all_gone_number [] now s = refl
+all_gone_number (conn ∷ conns) now s = all_gone_number conns now (gone conn (Detached now) s)
+
+lost_number : (conn now : ℕ) (s : State Sent) → (lost conn now s).worker ≡ s.worker
+lost_number conn now s = by_link (has_link conn s)
+  where
+    by_link : (b : Bool) → (if b then gone conn (Detached now) s else s).worker ≡ s.worker
+    by_link true = refl
+    by_link false = refl
+
+closed_number : (ended : Session Sent → List (Session Sent)) (conn code now : ℕ) (s : State Sent) → (client_closed ended conn code now s).worker ≡ s.worker
+closed_number ended conn code now s = by_code (is_final code) (has_link conn s)
+  where
+    by_code : (final there : Bool) → (if final then (if there then left ended conn s else s) else lost conn now s).worker ≡ s.worker
+    by_code false there = lost_number conn now s
+    by_code true true = refl
+    by_code true false = refl
+
+taken_number : (i : Input) (w : Worker) → is_look i ≡ false → (taken w i).core.worker ≡ w.core.worker
+taken_number (Look g es) w calm = absurd (cc calm)
+taken_number (Open conn) w calm = opened_number conn w.now w.core
+taken_number (Frame conn text) w calm = moved_number conn w.now (begins_with w) (move_of w.core conn text) w.core
+taken_number (Lost conn) w calm = lost_number conn w.now w.core
+taken_number (Closed conn code) w calm = closed_number (ended_at (cursors w.seen)) conn code w.now w.core
+taken_number (Tick now) w calm = all_gone_number (silent_of (max w.now now) w.core.links) (max w.now now) w.core
+
+taken_guilds : (i : Input) (w : Worker) → is_look i ≡ false → (taken w i).guilds ≡ w.guilds
+taken_guilds (Look g es) w calm = absurd (cc calm)
+taken_guilds (Open conn) w calm = refl
+taken_guilds (Frame conn text) w calm = refl
+taken_guilds (Lost conn) w calm = refl
+taken_guilds (Closed conn code) w calm = refl
+taken_guilds (Tick now) w calm = refl
+
+taken_seen : (i : Input) (w : Worker) → is_look i ≡ false → (g : ℕ) → (taken w i).seen g ≡ w.seen g
+taken_seen (Look g es) w calm h = absurd (cc calm)
+taken_seen (Open conn) w calm h = refl
+taken_seen (Frame conn text) w calm h = refl
+taken_seen (Lost conn) w calm h = refl
+taken_seen (Closed conn code) w calm h = refl
+taken_seen (Tick now) w calm h = refl
+
 -- ---- one seat
 
 module _ (gs : List ℕ) (n : ℕ) (old new : Seat) (w : Worker) (sits : Sits gs n old w) where
-  pub open_sits : (conn : ℕ) → StandsFor new.worker (taken w (Open conn)) → new.cursors ≡ old.cursors → Sits gs n new (taken w (Open conn))
-  open_sits conn stands cursors = record {
-    number = opened_number conn w.now w.core ∙ sits.number;
-    guilds = sits.guilds;
+  -- a worker was given something that is no look
+  pub give_sits : (i : Input) → is_look i ≡ false → StandsFor new.worker (taken w i) → new.cursors ≡ old.cursors → Sits gs n new (taken w i)
+  give_sits i calm stands cursors = record {
+    number = taken_number i w calm ∙ sits.number;
+    guilds = taken_guilds i w calm ∙ sits.guilds;
     worker = stands;
-    cursors = λ g. ap (cursor_at g) cursors ∙ sits.cursors g;
-  }
-
-  pub frame_sits : (conn : ℕ) (text : List ℕ) → StandsFor new.worker (taken w (Frame conn text)) → new.cursors ≡ old.cursors → Sits gs n new (taken w (Frame conn text))
-  frame_sits conn text stands cursors = record {
-    number = moved_number conn w.now (begins_with w) (move_of w.core conn text) w.core ∙ sits.number;
-    guilds = sits.guilds;
-    worker = stands;
-    cursors = λ g. ap (cursor_at g) cursors ∙ sits.cursors g;
+    cursors = λ g. ap (cursor_at g) cursors ∙ (sits.cursors g ∙ ap (λ es. length es) (sym (taken_seen i w calm g)));
   }
 
   -- a worker was given the entries after its cursor

@@ -17,7 +17,7 @@ use Rattle.edit_text.specs.declared.line.Line.{Line}
 use Rattle.edit_text.specs.declared.line.Line.TheVariants as line
 use Rattle.worker_core.specs.Outputs.{all_written}
 use Rattle.worker_core.specs.Telling.{FaultBy}
-use Rattle.worker_core.specs.World.{Worker, World, Step, Edits, Looks, Opens, Frames, Input, Look, Open, Frame, stepped, seen_with, run}
+use Rattle.worker_core.specs.World.{Worker, World, Step, Edits, Looks, Opens, Frames, Loses, Leaves, Ticks, Input, Look, Open, Frame, Lost, Closed, Tick, stepped, seen_with, run}
 use Rattle.worker_core.specs.Law.{first_world}
 use Rattle.worker_core.specs.declared.io.StepFault.{StepFault}
 use Rattle.worker_core.specs.declared.io.Output.{Output as Written}
@@ -28,7 +28,7 @@ use Rattle.scenario.specs.declared.opened.Opened.{Opened}
 use Rattle.scenario.specs.declared.seat.Seat.{Seat}
 use Rattle.scenario.specs.declared.stage.Stage.{Stage}
 use Rattle.scenario.specs.Player.{Player, places, world, given, for_worker, step_of, with_step, played, noted, opened_id, enters, log, step_sends, step_spends}
-use Rattle.scenario.specs.Stands.{log_id, log_with, log_of, away, AllSit, guilds_of, Seated, SeatedOnceStepped, IsFull, Keeps, Stands, all_moved, all_sends, any_spends, SeatsStep, SeatsFail, Plays, PlaysNot}
+use Rattle.scenario.specs.Stands.{log_id, log_with, log_of, away, AllSit, guilds_of, Seated, SeatedOnceStepped, IsFull, Keeps, Stands, all_moved, all_sends, any_spends, SeatsStep, SeatsFail, Plays, PlaysNot, Gives}
 use Rattle.scenario.proofs.Seats.{by_result}
 use Rattle.scenario.proofs.Worlds.{run_more, stepped_workers, world_step, edit_sends, edit_spends}
 
@@ -178,21 +178,60 @@ open_plays items r old new p worker conn seats keeps unused bots guilds logs use
     (ap (λ b. if b then p else q) unknown)
     refl refl refl start.0 start.1 steps
 
-pub frame_plays : {V : Type 0} (items : V → List Written) (r : Result V StepFault) (old new : Stage) (p : Player) (o : Opened) (conn : ℕ) (text : List ℕ) (seats : List Seat) → Keeps old p
-    → find_id opened_id conn old.used ≡ Some o → new.bots ≡ old.bots → new.guilds ≡ old.guilds → new.logs ≡ old.logs → new.used ≡ old.used
+-- a line that gives one worker an input
+pub give_plays : {V : Type 0} (items : V → List Written) (r : Result V StepFault) (old new : Stage) (p : Player) (line : Line) (worker : ℕ) (i : Input) (seats : List Seat) → Keeps old p
+    → Gives p line worker i → new.bots ≡ old.bots → new.guilds ≡ old.guilds → new.logs ≡ old.logs → new.used ≡ old.used
     → IsFull seats × AllSit (guilds_of p) 0 seats (world p).workers
-    → MatchResult r (λ out. SeatsStep (guilds_of p) (for_worker o.worker (Frame conn text)) (world p).workers new.seats.items (items out)) (SeatsFail (for_worker o.worker (Frame conn text)) (world p).workers)
-    → MatchResult r (λ out. Plays p (line.Frame conn text) new (items out)) (PlaysNot p (line.Frame conn text))
-frame_plays items r old new p o conn text seats keeps known bots guilds logs used start steps =
-    moved_on items r old new p p (line.Frame conn text) (Frames o.worker conn text) seats
+    → MatchResult r (λ out. SeatsStep (guilds_of p) (for_worker worker i) (world p).workers new.seats.items (items out)) (SeatsFail (for_worker worker i) (world p).workers)
+    → MatchResult r (λ out. Plays p line new (items out)) (PlaysNot p line)
+give_plays items r old new p line worker i seats keeps gives bots guilds logs used start steps =
+    moved_on items r old new p p line gives.step seats
     (record {
       bots = bots ∙ keeps.bots;
       guilds = guilds ∙ keeps.guilds;
       used = used ∙ keeps.used;
       logs = λ g. ap (find_id log_id g) logs ∙ keeps.logs g;
     })
-    (ap (λ x. option_map (λ (o : Opened). Frames o.worker conn text) x) (ap (find_id opened_id conn) (sym keeps.used) ∙ known))
-    refl refl refl refl start.0 start.1 steps
+    gives.is_step gives.notes refl refl gives.logs start.0 start.1
+    (subst (λ (f : Worker → Option Input). MatchResult r (λ out. SeatsStep (guilds_of p) f (world p).workers new.seats.items (items out)) (SeatsFail f (world p).workers)) (sym gives.gives) steps)
+
+-- the worker on which a connection was opened
+found_worker : (o : Option Opened) (worker : ℕ) → option_map (λ (o : Opened). o.worker) o ≡ Some worker → (step : ℕ → Step) → option_map (λ (o : Opened). step o.worker) o ≡ Some (step worker)
+found_worker None worker is step = absurd (cc)
+found_worker (Some o) worker is step = let same : o.worker ≡ worker = cc in ap (λ n. Some (step n)) same
+
+no_worker : (o : Option Opened) → option_map (λ (o : Opened). o.worker) o ≡ None → (step : ℕ → Step) → option_map (λ (o : Opened). step o.worker) o ≡ None
+no_worker None is step = refl
+no_worker (Some o) is step = absurd (cc)
+
+module _ (old : Stage) (p : Player) (keeps : Keeps old p) (conn worker : ℕ) (known : option_map (λ (o : Opened). o.worker) (find_id opened_id conn old.used) ≡ Some worker) where
+  on_it : (step : ℕ → Step) → option_map (λ (o : Opened). step o.worker) (find_id opened_id conn p.used) ≡ Some (step worker)
+  on_it step = found_worker (find_id opened_id conn p.used) worker (ap (λ us. option_map (λ (o : Opened). o.worker) (find_id opened_id conn us)) (sym keeps.used) ∙ known) step
+
+  pub frame_gives : (text : List ℕ) → Gives p (line.Frame conn text) worker (Frame conn text)
+  frame_gives text = record { step = Frames worker conn text; is_step = on_it (λ n. Frames n conn text); notes = refl; gives = refl; logs = refl }
+
+  pub lost_gives : Gives p (line.Lost conn) worker (Lost conn)
+  lost_gives = record { step = Loses worker conn; is_step = on_it (λ n. Loses n conn); notes = refl; gives = refl; logs = refl }
+
+  pub closed_gives : (code : ℕ) → Gives p (line.Closed conn code) worker (Closed conn code)
+  closed_gives code = record { step = Leaves worker conn code; is_step = on_it (λ n. Leaves n conn code); notes = refl; gives = refl; logs = refl }
+
+pub tick_gives : (p : Player) (worker now : ℕ) → Gives p (line.Tick worker now) worker (Tick now)
+tick_gives p worker now = record { step = Ticks worker now; is_step = refl; notes = refl; gives = refl; logs = refl }
+
+module _ (old : Stage) (p : Player) (stands : Stands old p) (conn : ℕ) (unknown : option_map (λ (o : Opened). o.worker) (find_id opened_id conn old.used) ≡ None) (out : List Written) (none : out ≡ []) where
+  on_none : (step : ℕ → Step) → option_map (λ (o : Opened). step o.worker) (find_id opened_id conn p.used) ≡ None
+  on_none step = no_worker (find_id opened_id conn p.used) (ap (λ us. option_map (λ (o : Opened). o.worker) (find_id opened_id conn us)) (sym stands.keeps.used) ∙ unknown) step
+
+  pub frame_past : (text : List ℕ) → Plays p (line.Frame conn text) old out
+  frame_past text = plays_nothing p p (line.Frame conn text) old out (on_none (λ n. Frames n conn text)) refl stands none
+
+  pub lost_past : Plays p (line.Lost conn) old out
+  lost_past = plays_nothing p p (line.Lost conn) old out (on_none (λ n. Loses n conn)) refl stands none
+
+  pub closed_past : (code : ℕ) → Plays p (line.Closed conn code) old out
+  closed_past code = plays_nothing p p (line.Closed conn code) old out (on_none (λ n. Leaves n conn code)) refl stands none
 
 -- a log that is kept is that of a guild with a head line
 if_some : (b : Bool) (l m : GuildLog) → (if b then Some m else None) ≡ Some l → (b ≡ true) × (l ≡ m)

@@ -2,7 +2,7 @@
 use Rattle.std.proofs.Common.{◌≡◌, ℕ, List, [], ◌∷◌, ◌++◌, Bool, true, false, Option, Some, None, if◌then◌else◌, length, map, refl, sym, ap, ◌∙◌, subst}
 use Rattle.std.specs.Prelude.{◌==◌, flat_map, drop}
 use Rattle.edit_apply.specs.declared.Edit.{Edit}
-use Rattle.worker_core.specs.World.{Worker, World, Step, Edits, Looks, Opens, Frames, Input, Look, Open, Frame, taken, at_worker, stepped, run, seen_with}
+use Rattle.worker_core.specs.World.{Worker, World, Step, Edits, Looks, Opens, Frames, Loses, Leaves, Ticks, Input, Look, Open, Frame, Lost, Closed, Tick, taken, at_worker, stepped, run, seen_with}
 use Rattle.scenario.specs.Player.{Player, world, given, for_worker, step_sends, step_spends, with_step}
 use Rattle.scenario.specs.Stands.{moved, all_moved, all_sends, any_spends}
 
@@ -28,6 +28,9 @@ stepped_workers (Edits g e) m = unmoved m.workers
 stepped_workers (Looks n g) m = map_same _ _ (λ w. moved_if (w.core.worker == n) (Look g (drop (length (w.seen g)) (m.logs g))) w) m.workers
 stepped_workers (Opens n conn) m = map_same _ _ (λ w. moved_if (w.core.worker == n) (Open conn) w) m.workers
 stepped_workers (Frames n conn text) m = map_same _ _ (λ w. moved_if (w.core.worker == n) (Frame conn text) w) m.workers
+stepped_workers (Loses n conn) m = map_same _ _ (λ w. moved_if (w.core.worker == n) (Lost conn) w) m.workers
+stepped_workers (Leaves n conn code) m = map_same _ _ (λ w. moved_if (w.core.worker == n) (Closed conn code) w) m.workers
+stepped_workers (Ticks n now) m = map_same _ _ (λ w. moved_if (w.core.worker == n) (Tick now) w) m.workers
 
 -- the world after one more step
 pub world_step : (p : Player) (s : Step) → world (with_step (Some s) p) ≡ stepped (world p) s

@@ -12,8 +12,8 @@ use Rattle.edit_apply.specs.declared.Edit.{Edit as GuildEdit}
 use Rattle.edit_text.specs.declared.line.Line.{Line}
 use Rattle.edit_text.specs.declared.line.Line.TheVariants.{Bot, Guild, Edit, Look, Open, Frame, Lost, Closed, Tick}
 use Rattle.session_core.specs.declared.bot.Bot.{Bot as KnownBot}
-use Rattle.worker_core.specs.World.{Worker, World, Step, Edits, Looks, Opens, Frames, run, Input, taken, outputs, Output}
-use Rattle.worker_core.specs.World.{Look as Looking, Open as Opening, Frame as Framing}
+use Rattle.worker_core.specs.World.{Worker, World, Step, Edits, Looks, Opens, Frames, Loses, Leaves, Ticks, run, Input, taken, outputs, Output}
+use Rattle.worker_core.specs.World.{Look as Looking, Open as Opening, Frame as Framing, Lost as Losing, Closed as Leaving, Tick as Ticking}
 use Rattle.worker_core.specs.Law.{first_world}
 use Rattle.worker_core.specs.Spent.{spends}
 use Rattle.scenario.specs.declared.opened.Opened.{Opened}
@@ -61,17 +61,21 @@ enters p g = contains g p.guilds && nat_lt (length (log p g)) 16384
 abbrev pub opened_id : Opened → ℕ
 opened_id o = o.number
 
--- a look at a guild without a head line, an open of a number that was used, and a frame on one that was not, are no step
+-- on the worker of a connection, where its number was used
+abbrev pub on_worker : (ℕ → Step) → ℕ → Player → Option Step
+on_worker step conn p = option_map (λ (o : Opened). step o.worker) (find_id opened_id conn p.used)
+
+-- a look at a guild without a head line, an open of a number that was used, and what comes on one that was not, are no step
 abbrev pub step_of : Player → Line → Option Step
 step_of p (Bot token user name privileged) = None
 step_of p (Guild id) = None
 step_of p (Edit guild edit) = if enters p guild then Some (Edits guild edit) else None
 step_of p (Look worker guild) = if contains guild p.guilds then Some (Looks worker guild) else None
 step_of p (Open worker conn) = if has_id opened_id conn p.used then None else Some (Opens worker conn)
-step_of p (Frame conn text) = option_map (λ (o : Opened). Frames o.worker conn text) (find_id opened_id conn p.used)
-step_of p (Lost conn) = None
-step_of p (Closed conn code) = None
-step_of p (Tick worker now) = None
+step_of p (Frame conn text) = on_worker (λ worker. Frames worker conn text) conn p
+step_of p (Lost conn) = on_worker (λ worker. Loses worker conn) conn p
+step_of p (Closed conn code) = on_worker (λ worker. Leaves worker conn code) conn p
+step_of p (Tick worker now) = Some (Ticks worker now)
 
 abbrev pub with_step : Option Step → Player → Player
 with_step None p = p
@@ -120,6 +124,9 @@ given m (Edits g e) w = None
 given m (Looks n g) w = for_worker n (Looking g (drop (length (w.seen g)) (m.logs g))) w
 given m (Opens n conn) w = for_worker n (Opening conn) w
 given m (Frames n conn text) w = for_worker n (Framing conn text) w
+given m (Loses n conn) w = for_worker n (Losing conn) w
+given m (Leaves n conn code) w = for_worker n (Leaving conn code) w
+given m (Ticks n now) w = for_worker n (Ticking now) w
 
 abbrev pub given_sends : Worker → Option Input → List Output
 given_sends w None = []

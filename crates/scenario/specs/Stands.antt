@@ -1,5 +1,5 @@
 -- Which players what the code keeps stands for.
-use Rattle.std.specs.Prelude.{◌≡◌, ℕ, ◌+◌, ◌==◌, List, [], ◌∷◌, length, map, flat_map, Bool, false, Option, Some, None, if◌then◌else◌}
+use Rattle.std.specs.Prelude.{◌≡◌, ℕ, ◌+◌, ◌==◌, List, [], ◌∷◌, length, map, flat_map, Bool, false, Option, Some, None, if◌then◌else◌, true}
 use Rattle.std.specs.List.{list_any}
 use Rattle.collections.specs.ById.{find_id, put_all}
 use Rattle.guild_model.specs.Record.{own_id}
@@ -10,7 +10,7 @@ use Rattle.dispatch_types.specs.Fold.{contains}
 use Rattle.edit_apply.specs.Edits.{state}
 use Rattle.edit_apply.specs.declared.Edit.{Edit}
 use Rattle.edit_text.specs.declared.line.Line.{Line}
-use Rattle.worker_core.specs.World.{Worker, World, Input, taken, outputs, Output}
+use Rattle.worker_core.specs.World.{Worker, World, Step, Input, Look, Open, Frame, Lost, Closed, Tick, taken, outputs, Output, stepped}
 use Rattle.worker_core.specs.Spent.{spends}
 use Rattle.worker_core.specs.Outputs.{all_written}
 use Rattle.worker_core.specs.Telling.{FaultBy}
@@ -21,7 +21,7 @@ use Rattle.scenario.specs.declared.guild_log.GuildLog.{GuildLog}
 use Rattle.scenario.specs.declared.seat.Cursor.{Cursor}
 use Rattle.scenario.specs.declared.seat.Seat.{Seat}
 use Rattle.scenario.specs.declared.stage.Stage.{Stage}
-use Rattle.scenario.specs.Player.{Player, world, step_of, played, step_sends, step_spends, given_sends, given_spends}
+use Rattle.scenario.specs.Player.{Player, world, step_of, noted, played, given, for_worker, step_sends, step_spends, given_sends, given_spends}
 
 abbrev pub log_id : GuildLog → ℕ
 log_id l = l.guild.id
@@ -92,6 +92,14 @@ away (Some l) = too_many 16384 (length l.entries)
 
 -- ---- what a step leaves of a seat, and of all
 
+abbrev pub is_look : Input → Bool
+is_look (Look g es) = true
+is_look (Open conn) = false
+is_look (Frame conn text) = false
+is_look (Lost conn) = false
+is_look (Closed conn code) = false
+is_look (Tick now) = false
+
 abbrev pub SeatSteps : List ℕ → ℕ → Worker → Input → Seat → List Written → Type 0
 SeatSteps guilds number w i new out = Sits guilds number new (taken w i) × ((out ≡ all_written (outputs w i)) × (spends w i ≡ false))
 
@@ -121,6 +129,14 @@ SeatsFail f ws fault = FaultBy (any_spends f ws) fault
 -- what a line leaves, and what goes out
 abbrev pub Plays : Player → Line → Stage → List Written → Type 0
 Plays p line new out = Stands new (played p line) × ((out ≡ all_written (step_sends (world p) (step_of p line))) × (step_spends (world p) (step_of p line) ≡ false))
+
+-- a line that gives one worker an input, and leaves all else
+pub record Gives (p : Player) (line : Line) (worker : ℕ) (i : Input) : Type 0 where
+  pub step : Step
+  pub is_step : step_of p line ≡ Some step
+  pub notes : noted p line ≡ p
+  pub gives : given (world p) step ≡ for_worker worker i
+  pub logs : (stepped (world p) step).logs ≡ (world p).logs
 
 abbrev pub PlaysNot : Player → Line → StepFault → Type 0
 PlaysNot p line fault = FaultBy (step_spends (world p) (step_of p line)) fault

@@ -1,13 +1,13 @@
 //! The workers, each with how far it has looked at the logs.
-ghost use Rattle.std.specs.Prelude.{◌≡◌, ℕ, List, [], length, true, drop, IfOk, OnOk, MatchResult};
+ghost use Rattle.std.specs.Prelude.{◌≡◌, ℕ, List, [], length, true, false, drop, IfOk, OnOk, MatchResult};
 ghost use Rattle.collections.specs.ById.{put_all};
 ghost use Rattle.guild_model.specs.Record.{own_id};
 ghost use Rattle.dispatch_types.specs.Fold.{contains};
-ghost use Rattle.worker_core.specs.World.{Worker as ModelWorker, Look as Looks, Open as Opens, Frame as Frames, first_worker};
+ghost use Rattle.worker_core.specs.World.{Worker as ModelWorker, Look as Looks, first_worker};
 ghost use Rattle.worker_core.specs.Law.{first_world};
 ghost use Rattle.worker_core.specs.Outputs.{input_of};
 ghost use Rattle.scenario.specs.Player.{Player, url, places, for_worker};
-ghost use Rattle.scenario.specs.Stands.{Sits, AllSit, SeatSteps, SeatFails, SeatsStep, SeatsFail, SeatedOnceStepped, Seated, IsFull, cursor_at};
+ghost use Rattle.scenario.specs.Stands.{Sits, AllSit, SeatSteps, SeatFails, SeatsStep, SeatsFail, SeatedOnceStepped, Seated, IsFull, cursor_at, is_look};
 
 use crate::guild_log::entries_after;
 use collections::{ById, Keyed, Text};
@@ -85,18 +85,13 @@ impl Seat {
         Ok(out)
     }
 
-    fn open(&mut self, conn: u32) -> Result<Vec<Output>, StepFault>
+    // Gives the worker something that moves no cursor.
+    fn give(&mut self, input: Input) -> Result<Vec<Output>, StepFault>
+        requires { is_look (input_of input) ≡ false }
         ensures { (guilds : List ℕ) (number : ℕ) (w : ModelWorker) → Sits guilds number self.old w
-            → MatchResult result (λ out. SeatSteps guilds number w (Opens conn) self.new out.items) (SeatFails w (Opens conn)) }
+            → MatchResult result (λ out. SeatSteps guilds number w (input_of input) self.new out.items) (SeatFails w (input_of input)) }
     {
-        self.worker.step(Input::Open(conn))
-    }
-
-    fn frame(&mut self, conn: u32, text: Text) -> Result<Vec<Output>, StepFault>
-        ensures { (guilds : List ℕ) (number : ℕ) (w : ModelWorker) → Sits guilds number self.old w
-            → MatchResult result (λ out. SeatSteps guilds number w (Frames conn text) self.new out.items) (SeatFails w (Frames conn text)) }
-    {
-        self.worker.step(Input::Frame(conn, text))
+        self.worker.step(input)
     }
 }
 
@@ -175,37 +170,20 @@ pub fn look(
     seats[place].look(alloc, guild, entries)
 }
 
-/// A client connects to a worker.
-pub fn open(
+/// Something that moves no cursor comes to a worker.
+pub fn give(
     alloc: Global,
     seats: &mut Vec<Seat>,
     number: u8,
-    conn: u32,
+    input: Input,
 ) -> Result<Vec<Output>, StepFault>
+    requires { is_look (input_of input) ≡ false }
     ensures { (guilds : List ℕ) (ws : List ModelWorker) → AllSit guilds 0 seats.old.items ws
-        → MatchResult result (λ out. SeatsStep guilds (for_worker number (Opens conn)) ws seats.new.items out.items) (SeatsFail (for_worker number (Opens conn)) ws) }
+        → MatchResult result (λ out. SeatsStep guilds (for_worker number (input_of input)) ws seats.new.items out.items) (SeatsFail (for_worker number (input_of input)) ws) }
 {
     let place = number as usize;
     if place >= seats.len() {
         return Ok(Vec::new(alloc));
     }
-    seats[place].open(conn)
-}
-
-/// A text comes to a worker.
-pub fn frame(
-    alloc: Global,
-    seats: &mut Vec<Seat>,
-    number: u8,
-    conn: u32,
-    text: Text,
-) -> Result<Vec<Output>, StepFault>
-    ensures { (guilds : List ℕ) (ws : List ModelWorker) → AllSit guilds 0 seats.old.items ws
-        → MatchResult result (λ out. SeatsStep guilds (for_worker number (Frames conn text)) ws seats.new.items out.items) (SeatsFail (for_worker number (Frames conn text)) ws) }
-{
-    let place = number as usize;
-    if place >= seats.len() {
-        return Ok(Vec::new(alloc));
-    }
-    seats[place].frame(conn, text)
+    seats[place].give(input)
 }

@@ -1,9 +1,11 @@
 //! What the lines of a step file are played on.
-ghost use Rattle.std.specs.Prelude.{◌≡◌, OnOk, IfOk, MatchResult, []};
+ghost use Rattle.std.specs.Prelude.{◌≡◌, false, option_map, OnOk, IfOk, MatchResult, []};
+ghost use Rattle.edit_text.specs.declared.line.Line.{Line};
+ghost use Rattle.worker_core.specs.Outputs.{input_of};
 ghost use Rattle.collections.specs.ById.{find_id};
 ghost use Rattle.edit_text.specs.declared.line.Line.TheVariants as line;
-ghost use Rattle.scenario.specs.Player.{Player, has_token, refusal, first_player};
-ghost use Rattle.scenario.specs.Stands.{Stands, Plays, PlaysNot, log_id, away};
+ghost use Rattle.scenario.specs.Player.{Player, has_token, refusal, first_player, opened_id};
+ghost use Rattle.scenario.specs.Stands.{Stands, Plays, PlaysNot, Gives, is_look, log_id, away};
 ghost use Rattle.scenario.specs.Transcript.{line_refusal};
 
 use crate::guild_log::GuildLog;
@@ -17,7 +19,7 @@ use guild_model::Verdict;
 use session_core::Bot;
 use snowflake_id::Snowflake;
 use std::alloc::{AllocError, Global};
-use worker_core::{Output, StepFault};
+use worker_core::{Input, Output, StepFault};
 
 /// The most entries of a guild's log.
 const LOG_ENTRIES: usize = 16_384;
@@ -153,23 +155,63 @@ impl Stage {
             number: conn,
             worker,
         })?;
-        seat::open(self.alloc, &mut self.seats, worker, conn)
+        seat::give(self.alloc, &mut self.seats, worker, Input::Open(conn))
     }
 
-    fn frame(&mut self, conn: u32, text: Text) -> Result<Vec<Output>, StepFault>
-        ensures { (p : Player) → Stands self.old p → MatchResult result (λ out. Plays p (line.Frame conn text) self.new out.items) (PlaysNot p (line.Frame conn text)) }
+    // Gives a worker something by which it looks at no log.
+    fn give(&mut self, worker: u8, input: Input) -> Result<Vec<Output>, StepFault>
+        requires { is_look (input_of input) ≡ false }
+        ensures { (p : Player) (line : Line) → Stands self.old p → Gives p line worker (input_of input)
+            → MatchResult result (λ out. Plays p line self.new out.items) (PlaysNot p line) }
     {
-        let Some(opened) = self.used.get(conn as u64) else {
-            return Ok(Vec::new(self.alloc));
-        };
-        let worker = opened.worker;
         start(
             self.alloc,
             &mut self.seats,
             self.bots.as_slice(),
             self.guilds.as_slice(),
         )?;
-        seat::frame(self.alloc, &mut self.seats, worker, conn, text)
+        seat::give(self.alloc, &mut self.seats, worker, input)
+    }
+
+    // The worker on which a connection was opened.
+    fn worker_of(&self, conn: u32) -> Option<u8>
+        ensures { result ≡ option_map (λ o. o.worker) (find_id opened_id conn self.now.used) }
+    {
+        let opened = self.used.get(conn as u64)?;
+        Some(opened.worker)
+    }
+
+    fn frame(&mut self, conn: u32, text: Text) -> Result<Vec<Output>, StepFault>
+        ensures { (p : Player) → Stands self.old p → MatchResult result (λ out. Plays p (line.Frame conn text) self.new out.items) (PlaysNot p (line.Frame conn text)) }
+    {
+        let Some(worker) = self.worker_of(conn) else {
+            return Ok(Vec::new(self.alloc));
+        };
+        self.give(worker, Input::Frame(conn, text))
+    }
+
+    fn lost(&mut self, conn: u32) -> Result<Vec<Output>, StepFault>
+        ensures { (p : Player) → Stands self.old p → MatchResult result (λ out. Plays p (line.Lost conn) self.new out.items) (PlaysNot p (line.Lost conn)) }
+    {
+        let Some(worker) = self.worker_of(conn) else {
+            return Ok(Vec::new(self.alloc));
+        };
+        self.give(worker, Input::Lost(conn))
+    }
+
+    fn closed(&mut self, conn: u32, code: u16) -> Result<Vec<Output>, StepFault>
+        ensures { (p : Player) → Stands self.old p → MatchResult result (λ out. Plays p (line.Closed conn code) self.new out.items) (PlaysNot p (line.Closed conn code)) }
+    {
+        let Some(worker) = self.worker_of(conn) else {
+            return Ok(Vec::new(self.alloc));
+        };
+        self.give(worker, Input::Closed(conn, code))
+    }
+
+    fn tick(&mut self, worker: u8, now: u64) -> Result<Vec<Output>, StepFault>
+        ensures { (p : Player) → Stands self.old p → MatchResult result (λ out. Plays p (line.Tick worker now) self.new out.items) (PlaysNot p (line.Tick worker now)) }
+    {
+        self.give(worker, Input::Tick(now))
     }
 
     fn nothing(&self) -> Answer
@@ -228,7 +270,18 @@ impl Stage {
                 let outputs = self.frame(conn, text)?;
                 Ok(self.sends(outputs))
             }
-            Line::Lost { .. } | Line::Closed { .. } | Line::Tick { .. } => Ok(self.nothing()),
+            Line::Lost { conn } => {
+                let outputs = self.lost(conn)?;
+                Ok(self.sends(outputs))
+            }
+            Line::Closed { conn, code } => {
+                let outputs = self.closed(conn, code)?;
+                Ok(self.sends(outputs))
+            }
+            Line::Tick { worker, now } => {
+                let outputs = self.tick(worker, now)?;
+                Ok(self.sends(outputs))
+            }
         }
     }
 }

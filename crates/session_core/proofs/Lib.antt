@@ -4,3 +4,4 @@ pub mod Intents
 pub mod Sides
 pub mod Starts
 pub mod Places
+pub mod Endings

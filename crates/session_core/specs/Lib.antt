@@ -3,3 +3,4 @@ pub mod Identify
 pub mod Frames
 pub mod Kept
 pub mod Pushes
+pub mod Ends

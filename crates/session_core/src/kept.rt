@@ -1,6 +1,6 @@
 //! What is kept of connections and sessions, by their numbers.
 
-ghost use Rattle.std.specs.Prelude.{◌≡◌};
+ghost use Rattle.std.specs.Prelude.{◌≡◌, ℕ};
 
 use crate::Bot;
 use collections::Text;
@@ -35,6 +35,23 @@ pub struct Live {
     pub sent: u64,
 }
 
+/// The milliseconds without a heartbeat after which a connection is closed: two intervals.
+const SILENT_AFTER: u64 = 82_500;
+
+/// The milliseconds without a connection after which a session ends.
+const OVERDUE_AFTER: u64 = 180_000;
+
+impl Line {
+    ghost use Rattle.session_core.specs.Ends.{is_silent};
+
+    /// Whether there was no heartbeat for too long.
+    pub fn is_silent(&self, now: u64) -> bool
+        ensures { (n : ℕ) → result ≡ is_silent now (record { number = n; heard = self.now.heard }) }
+    {
+        now.saturating_sub(self.heard) >= SILENT_AFTER
+    }
+}
+
 impl Live {
     ghost use Rattle.session_core.specs.Kept.{new_live};
 
@@ -53,7 +70,18 @@ impl Live {
 }
 
 impl Hold {
-    ghost use Rattle.session_core.specs.Kept.{conn_of};
+    ghost use Rattle.session_core.specs.Kept.{conn_of, place_of};
+    ghost use Rattle.session_core.specs.Ends.{is_overdue};
+
+    /// Whether there was no connection for too long.
+    pub fn is_overdue(self, now: u64) -> bool
+        ensures { result ≡ is_overdue now (place_of self) }
+    {
+        match self {
+            Hold::Attached(_) => false,
+            Hold::Detached(since) => now.saturating_sub(since) >= OVERDUE_AFTER,
+        }
+    }
 
     /// The connection of the session.
     pub fn conn(self) -> Option<u32>

@@ -3,6 +3,8 @@
 
 mod bot;
 mod close;
+mod conn;
+mod ends;
 mod fault;
 mod frames;
 mod judge;

@@ -1,13 +1,17 @@
-ghost use Rattle.std.specs.Prelude.{◌≡◌, ◌<◌, ◌^◌, ◌==◌, ◌↔◌, position, slice_get, option_map, IsErr, Some, ◌-◌, true, false, nat_lt, ◌∷◌, [], length, map, is_some, IfOk, OnOk, OnErr};
+ghost use Rattle.std.specs.Prelude.{◌≡◌, ◌<◌, ◌^◌, ◌==◌, ◌↔◌, position, slice_get, option_map, IsErr, Some, ◌-◌, true, false, not, nat_lt, ◌∷◌, [], length, map, is_some, IfOk, OnOk, OnErr};
 ghost use Rattle.session_core.specs.State.{no_sessions, live, has_session, gone, begun, Detached, has_link, with_link, opened, open_replies, heard};
 ghost use Rattle.std.specs.Option.{option_copied};
 ghost use Rattle.session_core.specs.Pushes.{pushed_of, counted_at};
 ghost use Rattle.session_core.specs.Identify.{identified, start_as};
+ghost use Rattle.session_core.specs.Kept.{place_of};
+ghost use Rattle.session_core.specs.Ends.{is_overdue, left, silent_of, expired};
 
 use crate::close::{AUTHENTICATION_FAILED, UNKNOWN_ERROR};
+use crate::conn::Conn;
 use crate::judge::{bot_of, judge};
 use crate::kept::{Hold, Line, Live};
 use crate::{Bot, Reply, Spent};
+use collections::ById;
 use dispatch_types::Viewer;
 use gateway_frames::{Identify, Out};
 use indexmap::IndexMap;
@@ -201,6 +205,46 @@ impl Sessions {
             return;
         };
         session.hold = Hold::Detached(now);
+    }
+
+    /// A connection is gone, and its session with it.
+    pub(crate) fn leave(&mut self, conn: u32)
+        ensures { self.new ≡ left (λ x. []) conn self.old }
+    {
+        let Some(line) = self.links.shift_remove(&conn) else {
+            return;
+        };
+        let Some(number) = line.session else {
+            return;
+        };
+        self.live.shift_remove(&number);
+    }
+
+    /// The connections that had no heartbeat for too long, ascending.
+    pub(crate) fn silent(&self, now: u64) -> Result<ById<Conn>, AllocError>
+        ensures { IfOk result (λ conns. conns ≡ silent_of now self.now.links) }
+    {
+        let mut conns = ById::new(self.alloc);
+        for place in 0..self.links.len() {
+            let Some((conn, line)) = self.links.get_index(place) else {
+                break;
+            };
+            if line.is_silent(now) {
+                conns.put(Conn(*conn))?;
+            }
+        }
+        Ok(conns)
+    }
+
+    /// The sessions end that had no connection for too long.
+    pub(crate) fn expire(&mut self, now: u64)
+        ensures { self.new ≡ expired (λ x. []) now self.old }
+    {
+        self.live.retain(
+            |_number: &u32, session: &mut Live| -> bool
+                ensures { (result ≡ not (is_overdue now (place_of session.old.hold))) × (session.new ≡ session.old) }
+            { !session.hold.is_overdue(now) },
+        );
     }
 
     /// Adds a session on a connection that has none.

@@ -1,6 +1,6 @@
 -- What is kept of the sessions moves as they do.
 use Rattle.std.proofs.Common.{◌≡◌, ℕ, ◌+◌, List, [], ◌∷◌, ◌++◌, Bool, true, false, Some, Result, Ok, Err, if◌then◌else◌, suc, length, map, refl, sym, ap, ◌∙◌, append_assoc}
-use Rattle.std.specs.Prelude.{◌==◌, ◌||◌, filter, flat_map, nat_lt, is_some}
+use Rattle.std.specs.Prelude.{◌==◌, ◌||◌, filter, flat_map, nat_lt, nat_le, is_some}
 use Rattle.std.specs.List.{find, list_any}
 use Rattle.std.proofs.lemmas.List.{length-append, length-map}
 use Rattle.guild_model.specs.Record.{Record, closed}
@@ -20,7 +20,8 @@ use Rattle.session_core.specs.declared.reply.Mark.TheVariants.{Entry}
 use Rattle.session_core.specs.State.{State, Session, Place, Attached, Detached, Ended, is_on, is_live, has_link, has_session, released, opened, gone, begun}
 use Rattle.session_core.specs.Identify.{judged_of, identified, bot_of}
 use Rattle.session_core.specs.Frames.{Move, Nothing, Answers, Shuts, Begins, identify_move, first_move, read_move, move_of, moved}
-use Rattle.worker_core.specs.World.{Seen, Cursors, cursors, seen_with, Told, told, Sent, Worker, sends, after_entry, entry_sends, entered, looked, look_sends, begins_with}
+use Rattle.session_core.specs.Ends.{is_final, is_overdue, lost, all_gone, left_of, left, client_closed, kept_for, expired, ticked, silent_of}
+use Rattle.worker_core.specs.World.{ended_at, Seen, Cursors, cursors, seen_with, Told, told, Sent, Worker, sends, after_entry, entry_sends, entered, looked, look_sends, begins_with}
 use Rattle.worker_core.specs.Spent.{is_past, entry_spends, look_spends, told_spends, kept_spends}
 use Rattle.worker_core.specs.Kept.{counted, kept_session, kept, told_more, told_sends, kept_looked, kept_sends}
 use Rattle.worker_core.proofs.Lists.{append_none, map_join}
@@ -217,3 +218,75 @@ opened_kept s conn now = by_link (has_link conn s) (nat_lt (length s.links) 64)
     by_link true c = refl
     by_link false true = refl
     by_link false false = refl
+
+-- what ends, or is lost
+
+each_through : {A B : Type 0} (h : A → List B) (f : A → List A) (f' : B → List B) → ((x : A) → flat_map h (f x) ≡ flat_map f' (h x))
+    → (xs : List A) → flat_map h (flat_map f xs) ≡ flat_map f' (flat_map h xs)
+each_through h f f' one [] = refl
+each_through h f f' one (x ∷ xs) =
+    flat_map_join h (f x) (flat_map f xs)
+    ∙ (ap (λ ys. ys ++ flat_map h (flat_map f xs)) (one x)
+    ∙ (ap (λ ys. flat_map f' (h x) ++ ys) (each_through h f f' one xs) ∙ sym (flat_map_join f' (h x) (flat_map h xs))))
+
+gone_kept : (s : State Sent) (conn now : ℕ) → kept (gone conn (Detached now) s) ≡ gone conn (Detached now) (kept s)
+gone_kept s conn now = ap (λ xs. record (gone conn (Detached now) (kept s)) { sessions = xs }) (each_released conn now s.sessions)
+
+pub lost_kept : (s : State Sent) (conn now : ℕ) → kept (lost conn now s) ≡ lost conn now (kept s)
+lost_kept s conn now = by_link (has_link conn s)
+  where
+    by_link : (b : Bool) → kept (if b then gone conn (Detached now) s else s) ≡ (if b then gone conn (Detached now) (kept s) else kept s)
+    by_link true = gone_kept s conn now
+    by_link false = refl
+
+-- of a session that has ended nothing is kept
+abbrev forgotten : Session ℕ → List (Session ℕ)
+forgotten x = []
+
+module _ (last : Cursors) where
+  left_one : (conn : ℕ) (x : Session Sent) → flat_map kept_session (left_of (ended_at last) conn x) ≡ flat_map (left_of forgotten conn) (kept_session x)
+  left_one conn x = by_place x.place
+    where
+      by_test : (c : ℕ) (b : Bool) → flat_map kept_session (if b then ended_at last (record x { place = Attached c }) else record x { place = Attached c } ∷ [])
+          ≡ (if b then [] else record (counted x) { place = Attached c } ∷ []) ++ []
+      by_test c true = refl
+      by_test c false = refl
+
+      by_place : (place : Place) → flat_map kept_session (left_of (ended_at last) conn (record x { place = place })) ≡ flat_map (left_of forgotten conn) (kept_session (record x { place = place }))
+      by_place (Attached c) = by_test c (c == conn)
+      by_place (Detached since) = refl
+      by_place Ended = refl
+
+  kept_one : (now : ℕ) (x : Session Sent) → flat_map kept_session (kept_for (ended_at last) now x) ≡ flat_map (kept_for forgotten now) (kept_session x)
+  kept_one now x = by_place x.place
+    where
+      by_test : (since : ℕ) (b : Bool) → flat_map kept_session (if b then ended_at last (record x { place = Detached since }) else record x { place = Detached since } ∷ [])
+          ≡ (if b then [] else record (counted x) { place = Detached since } ∷ []) ++ []
+      by_test since true = refl
+      by_test since false = refl
+
+      by_place : (place : Place) → flat_map kept_session (kept_for (ended_at last) now (record x { place = place })) ≡ flat_map (kept_for forgotten now) (kept_session (record x { place = place }))
+      by_place (Attached c) = refl
+      by_place (Detached since) = by_test since (nat_le (since + 180000) now)
+      by_place Ended = refl
+
+  pub closed_kept : (s : State Sent) (conn code now : ℕ) → kept (client_closed (ended_at last) conn code now s) ≡ client_closed forgotten conn code now (kept s)
+  closed_kept s conn code now = by_code (is_final code) (has_link conn s)
+    where
+      by_code : (final there : Bool) → kept (if final then (if there then left (ended_at last) conn s else s) else lost conn now s)
+          ≡ (if final then (if there then left forgotten conn (kept s) else kept s) else lost conn now (kept s))
+      by_code false there = lost_kept s conn now
+      by_code true false = refl
+      by_code true true = ap (λ xs. record (left forgotten conn (kept s)) { sessions = xs }) (each_through kept_session (left_of (ended_at last) conn) (left_of forgotten conn) (left_one conn) s.sessions)
+
+  all_gone_kept : (conns : List ℕ) (now : ℕ) (s : State Sent) → kept (all_gone conns now s) ≡ all_gone conns now (kept s)
+  all_gone_kept [] now s = refl
+  all_gone_kept (conn ∷ conns) now s = all_gone_kept conns now (gone conn (Detached now) s) ∙ ap (all_gone conns now) (gone_kept s conn now)
+
+  expired_kept : (s : State Sent) (now : ℕ) → kept (expired (ended_at last) now s) ≡ expired forgotten now (kept s)
+  expired_kept s now = ap (λ xs. record (kept s) { sessions = xs }) (each_through kept_session (kept_for (ended_at last) now) (kept_for forgotten now) (kept_one now) s.sessions)
+
+  pub ticked_kept : (s : State Sent) (now : ℕ) → kept (ticked (ended_at last) now s) ≡ ticked forgotten now (kept s)
+  ticked_kept s now =
+      expired_kept (all_gone (silent_of now s.links) now s) now
+      ∙ ap (expired forgotten now) (all_gone_kept (silent_of now s.links) now s)

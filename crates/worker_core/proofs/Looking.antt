@@ -42,7 +42,7 @@ here_at xs i lt =
 pub note_at : (ns : List Was) (f : Session ℕ → Was) (xs : List (Session ℕ)) (i : ℕ) (x : Session ℕ) (d : Was) → ns ≡ map f xs → slice_get xs i ≡ Some x → get_or ns i d ≡ f x
 note_at ns f xs i x d all found = get_or_from_slice_get ns i (f x) d (ap (λ ms. slice_get ms i) all ∙ (slice_get-map f xs i ∙ ap (option_map f) found))
 
-owed_accepted : (s : Record) (e : Edit) (v : Viewer) → accepts s e ≡ true → due_between (applied s e) v (serves v s) (served v (applied s e)) e ≡ owed s e v
+owed_accepted : (s : Record) (e : Edit) (v : Viewer) → accepts s e ≡ true → due_between (applied s e) v (was_of s v e) (served v (applied s e)) e ≡ owed s e v
 unfolding owed
 owed_accepted s e v accepted = simp accepted refl
 
@@ -62,7 +62,7 @@ module _ (s : Record) (e : Edit) (old : State ℕ) where
 
   module _ (g : Record) (was : Was) (mid : State ℕ) (before outm : List Written) (i : ℕ) (lt : i < length xs) (here : Here xs i) (told : Told i mid before outm) where
     abbrev due_to : Session ℕ → List Dispatch
-    due_to y = due_between g y.viewer was.served (served y.viewer g) e
+    due_to y = due_between g y.viewer was (served y.viewer g) e
 
     between : IsAt i (map (told_more s e) (take i xs)) here.item (drop (i + 1) xs) mid
     between = (
@@ -72,8 +72,8 @@ module _ (s : Record) (e : Edit) (old : State ℕ) where
 
     same_due : g ≡ applied s e → accepts s e ≡ true → was ≡ was_of s here.item.viewer e → due_to here.item ≡ owed s e here.item.viewer
     same_due is accepted noted =
-        ap (λ (w : Was). due_between g here.item.viewer w.served (served here.item.viewer g) e) noted
-        ∙ (ap (λ h. due_between h here.item.viewer (serves here.item.viewer s) (served here.item.viewer h) e) is ∙ owed_accepted s e here.item.viewer accepted)
+        ap (λ (w : Was). due_between g here.item.viewer w (served here.item.viewer g) e) noted
+        ∙ (ap (λ h. due_between h here.item.viewer (was_of s here.item.viewer e) (served here.item.viewer h) e) is ∙ owed_accepted s e here.item.viewer accepted)
 
     pub each_more : g ≡ applied s e → accepts s e ≡ true → was ≡ was_of s here.item.viewer e → (new : State ℕ) (out : List Written)
         → TellsAt i due_to mid new outm out → Told (i + 1) new before out

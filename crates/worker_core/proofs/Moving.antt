@@ -1,6 +1,7 @@
 -- What the calls of a step leave, taken together, is the step.
 use Rattle.std.proofs.Common.{◌≡◌, ℕ, ◌+◌, ◌≤◌, List, [], ◌∷◌, ◌++◌, suc, zero, Bool, true, false, Some, Result, Ok, Err, if◌then◌else◌, length, map, drop, refl, sym, ap, subst, ◌∙◌, arith}
-use Rattle.std.specs.Prelude.{◌==◌, ◌||◌, nat_lt, IsSome, is_some, MatchResult}
+use Rattle.std.specs.Prelude.{◌==◌, ◌||◌, nat_lt, max, flat_map, IsSome, is_some, MatchResult}
+use Rattle.std.specs.List.{list_all}
 use Rattle.std.proofs.lemmas.Bool.Decides.{nat_tests}
 use Rattle.collections.specs.ById.{find_id, put_id, put_all, IsById}
 use Rattle.collections.proofs.Ids.{IsById-put}
@@ -15,20 +16,21 @@ use Rattle.session_core.specs.declared.fault.SessionFault.TheVariants as session
 use Rattle.session_core.specs.declared.reply.Reply.{Reply}
 use Rattle.session_core.specs.declared.reply.Reply.TheVariants as reply
 use Rattle.session_core.specs.State.{Session, Attached, has_link, open_replies, begun}
+use Rattle.session_core.specs.Ends.{closes, silent_of, tick_replies}
 use Rattle.session_core.specs.Frames.{Move, Nothing, Answers, Shuts, Begins, move_of, move_replies, is_spent}
 use Rattle.worker_core.specs.declared.replica.Replica.{Replica}
 use Rattle.worker_core.specs.declared.io.Output.{Output as Written}
 use Rattle.worker_core.specs.declared.io.StepFault.{StepFault}
 use Rattle.worker_core.specs.declared.io.StepFault.TheVariants.{Spent}
-use Rattle.worker_core.specs.World.{Worker, Look, Open, Frame, taken, Says, Closes}
+use Rattle.worker_core.specs.World.{Worker, Look, Open, Frame, Lost, Closed, Tick, tick_sends, taken, Says, Closes}
 use Rattle.worker_core.specs.Faults.{step_fault}
 use Rattle.worker_core.specs.Kept.{kept_looked, kept_sends}
-use Rattle.worker_core.specs.Outputs.{all_written}
+use Rattle.worker_core.specs.Outputs.{written, all_written}
 use Rattle.worker_core.specs.Spent.{is_past, kept_spends}
 use Rattle.worker_core.specs.Telling.{FaultBy, kept_with}
-use Rattle.worker_core.specs.Stands.{replica_id, replica, looked_replica, KeptWorker, Stands, Steps, Fails, after_look, after_open, after_frame, kept_count, kept_frame_sends, kept_frame_spends, Replies, RepliesNot}
+use Rattle.worker_core.specs.Stands.{replica_id, replica, looked_replica, KeptWorker, Stands, Steps, Fails, after_look, after_open, after_frame, kept_count, kept_frame_sends, kept_frame_spends, after_lost, after_closed, after_tick, Greets, GreetsNot, Replies, RepliesNot, is_plain, plain}
 use Rattle.worker_core.proofs.Logs.{from_id}
-use Rattle.worker_core.proofs.Standing.{by_id_replicas, looks_at_one, opens, frames}
+use Rattle.worker_core.proofs.Standing.{by_id_replicas, looks_at_one, opens, frames, losses, leaves, ticks}
 
 abbrev pub empty : ℕ → Replica
 empty g = record { guild = closed g }
@@ -99,12 +101,36 @@ module _ (k : KeptWorker) (g : ℕ) (es : List Edit) (r : Replica) (found : find
 -- ---- the replies of a call
 
 module _ (k k1 new : KeptWorker) (out : List Written) where
-  -- what a list of at most one reply leaves
+  -- what a list of replies leaves
   abbrev pub Replied : List Reply → Type 0
-  Replied replies = (replies ≡ [] → (new ≡ k1) × (out ≡ [])) × ((r : Reply) → replies ≡ r ∷ [] → Replies r k1 new [] out)
+  Replied replies = (list_all is_plain replies ≡ true → (new ≡ k1) × (out ≡ flat_map plain replies)) × ((n : ℕ) → replies ≡ reply.Begin n ∷ [] → Greets k1 n new [] out)
 
 abbrev pub RepliedNot : KeptWorker → StepFault → List Reply → Type 0
-RepliedNot k1 fault replies = (replies ≡ [] → FaultBy false fault) × ((r : Reply) → replies ≡ r ∷ [] → RepliesNot r k1 fault)
+RepliedNot k1 fault replies = (list_all is_plain replies ≡ true → FaultBy false fault) × ((n : ℕ) → replies ≡ reply.Begin n ∷ [] → GreetsNot k1 n fault)
+
+-- one reply more
+pub plain_reply : (r : Reply) (old new : KeptWorker) (before out : List Written) → is_plain r ≡ true → Replies r old new before out → (new ≡ old) × (out ≡ before ++ plain r)
+plain_reply (reply.Send conn payload) old new before out is done = done
+plain_reply (reply.Close conn code) old new before out is done = done
+plain_reply (reply.Begin n) old new before out is done = absurd (cc is)
+
+pub plain_fails : (r : Reply) (old : KeptWorker) (fault : StepFault) → is_plain r ≡ true → RepliesNot r old fault → FaultBy false fault
+plain_fails (reply.Send conn payload) old fault is done = done
+plain_fails (reply.Close conn code) old fault is done = done
+plain_fails (reply.Begin n) old fault is done = absurd (cc is)
+
+-- a session that begins is the only reply
+pub alone : (before rest : List Reply) (r : Reply) (n : ℕ) → before ++ r ∷ rest ≡ reply.Begin n ∷ [] → (before ≡ []) × (r ≡ reply.Begin n)
+alone [] rest r n is = (refl, cc)
+alone (b ∷ []) rest r n is = absurd (cc)
+alone (b ∷ c ∷ before) rest r n is = absurd (cc)
+
+pub still_first : (before : List Reply) (now old : KeptWorker) → before ≡ [] → (list_all is_plain before ≡ true → now ≡ old) → now ≡ old
+still_first before now old none same = same (ap (list_all is_plain) none)
+
+pub nothing_left : {A : Type 0} (xs : List A) → length xs ≡ 0 → xs ≡ []
+nothing_left [] none = refl
+nothing_left (x ∷ xs) none = absurd (omega arith)
 
 -- a connection that opens
 module _ (k : KeptWorker) (w : Worker) (stands : Stands k w) (conn : ℕ) (k1 : KeptWorker) (moved_to : k1 ≡ after_open k conn) where
@@ -117,8 +143,8 @@ module _ (k : KeptWorker) (w : Worker) (stands : Stands k w) (conn : ℕ) (k1 : 
       by_room : (b c : Bool) → let replies = if b then [] else (if c then reply.Send conn (Hello 41250) ∷ [] else reply.Close conn 4000 ∷ []) in
           Replied k k1 new out replies → (new ≡ k1) × (out ≡ all_written (if b then [] else (if c then Says conn (Hello 41250) ∷ [] else Closes conn 4000 ∷ [])))
       by_room true c told = told.0 refl
-      by_room false true told = told.1 (reply.Send conn (Hello 41250)) refl
-      by_room false false told = told.1 (reply.Close conn 4000) refl
+      by_room false true told = told.0 refl
+      by_room false false told = told.0 refl
 
   pub open_fails : (fault : StepFault) → RepliedNot k1 fault (open_replies conn k.core) → Fails w (Open conn) fault
   open_fails fault told = by_room (has_link conn k.core) (nat_lt (length k.core.links) 64) told
@@ -126,15 +152,15 @@ module _ (k : KeptWorker) (w : Worker) (stands : Stands k w) (conn : ℕ) (k1 : 
       by_room : (b c : Bool) → let replies = if b then [] else (if c then reply.Send conn (Hello 41250) ∷ [] else reply.Close conn 4000 ∷ []) in
           RepliedNot k1 fault replies → FaultBy false fault
       by_room true c told = told.0 refl
-      by_room false true told = told.1 (reply.Send conn (Hello 41250)) refl
-      by_room false false told = told.1 (reply.Close conn 4000) refl
+      by_room false true told = told.0 refl
+      by_room false false told = told.0 refl
 
   pub open_ends : {V : Type 0} (items : V → List Written) (result : Result V StepFault) (new : KeptWorker) (replies : List Reply) → replies ≡ open_replies conn k.core
-      → (replies ≡ [] → MatchResult result (λ out. (new ≡ k1) × (items out ≡ [])) (FaultBy false))
-      → ((r : Reply) → replies ≡ r ∷ [] → MatchResult result (λ out. Replies r k1 new [] (items out)) (RepliesNot r k1))
+      → (list_all is_plain replies ≡ true → MatchResult result (λ out. (new ≡ k1) × (items out ≡ flat_map plain replies)) (FaultBy false))
+      → ((n : ℕ) → replies ≡ reply.Begin n ∷ [] → MatchResult result (λ out. Greets k1 n new [] (items out)) (GreetsNot k1 n))
       → MatchResult result (λ out. Steps w (Open conn) new (items out)) (Fails w (Open conn))
-  open_ends items (Ok out) new replies is none one = open_made new (items out) (λ e. none (is ∙ e), λ r e. one r (is ∙ e))
-  open_ends items (Err fault) new replies is none one = open_fails fault (λ e. none (is ∙ e), λ r e. one r (is ∙ e))
+  open_ends items (Ok out) new replies is all begins = open_made new (items out) (subst (Replied k k1 new (items out)) is (all, begins))
+  open_ends items (Err fault) new replies is all begins = open_fails fault (subst (RepliedNot k1 fault) is (all, begins))
 
 -- a frame
 module _ (k : KeptWorker) (conn : ℕ) where
@@ -155,14 +181,14 @@ module _ (k : KeptWorker) (conn : ℕ) where
       → Replied k k1 new out (move_replies conn move k.core)
       → (new ≡ after_frame k conn move (kept_count k)) × ((out ≡ all_written (kept_frame_sends k conn move)) × (kept_frame_spends k move ≡ false))
   move_made k1 new out Nothing is counted told = ((told.0 refl).0 ∙ is, ((told.0 refl).1, refl))
-  move_made k1 new out Answers is counted told = ((told.1 (reply.Send conn Ack) refl).0 ∙ is, ((told.1 (reply.Send conn Ack) refl).1, refl))
-  move_made k1 new out (Shuts code) is counted told = ((told.1 (reply.Close conn code) refl).0 ∙ is, ((told.1 (reply.Close conn code) refl).1, refl))
-  move_made k1 new out (Begins bot v) is counted told = from_start k1 is (told.1 (reply.Begin (k.core.made + 1)) refl)
+  move_made k1 new out Answers is counted told = ((told.0 refl).0 ∙ is, ((told.0 refl).1, refl))
+  move_made k1 new out (Shuts code) is counted told = ((told.0 refl).0 ∙ is, ((told.0 refl).1, refl))
+  move_made k1 new out (Begins bot v) is counted told = from_start k1 is (told.1 (k.core.made + 1) refl)
     where
-      from_start : (k1 : KeptWorker) → k1 ≡ after_frame k conn (Begins bot v) none_yet → Replies (reply.Begin (k.core.made + 1)) k1 new [] out
+      from_start : (k1 : KeptWorker) → k1 ≡ after_frame k conn (Begins bot v) none_yet → Greets k1 (k.core.made + 1) new [] out
           → (new ≡ after_frame k conn (Begins bot v) (kept_count k)) × ((out ≡ all_written (kept_frame_sends k conn (Begins bot v))) × (kept_frame_spends k (Begins bot v) ≡ false))
       from_start k1 is greets =
-          let here = subst (λ (h : KeptWorker). Replies (reply.Begin (k.core.made + 1)) h new [] out) is greets in
+          let here = subst (λ (h : KeptWorker). Greets h (k.core.made + 1) new [] out) is greets in
           let all = here k.core.sessions (begun_with bot v 0) refl in (
             all.0 ∙ ap (λ n. record k { core = kept_with (k.core.sessions ++ begun_with bot v n ∷ []) (begun conn bot v (none_yet bot v) k.core) }) (none_more (first_count bot v)),
             (
@@ -174,10 +200,10 @@ module _ (k : KeptWorker) (conn : ℕ) where
   move_fails : (k1 : KeptWorker) (fault : StepFault) (move : Move) → k1 ≡ after_frame k conn move none_yet → is_spent move k.core ≡ false
       → RepliedNot k1 fault (move_replies conn move k.core) → FaultBy (kept_frame_spends k move) fault
   move_fails k1 fault Nothing is counted told = told.0 refl
-  move_fails k1 fault Answers is counted told = told.1 (reply.Send conn Ack) refl
-  move_fails k1 fault (Shuts code) is counted told = told.1 (reply.Close conn code) refl
+  move_fails k1 fault Answers is counted told = told.0 refl
+  move_fails k1 fault (Shuts code) is counted told = told.0 refl
   move_fails k1 fault (Begins bot v) is counted told =
-      let here = subst (λ (h : KeptWorker). RepliesNot (reply.Begin (k.core.made + 1)) h fault) is (told.1 (reply.Begin (k.core.made + 1)) refl) in
+      let here = subst (λ (h : KeptWorker). GreetsNot h (k.core.made + 1) fault) is (told.1 (k.core.made + 1) refl) in
       let past = here k.core.sessions (begun_with bot v 0) refl in
       subst (λ b. FaultBy (b || is_past 0 (first_count bot v)) fault) (sym counted) past
 
@@ -207,15 +233,51 @@ module _ (k : KeptWorker) (conn : ℕ) where
 
     pub frame_ends : {V : Type 0} (items : V → List Written) (result : Result V StepFault) (k1 new : KeptWorker) (replies : List Reply) → replies ≡ move_replies conn move k.core
         → k1 ≡ after_frame k conn move none_yet → is_spent move k.core ≡ false
-        → (replies ≡ [] → MatchResult result (λ out. (new ≡ k1) × (items out ≡ [])) (FaultBy false))
-        → ((r : Reply) → replies ≡ r ∷ [] → MatchResult result (λ out. Replies r k1 new [] (items out)) (RepliesNot r k1))
+        → (list_all is_plain replies ≡ true → MatchResult result (λ out. (new ≡ k1) × (items out ≡ flat_map plain replies)) (FaultBy false))
+        → ((n : ℕ) → replies ≡ reply.Begin n ∷ [] → MatchResult result (λ out. Greets k1 n new [] (items out)) (GreetsNot k1 n))
         → MatchResult result (λ out. Steps w (Frame conn text) new (items out)) (Fails w (Frame conn text))
-    frame_ends items (Ok out) k1 new replies is moved_to counted none one = frame_made k1 new (items out) moved_to counted (λ e. none (is ∙ e), λ r e. one r (is ∙ e))
-    frame_ends items (Err fault) k1 new replies is moved_to counted none one = frame_fails k1 fault moved_to counted (λ e. none (is ∙ e), λ r e. one r (is ∙ e))
+    frame_ends items (Ok out) k1 new replies is moved_to counted all begins = frame_made k1 new (items out) moved_to counted (subst (Replied k k1 new (items out)) is (all, begins))
+    frame_ends items (Err fault) k1 new replies is moved_to counted all begins = frame_fails k1 fault moved_to counted (subst (RepliedNot k1 fault) is (all, begins))
 
     pub frame_refused : (fault : SessionFault) → (fault ≡ session.Spent → is_spent move k.core ≡ true) → Fails w (Frame conn text) (step_fault fault)
     frame_refused session.Spent spent = frame_spent (spent refl)
     frame_refused session.Memory spent = tt
+
+-- what ends, or is lost
+module _ (k : KeptWorker) (w : Worker) (stands : Stands k w) where
+  pub lost_made : (conn : ℕ) (new : KeptWorker) (out : List Written) → new ≡ after_lost k conn → out ≡ [] → Steps w (Lost conn) new out
+  lost_made conn new out is none =
+      let step = losses k w stands conn in
+      (subst (λ (h : KeptWorker). Stands h (taken w (Lost conn))) (sym is) step.0, (none, refl))
+
+  pub closed_made : (conn code : ℕ) (new : KeptWorker) (out : List Written) → new ≡ after_closed k conn code → out ≡ [] → Steps w (Closed conn code) new out
+  closed_made conn code new out is none =
+      let step = leaves k w stands conn code in
+      (subst (λ (h : KeptWorker). Stands h (taken w (Closed conn code))) (sym is) step.0, (none, refl))
+
+  module _ (now : ℕ) where
+    abbrev moment : ℕ
+    moment = max k.now now
+
+    are_plain : (conns : List ℕ) → list_all is_plain (closes conns) ≡ true
+    are_plain [] = refl
+    are_plain (conn ∷ conns) = are_plain conns
+
+    plain_closes : (conns : List ℕ) → flat_map plain (closes conns) ≡ all_written (map (λ conn. Closes conn 4000) conns)
+    plain_closes [] = refl
+    plain_closes (conn ∷ conns) = ap (λ out. written (Closes conn 4000) ∷ out) (plain_closes conns)
+
+    pub tick_ends : {V : Type 0} (items : V → List Written) (result : Result V StepFault) (k1 new : KeptWorker) (replies : List Reply) → replies ≡ tick_replies moment k.core
+        → k1 ≡ after_tick k moment
+        → (list_all is_plain replies ≡ true → MatchResult result (λ out. (new ≡ k1) × (items out ≡ flat_map plain replies)) (FaultBy false))
+        → MatchResult result (λ out. Steps w (Tick now) new (items out)) (Fails w (Tick now))
+    tick_ends items (Ok out) k1 new replies is moved_to all =
+        let step = ticks k w stands now in
+        let done = all (ap (list_all is_plain) is ∙ are_plain (silent_of moment k.core.links)) in (
+          subst (λ (h : KeptWorker). Stands h (taken w (Tick now))) (sym (done.0 ∙ moved_to)) step.0,
+          (done.1 ∙ (ap (flat_map plain) is ∙ (plain_closes (silent_of moment k.core.links) ∙ ap all_written (sym step.1.0))), refl),
+        )
+    tick_ends items (Err fault) k1 new replies is moved_to all = all (ap (list_all is_plain) is ∙ are_plain (silent_of moment k.core.links))
 
 -- ---- the first worker
 

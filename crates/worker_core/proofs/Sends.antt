@@ -1,6 +1,6 @@
 -- Each dispatch that goes out has its number in the session that the connection has.
 use Rattle.std.proofs.Common.{◌≡◌, ℕ, ◌+◌, List, [], ◌∷◌, ◌++◌, Bool, true, false, if◌then◌else◌, length, map, refl, sym, ap, subst, ◌∙◌, append_assoc, inl, inr}
-use Rattle.std.specs.Prelude.{All, flat_map, nat_lt}
+use Rattle.std.specs.Prelude.{All, flat_map, max, nat_lt}
 use Rattle.std.proofs.lemmas.List.Elements.{All-append, All-cons, All-nil, All-weaker}
 use Rattle.std.proofs.lemmas.List.{length-append, length-map}
 use Rattle.dispatch_types.specs.declared.dispatch.Dispatch.{Dispatch}
@@ -12,7 +12,8 @@ use Rattle.session_core.specs.declared.bot.Bot.{Bot}
 use Rattle.session_core.specs.declared.reply.Mark.TheVariants.{Start, Entry}
 use Rattle.session_core.specs.State.{State, Session, Place, Attached, Detached, Ended, is_on, has_link, opened, gone}
 use Rattle.session_core.specs.Frames.{Move, Nothing, Answers, Shuts, Begins, move_of}
-use Rattle.worker_core.specs.World.{Seen, cursors, seen_with, Told, told, Sent, Worker, Output, Says, Tells, Closes, sends, after_entry, entry_owed, entry_sends, entered, looked, look_sends, first_dispatches, begins_with, Look, Open, Frame, framed, frame_sends, open_sends}
+use Rattle.session_core.specs.Ends.{silent_of}
+use Rattle.worker_core.specs.World.{Seen, cursors, seen_with, Told, told, Sent, Worker, Output, Says, Tells, Closes, sends, after_entry, entry_owed, entry_sends, entered, looked, look_sends, first_dispatches, begins_with, Look, Open, Frame, Lost, Closed, Tick, framed, frame_sends, open_sends, taken}
 use Rattle.worker_core.specs.Law.{dispatch_of, IsNumber, HasSent, OutputHolds, EachSendHolds}
 use Rattle.worker_core.proofs.Lists.{map_join}
 use Rattle.worker_core.proofs.Folds.{dispatches_told, same_id}
@@ -117,6 +118,10 @@ open_holds w conn = by_link (has_link conn w.core) (nat_lt (length w.core.links)
     by_link false true = one_holds w.core.sessions (Says conn (Hello 41250)) tt
     by_link false false = one_holds w.core.sessions (Closes conn 4000) tt
 
+tick_holds : (xs : List (Session Sent)) (conns : List ℕ) → All (OutputHolds xs) (map (λ conn. Closes conn 4000) conns)
+tick_holds xs [] = All-nil (OutputHolds xs)
+tick_holds xs (conn ∷ conns) = All-cons (OutputHolds xs) (Closes conn 4000) (map (λ conn. Closes conn 4000) conns) tt (tick_holds xs conns)
+
 pub each_send_holds : EachSendHolds
 unfolding EachSendHolds
 each_send_holds w (Look g es) = by_there (contains g w.guilds)
@@ -126,3 +131,6 @@ each_send_holds w (Look g es) = by_there (contains g w.guilds)
     by_there false = All-nil (OutputHolds w.core.sessions)
 each_send_holds w (Open conn) = open_holds w conn
 each_send_holds w (Frame conn text) = frame_holds w conn (move_of w.core conn text)
+each_send_holds w (Lost conn) = All-nil (OutputHolds (taken w (Lost conn)).core.sessions)
+each_send_holds w (Closed conn code) = All-nil (OutputHolds (taken w (Closed conn code)).core.sessions)
+each_send_holds w (Tick now) = tick_holds (taken w (Tick now)).core.sessions (silent_of (max w.now now) w.core.links)

@@ -7,7 +7,7 @@ use Rattle.dispatch_types.specs.declared.viewer.Viewer.{Viewer}
 use Rattle.dispatch_types.specs.declared.dispatch.Dispatch.{Dispatch}
 use Rattle.edit_apply.specs.Edits.{state}
 use Rattle.edit_apply.specs.declared.Edit.{Edit}
-use Rattle.edit_events.specs.Law.{Agrees, is_built_viewer}
+use Rattle.edit_events.specs.Law.{Agrees}
 use Rattle.session_core.specs.declared.reply.Mark.{Mark}
 use Rattle.worker_core.specs.World.{Seen, Cursors, cursors, Told, told}
 use Rattle.worker_core.specs.Law.{held, IsSettled, until_next, Holds, Rises}
@@ -22,11 +22,11 @@ told_at mark b a (d ∷ ds) (f ∷ front) t rest e = told_at mark b a ds front t
 
 -- what holds of all that was sent to a viewer, by what was looked at and its last cursors
 pub record Meets (seen : Seen) (last : Cursors) (v : Viewer) (sent : List Told) : Type 0 where
-  pub folds : is_built_viewer v ≡ true → Holds seen last v sent
+  pub folds : Holds seen last v sent
   pub rises : Rises last sent
   pub within : (g : ℕ) → last g ≤ length (seen g)
   pub past : All (λ t. (g : ℕ) → t.before g ≤ last g) sent
-  pub current : is_built_viewer v ≡ true → (g : ℕ) → Agrees (state g (take (last g) (seen g))) v (held v g sent)
+  pub current : (g : ℕ) → Agrees (state g (take (last g) (seen g))) v (held v g sent)
 
 module _ (last : Cursors) (sent : List Told) (past : All (λ t. (g : ℕ) → t.before g ≤ last g) sent) (earlier : List Told) (t : Told) (g p : ℕ) where
   -- a span ends before the last cursors
@@ -42,13 +42,13 @@ pub grown : (was is : Seen) (last : Cursors) (v : Viewer) (sent : List Told)
     → ((g p : ℕ) → p ≤ last g → take p (is g) ≡ take p (was g)) → ((g : ℕ) → last g ≤ length (is g))
     → Meets was last v sent → Meets is last v sent
 grown was is last v sent same within old = record {
-  folds = λ b earlier t later e settled g p low high.
+  folds = λ earlier t later e settled g p low high.
       subst (λ (es : List Edit). Agrees (state g es) v (held v g (earlier ++ t ∷ []))) (sym (same g p (span_within last sent old.past earlier t g p later e high)))
-      (old.folds b earlier t later e settled g p low high);
+      (old.folds earlier t later e settled g p low high);
   rises = old.rises;
   within = within;
   past = old.past;
-  current = λ b g. subst (λ (es : List Edit). Agrees (state g es) v (held v g sent)) (sym (same g (last g) (omega arith))) (old.current b g);
+  current = λ g. subst (λ (es : List Edit). Agrees (state g es) v (held v g sent)) (sym (same g (last g) (omega arith))) (old.current g);
 }
 
 settled_front : (t : Told) (mid rest : List Told) → IsSettled t (mid ++ rest) → IsSettled t mid
@@ -78,15 +78,15 @@ module _ (was is : Seen) (v : Viewer) (sent : List Told) (mark : Mark) (ds : Lis
     (same : (g p : ℕ) → p ≤ length (was g) → take p (is g) ≡ take p (was g))
     (up : (g : ℕ) → length (was g) ≤ length (is g))
     (near : (g p : ℕ) → p ≤ length (is g) → (p ≤ length (was g)) ⊎ (p ≡ length (is g)))
-    (folds : is_built_viewer v ≡ true → Holds was (cursors was) v sent)
+    (folds : Holds was (cursors was) v sent)
     (rises : Rises (cursors was) sent)
     (past : All (λ t. (g : ℕ) → t.before g ≤ cursors was g) sent)
-    (current : is_built_viewer v ≡ true → (g : ℕ) → Agrees (state g (is g)) v (held v g (sent ++ told mark (cursors was) (cursors is) ds)))
+    (current : (g : ℕ) → Agrees (state g (is g)) v (held v g (sent ++ told mark (cursors was) (cursors is) ds)))
   where
     abbrev batch : List Told
     batch = told mark (cursors was) (cursors is) ds
 
-    module _ (built : is_built_viewer v ≡ true) (earlier : List Told) (t : Told) (later : List Told) (settled : IsSettled t later) (g p : ℕ) (low : t.after g ≤ p) (high : p ≤ until_next (cursors is) later g) where
+    module _ (earlier : List Told) (t : Told) (later : List Told) (settled : IsSettled t later) (g p : ℕ) (low : t.after g ≤ p) (high : p ≤ until_next (cursors is) later g) where
       abbrev Claim : Type 0
       Claim = Agrees (state g (take p (is g))) v (held v g (earlier ++ t ∷ []))
 
@@ -96,11 +96,11 @@ module _ (was is : Seen) (v : Viewer) (sent : List Told) (mark : Mark) (ds : Lis
       -- where all that was sent is folded, and the prefix is all that was looked at
       whole : earlier ++ t ∷ [] ≡ sent ++ batch → p ≡ length (is g) → Claim
       whole e last =
-          let all : AtPrefix (is g) = subst (λ (ts : List Told). Agrees (state g (is g)) v (held v g ts)) (sym e) (current built g) in
+          let all : AtPrefix (is g) = subst (λ (ts : List Told). Agrees (state g (is g)) v (held v g ts)) (sym e) (current g) in
           subst AtPrefix (sym (ap (λ n. take n (is g)) last ∙ take-length (is g))) all
 
       before : (mid : List Told) → IsSettled t mid → sent ≡ earlier ++ t ∷ mid → p ≤ until_next (cursors was) mid g → Claim
-      before mid s e below = subst AtPrefix (sym (same g p (span_within (cursors was) sent past earlier t g p mid e below))) (folds built earlier t mid e s g p low below)
+      before mid s e below = subst AtPrefix (sym (same g p (span_within (cursors was) sent past earlier t g p mid e below))) (folds earlier t mid e s g p low below)
 
       last_one : (mid : List Told) → sent ≡ earlier ++ t ∷ mid → mid ≡ [] → ds ≡ [] → p ≤ length (is g) → Claim
       last_one mid e none nothing at_most = elim (near g p at_most) [
@@ -128,14 +128,14 @@ module _ (was is : Seen) (v : Viewer) (sent : List Told) (mark : Mark) (ds : Lis
 
     pub more_sent : Meets is (cursors is) v (sent ++ batch)
     more_sent = record {
-      folds = λ built earlier t later e settled g p low high.
-          by_split (Claim built earlier t later settled g p low high) sent batch earlier t later e
-          (in_sent built earlier t later settled g p low high)
-          (λ mid a b. in_batch built earlier t later settled g p low high mid a later refl b);
+      folds = λ earlier t later e settled g p low high.
+          by_split (Claim earlier t later settled g p low high) sent batch earlier t later e
+          (in_sent earlier t later settled g p low high)
+          (λ mid a b. in_batch earlier t later settled g p low high mid a later refl b);
       rises = rises_more mark (cursors was) (cursors is) up ds sent rises;
       within = λ g. omega arith;
       past = All-append (λ t. (g : ℕ) → t.before g ≤ cursors is g) sent batch
           (All-weaker (λ t. (g : ℕ) → t.before g ≤ cursors was g) (λ t. (g : ℕ) → t.before g ≤ cursors is g) (λ t h g. omega (arith, h g, up g)) sent past)
           (All-map (λ t. (g : ℕ) → t.before g ≤ cursors is g) (λ d. record { mark = mark; dispatch = d; before = cursors was; after = cursors is }) ds (λ k d h g. up g));
-      current = λ built g. subst (λ (es : List Edit). Agrees (state g es) v (held v g (sent ++ batch))) (sym (take-length (is g))) (current built g);
+      current = λ g. subst (λ (es : List Edit). Agrees (state g es) v (held v g (sent ++ batch))) (sym (take-length (is g))) (current g);
     }

@@ -1,7 +1,7 @@
 -- Each step of a worker's value, on what it keeps, is that of each worker that it stands for.
 use Rattle.worker_core.proofs.Logs.{state_id}
 use Rattle.std.proofs.Common.{◌≡◌, ℕ, ◌+◌, List, [], ◌∷◌, ◌++◌, Bool, true, false, Option, Some, None, if◌then◌else◌, length, map, refl, sym, ap, subst, ◌∙◌}
-use Rattle.std.specs.Prelude.{◌==◌, ◌||◌, filter, flat_map, is_some, option_map}
+use Rattle.std.specs.Prelude.{◌==◌, ◌||◌, filter, flat_map, is_some, max, option_map}
 use Rattle.std.proofs.lemmas.Bool.{eqb-true}
 use Rattle.std.proofs.lemmas.List.{length-map}
 use Rattle.collections.specs.ById.{find_id, put_id, has_id, IsById}
@@ -18,16 +18,17 @@ use Rattle.edit_apply.specs.declared.Edit.{Edit}
 use Rattle.session_core.specs.declared.bot.Bot.{Bot}
 use Rattle.session_core.specs.State.{State, Attached, opened, begun}
 use Rattle.session_core.specs.Frames.{Move, Nothing, Answers, Shuts, Begins, move_of, moved, is_spent}
+use Rattle.session_core.specs.Ends.{lost, client_closed, ticked}
 use Rattle.worker_core.specs.declared.replica.Replica.{Replica}
-use Rattle.worker_core.specs.World.{Seen, Worker, Input, entered, looked, look_sends, Look, Open, Frame, framed, frame_sends, open_sends, first_dispatches, listed_guilds, greeting_of, ready, sends, Output}
+use Rattle.worker_core.specs.World.{Seen, Worker, Input, cursors, tick_sends, entered, looked, look_sends, Look, Open, Frame, Lost, Closed, Tick, framed, frame_sends, open_sends, first_dispatches, listed_guilds, greeting_of, ready, sends, Output}
 use Rattle.worker_core.specs.Kept.{kept, kept_session, kept_looked, kept_sends}
-use Rattle.worker_core.specs.Stands.{replica_id, replica, looked_replica, KeptWorker, Stands, after_look, after_open, after_frame, kept_listed, kept_greeting, kept_ready, kept_first, kept_count, kept_frame_sends, kept_frame_spends, IsStep, Steps, LooksStand, LooksPast, OpensStand, FramesStand}
+use Rattle.worker_core.specs.Stands.{replica_id, replica, looked_replica, KeptWorker, Stands, after_look, after_open, after_frame, after_lost, after_closed, after_tick, LossesStand, LeavesStand, TicksStand, kept_listed, kept_greeting, kept_ready, kept_first, kept_count, kept_frame_sends, kept_frame_spends, IsStep, Steps, LooksStand, LooksPast, OpensStand, FramesStand}
 use Rattle.worker_core.specs.Outputs.{all_written}
 use Rattle.worker_core.specs.declared.io.Output.{Output as Written}
 use Rattle.worker_core.specs.Spent.{is_past, look_spends, frame_spends, kept_spends}
 use Rattle.worker_core.proofs.Folds.{state_join, same_id}
 use Rattle.worker_core.proofs.Worlds.{looked_seen}
-use Rattle.worker_core.proofs.Kept.{look_kept, look_sent, look_spent, move_kept, moved_kept, opened_kept, begins_count}
+use Rattle.worker_core.proofs.Kept.{look_kept, look_sent, look_spent, move_kept, moved_kept, opened_kept, begins_count, lost_kept, closed_kept, ticked_kept}
 
 -- a list of ids contains what it finds
 contains_found : (id : ℕ) (gs : List ℕ) → contains id gs ≡ has_id own_id id gs
@@ -254,6 +255,61 @@ module _ (k : KeptWorker) (w : Worker) (stands : Stands k w) where
       ap (λ m. frame_spends w m) (sym (frames_move conn text)) ∙ spent_by (move_of k.core conn text),
     ),
   )
+
+-- what ends, or is lost
+module _ (k : KeptWorker) (w : Worker) (stands : Stands k w) where
+  pub losses : (conn : ℕ) → IsStep w (Lost conn) (after_lost k conn) [] false
+  losses conn = (
+    record {
+      goes_on = stands.goes_on;
+      url = stands.url;
+      now = stands.now;
+      guilds = stands.guilds;
+      replicas = stands.replicas;
+      core = ap (λ c. lost conn k.now c) stands.core ∙ (ap (λ n. lost conn n (kept w.core)) stands.now ∙ sym (lost_kept w.core conn w.now));
+    },
+    (refl, refl),
+  )
+
+  pub leaves : (conn code : ℕ) → IsStep w (Closed conn code) (after_closed k conn code) [] false
+  leaves conn code = (
+    record {
+      goes_on = stands.goes_on;
+      url = stands.url;
+      now = stands.now;
+      guilds = stands.guilds;
+      replicas = stands.replicas;
+      core = ap (λ c. client_closed (λ x. []) conn code k.now c) stands.core
+          ∙ (ap (λ n. client_closed (λ x. []) conn code n (kept w.core)) stands.now ∙ sym (closed_kept (cursors w.seen) w.core conn code w.now));
+    },
+    (refl, refl),
+  )
+
+  pub ticks : (now : ℕ) → IsStep w (Tick now) (after_tick k (max k.now now)) (tick_sends (max k.now now) k.core) false
+  ticks now = (
+    record {
+      goes_on = stands.goes_on;
+      url = stands.url;
+      now = ap (λ n. max n now) stands.now;
+      guilds = stands.guilds;
+      replicas = stands.replicas;
+      core = ap (λ c. ticked (λ x. []) (max k.now now) c) stands.core
+          ∙ (ap (λ n. ticked (λ x. []) (max n now) (kept w.core)) stands.now ∙ sym (ticked_kept (cursors w.seen) w.core (max w.now now)));
+    },
+    (ap (λ n. tick_sends (max n now) w.core) (sym stands.now) ∙ ap (λ (c : State ℕ). tick_sends (max k.now now) c) (sym stands.core), refl),
+  )
+
+pub losses_stand : LossesStand
+unfolding LossesStand
+losses_stand k w stands conn = losses k w stands conn
+
+pub leaves_stand : LeavesStand
+unfolding LeavesStand
+leaves_stand k w stands conn code = leaves k w stands conn code
+
+pub ticks_stand : TicksStand
+unfolding TicksStand
+ticks_stand k w stands now = ticks k w stands now
 
 pub looks_stand : LooksStand
 unfolding LooksStand

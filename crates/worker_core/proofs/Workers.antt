@@ -3,8 +3,8 @@ use Rattle.edit_events.proofs.Keeps.{edit_keeps}
 use Rattle.edit_events.proofs.Others.{projection_stays, others_stay}
 use Rattle.worker_core.proofs.Logs.{state_is_well, state_id}
 use Rattle.std.proofs.Common.{◌≡◌, ℕ, ◌+◌, ◌≤◌, List, [], ◌∷◌, ◌++◌, Bool, true, false, Option, Some, None, if◌then◌else◌, length, take, refl, sym, ap, subst, ◌∙◌, arith, ◌⊎◌, inl}
-use Rattle.std.specs.Prelude.{All, ◌==◌, nat_lt}
-use Rattle.std.proofs.lemmas.List.Elements.{All-map, All-weaker, All-nil, All-push, All-head, All-tail}
+use Rattle.std.specs.Prelude.{All, ◌==◌, flat_map, max, nat_le, nat_lt}
+use Rattle.std.proofs.lemmas.List.Elements.{All-map, All-weaker, All-nil, All-cons, All-append, All-push, All-head, All-tail}
 use Rattle.std.proofs.lemmas.List.{take-append-le, length-append}
 use Rattle.std.proofs.Math.Seq.{take-length}
 use Rattle.std.proofs.lemmas.Bool.{eqb-true}
@@ -15,13 +15,14 @@ use Rattle.dispatch_types.specs.Fold.{Held, contains, purge, fold_from}
 use Rattle.edit_apply.specs.Edits.{after, state}
 use Rattle.edit_apply.specs.declared.Edit.{Edit}
 use Rattle.edit_events.specs.Due.{owed}
-use Rattle.edit_events.specs.Law.{Agrees, is_built, is_built_viewer}
+use Rattle.edit_events.specs.Law.{Agrees, is_built}
 use Rattle.session_core.specs.declared.bot.Bot.{Bot}
 use Rattle.session_core.specs.declared.reply.Mark.{Mark}
 use Rattle.session_core.specs.declared.reply.Mark.TheVariants.{Start, Entry}
-use Rattle.session_core.specs.State.{Session, Place, Attached, Detached, Ended, is_live, has_link, released, opened, gone, begun}
+use Rattle.session_core.specs.State.{State, Session, Place, Attached, Detached, Ended, is_live, has_link, released, opened, gone, begun}
 use Rattle.session_core.specs.Frames.{Move, Nothing, Answers, Shuts, Begins, move_of}
-use Rattle.worker_core.specs.World.{Seen, Cursors, cursors, seen_with, Told, told, Sent, Worker, after_entry, entered, looked, first_dispatches, begins_with, Input, Look, Open, Frame, framed, taken}
+use Rattle.session_core.specs.Ends.{is_final, lost, all_gone, left_of, left, client_closed, kept_for, silent_of}
+use Rattle.worker_core.specs.World.{Seen, Cursors, cursors, seen_with, Told, told, Sent, Worker, after_entry, entered, looked, first_dispatches, begins_with, Input, Look, Open, Frame, Lost, Closed, Tick, ended_at, framed, passed, taken}
 use Rattle.worker_core.specs.Law.{held, last_cursors}
 use Rattle.worker_core.proofs.Folds.{held_join, state_join}
 use Rattle.worker_core.proofs.Sessions.{Meets, grown, more_sent}
@@ -57,32 +58,32 @@ module _ (seen : Seen) (g : ℕ) (e : Edit) where
     abbrev pub ds : List Dispatch
     ds = owed (state g (seen g)) e v
 
-    held_now : is_built_viewer v ≡ true → (h : ℕ) → Agrees (state h (seen h)) v (held v h sent)
-    held_now can h = subst (λ (es : List Edit). Agrees (state h es) v (held v h sent)) (take-length (seen h)) (old.current can h)
+    held_now : (h : ℕ) → Agrees (state h (seen h)) v (held v h sent)
+    held_now h = subst (λ (es : List Edit). Agrees (state h es) v (held v h sent)) (take-length (seen h)) (old.current h)
 
-    own_more : is_built_viewer v ≡ true → Agrees (state g (seen g ++ e ∷ [])) v (fold_from v.intents g (held v g sent) ds)
-    own_more can =
+    own_more : Agrees (state g (seen g ++ e ∷ [])) v (fold_from v.intents g (held v g sent) ds)
+    own_more =
         let s : Record = state g (seen g) in
         let P : ℕ → Type 0 = λ n. Agrees (after s e) v (fold_from v.intents n (held v g sent) ds) in
-        let kept : P s.id = edit_keeps s e v (held v g sent) (state_is_well g (seen g)) built can (held_now can g) in
+        let kept : P s.id = edit_keeps s e v (held v g sent) (state_is_well g (seen g)) built (held_now g) in
         let here : P g = subst P (state_id g (seen g)) kept in
         subst (λ (t : Record). Agrees t v (fold_from v.intents g (held v g sent) ds)) (sym (state_join (closed g) (seen g) (e ∷ []))) here
 
-    others_more : is_built_viewer v ≡ true → (h : ℕ) → (g == h) ≡ false → Agrees (state h (seen h)) v (fold_from v.intents h (held v h sent) ds)
-    others_more can h differ =
+    others_more : (h : ℕ) → (g == h) ≡ false → Agrees (state h (seen h)) v (fold_from v.intents h (held v h sent) ds)
+    others_more h differ =
         let Q : ℕ → Type 0 = λ n. purge v.intents n (held v h sent) ≡ held v h sent in
-        let still : Q h = subst Q (state_id h (seen h)) (projection_stays (state h (seen h)) v (held v h sent) (state_is_well h (seen h)) (held_now can h)) in
+        let still : Q h = subst Q (state_id h (seen h)) (projection_stays (state h (seen h)) v (held v h sent) (state_is_well h (seen h)) (held_now h)) in
         let apart : ((state g (seen g)).id == h) ≡ false = ap (λ n. n == h) (state_id g (seen g)) ∙ differ in
-        subst (λ (hd : Held). Agrees (state h (seen h)) v hd) (sym (others_stay (state g (seen g)) e v h (held v h sent) built apart still)) (held_now can h)
+        subst (λ (hd : Held). Agrees (state h (seen h)) v hd) (sym (others_stay (state g (seen g)) e v h (held v h sent) built apart still)) (held_now h)
 
-    held_more : is_built_viewer v ≡ true → (h : ℕ) (b : Bool) → (g == h) ≡ b → Agrees (state h (if b then seen h ++ e ∷ [] else seen h)) v (fold_from v.intents h (held v h sent) ds)
-    held_more can h true same =
+    held_more : (h : ℕ) (b : Bool) → (g == h) ≡ b → Agrees (state h (if b then seen h ++ e ∷ [] else seen h)) v (fold_from v.intents h (held v h sent) ds)
+    held_more h true same =
         let here : g ≡ h = eqb-true g h same in
-        subst (λ (n : ℕ). Agrees (state n (seen n ++ e ∷ [])) v (fold_from v.intents n (held v n sent) ds)) here (own_more can)
-    held_more can h false differ = others_more can h differ
+        subst (λ (n : ℕ). Agrees (state n (seen n ++ e ∷ [])) v (fold_from v.intents n (held v n sent) ds)) here own_more
+    held_more h false differ = others_more h differ
 
-    held_after : is_built_viewer v ≡ true → (h : ℕ) → Agrees (state h (is h)) v (held v h (sent ++ told mark (cursors seen) (cursors is) ds))
-    held_after can h = subst (λ (hd : Held). Agrees (state h (is h)) v hd) (sym (held_join v h sent mark (cursors seen) (cursors is) ds)) (held_more can h (g == h) refl)
+    held_after : (h : ℕ) → Agrees (state h (is h)) v (held v h (sent ++ told mark (cursors seen) (cursors is) ds))
+    held_after h = subst (λ (hd : Held). Agrees (state h (is h)) v hd) (sym (held_join v h sent mark (cursors seen) (cursors is) ds)) (held_more h (g == h) refl)
 
     pub after_more : Meets is (cursors is) v (sent ++ told mark (cursors seen) (cursors is) ds)
     after_more = more_sent seen is v sent mark ds prefix_kept longer by_one old.folds old.rises old.past held_after
@@ -168,8 +169,8 @@ begun_follows : (w : Worker) (conn : ℕ) (bot : Bot) (v : Viewer) → Follows w
 begun_follows w conn bot v old = record {
   sessions = All-push (SessionMeets w.seen) w.core.sessions _ old.sessions (record {
     meets = more_sent w.seen w.seen v [] Start (first_dispatches w v bot (w.core.made + 1)) (λ g p le. refl) (λ g. omega arith) (λ g p le. inl le)
-        (λ can earlier t later e settled g p low high. absurd (none earlier t later e)) tt (All-nil (λ t. (g : ℕ) → t.before g ≤ cursors w.seen g))
-        (λ can h. subst (λ (hd : Held). Agrees (state h (w.seen h)) v hd) (sym (held_join v h [] Start (cursors w.seen) (cursors w.seen) (first_dispatches w v bot (w.core.made + 1))))
+        (λ earlier t later e settled g p low high. absurd (none earlier t later e)) tt (All-nil (λ t. (g : ℕ) → t.before g ≤ cursors w.seen g))
+        (λ h. subst (λ (hd : Held). Agrees (state h (w.seen h)) v hd) (sym (held_join v h [] Start (cursors w.seen) (cursors w.seen) (first_dispatches w v bot (w.core.made + 1))))
         (first_agrees w v h bot (w.core.made + 1) (old.strangers h)));
     marked = refl;
   });
@@ -194,11 +195,93 @@ opened_follows w conn old = by_link (has_link conn w.core) (nat_lt (length w.cor
     by_link false true = record { sessions = old.sessions; strangers = old.strangers }
     by_link false false = old
 
+-- what ends, or is lost
+
+each_all : {A : Type 0} (P : A → Type 0) (f : A → List A) → ((x : A) → P x → All P (f x)) → (xs : List A) → All P xs → All P (flat_map f xs)
+each_all P f one [] all = All-nil P
+each_all P f one (x ∷ xs) all = All-append P (f x) (flat_map f xs) (one x (All-head P x xs all)) (each_all P f one xs (All-tail P x xs all))
+
+single : (seen : Seen) (x : Session Sent) → SessionMeets seen x → All (SessionMeets seen) (x ∷ [])
+single seen x old = All-cons (SessionMeets seen) x [] old (All-nil (SessionMeets seen))
+
+-- a session that has not ended, as it ends
+ended_meets : (seen : Seen) (x : Session Sent) (place : Place) → Meets seen (cursors seen) x.viewer x.sent.told → All (SessionMeets seen) (ended_at (cursors seen) (at x place None))
+ended_meets seen x place old = All-cons (SessionMeets seen) _ [] (record { meets = old; marked = (cursors seen, refl) }) (All-nil (SessionMeets seen))
+
+left_meets : (seen : Seen) (conn : ℕ) (x : Session Sent) → SessionMeets seen x → All (SessionMeets seen) (left_of (ended_at (cursors seen)) conn x)
+left_meets seen conn x = by_place x.place x.sent.end
+  where
+    choose : (b : Bool) (c : ℕ) → SessionMeets seen (at x (Attached c) None) → All (SessionMeets seen) (if b then ended_at (cursors seen) (at x (Attached c) None) else at x (Attached c) None ∷ [])
+    choose true c old = ended_meets seen x (Attached c) old.meets
+    choose false c old = single seen (at x (Attached c) None) old
+
+    by_place : (place : Place) (end : Option Cursors) → SessionMeets seen (at x place end) → All (SessionMeets seen) (left_of (ended_at (cursors seen)) conn (at x place end))
+    by_place (Attached c) None old = choose (c == conn) c old
+    by_place (Attached c) (Some last) old = absurd (cc (old.marked))
+    by_place (Detached since) end old = single seen (at x (Detached since) end) old
+    by_place Ended end old = single seen (at x Ended end) old
+
+kept_meets : (seen : Seen) (now : ℕ) (x : Session Sent) → SessionMeets seen x → All (SessionMeets seen) (kept_for (ended_at (cursors seen)) now x)
+kept_meets seen now x = by_place x.place x.sent.end
+  where
+    choose : (b : Bool) (since : ℕ) → SessionMeets seen (at x (Detached since) None) → All (SessionMeets seen) (if b then ended_at (cursors seen) (at x (Detached since) None) else at x (Detached since) None ∷ [])
+    choose true since old = ended_meets seen x (Detached since) old.meets
+    choose false since old = single seen (at x (Detached since) None) old
+
+    by_place : (place : Place) (end : Option Cursors) → SessionMeets seen (at x place end) → All (SessionMeets seen) (kept_for (ended_at (cursors seen)) now (at x place end))
+    by_place (Attached c) end old = single seen (at x (Attached c) end) old
+    by_place (Detached since) None old = choose (nat_le (since + 180000) now) since old
+    by_place (Detached since) (Some last) old = absurd (cc (old.marked))
+    by_place Ended end old = single seen (at x Ended end) old
+
+abbrev with_core : Worker → State Sent → Worker
+with_core w s = record w { core = s }
+
+gone_at : (w : Worker) (conn now : ℕ) → Follows w → Follows (with_core w (gone conn (Detached now) w.core))
+gone_at w conn now old = record {
+  sessions = All-map (SessionMeets w.seen) (released conn (Detached now)) w.core.sessions
+      (All-weaker (SessionMeets w.seen) (λ x. SessionMeets w.seen (released conn (Detached now) x)) (released_meets w.seen conn now) w.core.sessions old.sessions);
+  strangers = old.strangers;
+}
+
+lost_follows : (w : Worker) (conn : ℕ) → Follows w → Follows (with_core w (lost conn w.now w.core))
+lost_follows w conn old = by_link (has_link conn w.core)
+  where
+    by_link : (b : Bool) → Follows (with_core w (if b then gone conn (Detached w.now) w.core else w.core))
+    by_link true = gone_at w conn w.now old
+    by_link false = record { sessions = old.sessions; strangers = old.strangers }
+
+closed_follows : (w : Worker) (conn code : ℕ) → Follows w → Follows (with_core w (client_closed (ended_at (cursors w.seen)) conn code w.now w.core))
+closed_follows w conn code old = by_code (is_final code) (has_link conn w.core)
+  where
+    by_code : (final there : Bool) → Follows (with_core w (if final then (if there then left (ended_at (cursors w.seen)) conn w.core else w.core) else lost conn w.now w.core))
+    by_code false there = lost_follows w conn old
+    by_code true false = record { sessions = old.sessions; strangers = old.strangers }
+    by_code true true = record {
+      sessions = each_all (SessionMeets w.seen) (left_of (ended_at (cursors w.seen)) conn) (left_meets w.seen conn) w.core.sessions old.sessions;
+      strangers = old.strangers;
+    }
+
+all_gone_follows : (conns : List ℕ) (now : ℕ) (w : Worker) → Follows w → Follows (with_core w (all_gone conns now w.core))
+all_gone_follows [] now w old = record { sessions = old.sessions; strangers = old.strangers }
+all_gone_follows (conn ∷ conns) now w old = all_gone_follows conns now (with_core w (gone conn (Detached now) w.core)) (gone_at w conn now old)
+
+ticked_follows : (w : Worker) (now : ℕ) → Follows w → Follows (passed w now)
+ticked_follows w now old =
+    let before : Follows (with_core w (all_gone (silent_of now w.core.links) now w.core)) = all_gone_follows (silent_of now w.core.links) now w old in
+    record {
+      sessions = each_all (SessionMeets w.seen) (kept_for (ended_at (cursors w.seen)) now) (kept_meets w.seen now) (all_gone (silent_of now w.core.links) now w.core).sessions before.sessions;
+      strangers = old.strangers;
+    }
+
 -- of a look, that its entries are built
 abbrev pub InputIsBuilt : Input → Type 0
 InputIsBuilt (Look g es) = All (λ e. is_built e ≡ true) es
 InputIsBuilt (Open conn) = Unit {0}
 InputIsBuilt (Frame conn text) = Unit {0}
+InputIsBuilt (Lost conn) = Unit {0}
+InputIsBuilt (Closed conn code) = Unit {0}
+InputIsBuilt (Tick now) = Unit {0}
 
 pub taken_follows : (i : Input) (w : Worker) → InputIsBuilt i → Follows w → Follows (taken w i)
 taken_follows (Look g es) w built old = by_there (contains g w.guilds) refl
@@ -208,3 +291,6 @@ taken_follows (Look g es) w built old = by_there (contains g w.guilds) refl
     by_there false none = old
 taken_follows (Open conn) w built old = opened_follows w conn old
 taken_follows (Frame conn text) w built old = framed_follows w conn (move_of w.core conn text) old
+taken_follows (Lost conn) w built old = lost_follows w conn old
+taken_follows (Closed conn code) w built old = closed_follows w conn code old
+taken_follows (Tick now) w built old = ticked_follows w (max w.now now) old

@@ -11,7 +11,7 @@ use Rattle.edit_events.specs.Law.{is_built}
 use Rattle.session_core.specs.declared.bot.Bot.{Bot}
 use Rattle.session_core.specs.State.{Session}
 use Rattle.session_core.specs.Frames.{Move}
-use Rattle.worker_core.specs.World.{Seen, Cursors, cursors, seen_with, Sent, Worker, entered, looked, Look, Open, Frame, framed, taken, World, Step, Edits, Looks, Opens, Frames, at_worker, stepped, run}
+use Rattle.worker_core.specs.World.{Seen, Cursors, cursors, seen_with, Sent, Worker, entered, looked, Look, Open, Frame, Lost, Closed, Tick, framed, taken, World, Step, Edits, Looks, Opens, Frames, Loses, Leaves, Ticks, at_worker, stepped, run}
 use Rattle.worker_core.specs.Law.{SessionHolds, WorkerHolds, EachRunHolds, last_cursors, IsBuilt, first_of, first_world}
 use Rattle.worker_core.proofs.Lists.{append_none}
 use Rattle.worker_core.proofs.Sessions.{Meets, grown}
@@ -110,6 +110,18 @@ stepped_stays (Opens n conn) m built old = record {
 stepped_stays (Frames n conn text) m built old = record {
   logs = old.logs;
   workers = moved_stays n (λ w. taken w (Frame conn text)) m (λ w h. record { follows = taken_follows (Frame conn text) w tt h.follows; front = h.front }) old.workers;
+}
+stepped_stays (Loses n conn) m built old = record {
+  logs = old.logs;
+  workers = moved_stays n (λ w. taken w (Lost conn)) m (λ w h. record { follows = taken_follows (Lost conn) w tt h.follows; front = h.front }) old.workers;
+}
+stepped_stays (Leaves n conn code) m built old = record {
+  logs = old.logs;
+  workers = moved_stays n (λ w. taken w (Closed conn code)) m (λ w h. record { follows = taken_follows (Closed conn code) w tt h.follows; front = h.front }) old.workers;
+}
+stepped_stays (Ticks n now) m built old = record {
+  logs = old.logs;
+  workers = moved_stays n (λ w. taken w (Tick now)) m (λ w h. record { follows = taken_follows (Tick now) w tt h.follows; front = h.front }) old.workers;
 }
 
 run_stays : (steps : List Step) (m : World) → All IsBuilt steps → WorldStays m → WorldStays (run m steps)

@@ -5,10 +5,10 @@ use Rattle.dispatch_types.specs.declared.dispatch.Dispatch.{Dispatch}
 use Rattle.dispatch_types.specs.Fold.{Held, fold}
 use Rattle.edit_apply.specs.Edits.{state}
 use Rattle.edit_apply.specs.declared.Edit.{Edit}
-use Rattle.edit_events.specs.Law.{Agrees, is_built, is_built_viewer}
+use Rattle.edit_events.specs.Law.{Agrees, is_built}
 use Rattle.session_core.specs.declared.bot.Bot.{Bot}
 use Rattle.session_core.specs.State.{Session, is_on}
-use Rattle.worker_core.specs.World.{Cursors, cursors, Told, Sent, Worker, World, Step, Edits, Looks, Opens, Frames, Output, Says, Tells, Closes, Input, taken, outputs, run, first_worker}
+use Rattle.worker_core.specs.World.{Cursors, cursors, Told, Sent, Worker, World, Step, Edits, Looks, Opens, Frames, Loses, Leaves, Ticks, Output, Says, Tells, Closes, Input, taken, outputs, run, first_worker}
 
 abbrev pub dispatch_of : Told → Dispatch
 dispatch_of t = t.dispatch
@@ -44,7 +44,7 @@ abbrev pub last_cursors : Cursors → Session Sent → Cursors
 last_cursors now x = unwrap_or x.sent.end now
 
 pub record SessionHolds (logs : ℕ → List Edit) (now : Cursors) (x : Session Sent) : Type 0 where
-  pub folds : is_built_viewer x.viewer ≡ true → Holds logs (last_cursors now x) x.viewer x.sent.told
+  pub folds : Holds logs (last_cursors now x) x.viewer x.sent.told
   pub rises : Rises (last_cursors now x) x.sent.told
   pub within : (g : ℕ) → last_cursors now x g ≤ length (logs g)
 
@@ -57,6 +57,9 @@ IsBuilt (Edits g e) = is_built e ≡ true
 IsBuilt (Looks n g) = Unit {0}
 IsBuilt (Opens n conn) = Unit {0}
 IsBuilt (Frames n conn text) = Unit {0}
+IsBuilt (Loses n conn) = Unit {0}
+IsBuilt (Leaves n conn code) = Unit {0}
+IsBuilt (Ticks n now) = Unit {0}
 
 -- a first worker by its number and its URL
 abbrev pub first_of : List Bot → List ℕ → ℕ × List ℕ → Worker

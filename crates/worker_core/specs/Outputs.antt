@@ -3,7 +3,7 @@ use Rattle.std.specs.Prelude.{List, map}
 use Rattle.serde_json.specs.Written.{compact_text}
 use Rattle.gateway_frames.specs.Out.{out_data}
 use Rattle.event_json.specs.Text.{data_of}
-use Rattle.worker_core.specs.World.{Output, Says, Tells, Closes, Input, Look, Open, Frame}
+use Rattle.worker_core.specs.World.{Output, Says, Tells, Closes, Input, Look, Open, Frame, Lost, Closed, Tick}
 use Rattle.worker_core.specs.declared.io.Input.{Input as Given}
 use Rattle.worker_core.specs.declared.io.Input.TheVariants as given
 use Rattle.worker_core.specs.declared.io.Output.{Output as Written}
@@ -21,3 +21,6 @@ abbrev pub input_of : Given → Input
 input_of (given.Look guild entries) = Look guild entries
 input_of (given.Open conn) = Open conn
 input_of (given.Frame conn text) = Frame conn text
+input_of (given.Lost conn) = Lost conn
+input_of (given.Closed conn code) = Closed conn code
+input_of (given.Tick now) = Tick now

@@ -9,7 +9,7 @@ use Rattle.edit_apply.specs.declared.Edit.{Edit}
 use Rattle.edit_events.specs.Due.{owed}
 use Rattle.session_core.specs.State.{Session, is_live}
 use Rattle.session_core.specs.Frames.{Move, Nothing, Answers, Shuts, Begins, move_of, is_spent}
-use Rattle.worker_core.specs.World.{Seen, Sent, Worker, Input, Look, Open, Frame, entry_owed, entered, first_dispatches}
+use Rattle.worker_core.specs.World.{Seen, Sent, Worker, Input, Look, Open, Frame, Lost, Closed, Tick, entry_owed, entered, first_dispatches}
 use Rattle.worker_core.specs.Kept.{told_more}
 
 -- more dispatches than can be counted after this many
@@ -33,6 +33,9 @@ abbrev pub spends : Worker → Input → Bool
 spends w (Look g es) = contains g w.guilds && look_spends w g es
 spends w (Open conn) = false
 spends w (Frame conn text) = frame_spends w (move_of w.core conn text)
+spends w (Lost conn) = false
+spends w (Closed conn code) = false
+spends w (Tick now) = false
 
 -- the same of what is kept
 abbrev pub told_spends : Record → Edit → Session ℕ → Bool

@@ -1,5 +1,5 @@
 -- Which workers of the model a worker's value stands for.
-use Rattle.std.specs.Prelude.{◌≡◌, ℕ, ◌+◌, List, [], ◌∷◌, ◌++◌, length, map, filter, flat_map, Bool, true, false, ◌||◌, Option, Some, None, if◌then◌else◌}
+use Rattle.std.specs.Prelude.{◌≡◌, ℕ, ◌+◌, List, [], ◌∷◌, ◌++◌, length, map, filter, flat_map, Bool, true, false, ◌||◌, Option, Some, None, if◌then◌else◌, max}
 use Rattle.collections.specs.ById.{IsById, find_id, put_id}
 use Rattle.guild_model.specs.Record.{own_id}
 use Rattle.edit_apply.specs.Edits.{state_from, state}
@@ -10,6 +10,7 @@ use Rattle.session_core.specs.declared.reply.Reply.{Reply}
 use Rattle.session_core.specs.declared.reply.Reply.TheVariants as reply
 use Rattle.session_core.specs.State.{State, Session, Attached, opened}
 use Rattle.session_core.specs.Frames.{Move, Nothing, Answers, Shuts, Begins, move_of, moved, is_spent}
+use Rattle.session_core.specs.Ends.{lost, client_closed, ticked}
 use Rattle.worker_core.specs.declared.io.StepFault.{StepFault}
 use Rattle.worker_core.specs.declared.replica.Replica.{Replica}
 use Rattle.perm_bits.specs.Bits.{has_bit}
@@ -19,7 +20,7 @@ use Rattle.dispatch_types.specs.declared.dispatch.Dispatch.{Dispatch}
 use Rattle.dispatch_types.specs.declared.dispatch.Dispatch.TheVariants.{Ready}
 use Rattle.dispatch_types.specs.declared.dispatch.Ready.{Ready as Greeted}
 use Rattle.gateway_frames.specs.declared.out.Out.TheVariants.{Ack}
-use Rattle.worker_core.specs.World.{Seen, Worker, Input, Look, Open, Frame, taken, outputs, open_sends, Output, Says, Closes, sends, session_id, greeting_for}
+use Rattle.worker_core.specs.World.{Seen, Worker, Input, Look, Open, Frame, Lost, Closed, Tick, taken, outputs, open_sends, tick_sends, Output, Says, Closes, sends, session_id, greeting_for}
 use Rattle.worker_core.specs.Kept.{kept, kept_looked, kept_sends}
 use Rattle.worker_core.specs.Spent.{is_past, kept_spends, spends}
 use Rattle.worker_core.specs.Outputs.{written, all_written}
@@ -58,6 +59,15 @@ after_look k r es = record k { replicas = put_id replica_id (looked_replica r es
 
 abbrev pub after_open : KeptWorker → ℕ → KeptWorker
 after_open k conn = record k { core = opened conn k.now k.core }
+
+abbrev pub after_lost : KeptWorker → ℕ → KeptWorker
+after_lost k conn = record k { core = lost conn k.now k.core }
+
+abbrev pub after_closed : KeptWorker → ℕ → ℕ → KeptWorker
+after_closed k conn code = record k { core = client_closed (λ x. []) conn code k.now k.core }
+
+abbrev pub after_tick : KeptWorker → ℕ → KeptWorker
+after_tick k now = record k { now = now; core = ticked (λ x. []) now k.core }
 
 -- a frame, by how many dispatches a session begins with
 abbrev pub after_frame : KeptWorker → ℕ → Move → (Bot → Viewer → ℕ → ℕ) → KeptWorker
@@ -120,6 +130,16 @@ unfoldable pub FramesStand : Type 0
 FramesStand = (k : KeptWorker) (w : Worker) → Stands k w → (conn : ℕ) (text : List ℕ) → let move = move_of k.core conn text in
     IsStep w (Frame conn text) (after_frame k conn move (kept_count k)) (kept_frame_sends k conn move) (kept_frame_spends k move)
 
+unfoldable pub LossesStand : Type 0
+LossesStand = (k : KeptWorker) (w : Worker) → Stands k w → (conn : ℕ) → IsStep w (Lost conn) (after_lost k conn) [] false
+
+unfoldable pub LeavesStand : Type 0
+LeavesStand = (k : KeptWorker) (w : Worker) → Stands k w → (conn code : ℕ) → IsStep w (Closed conn code) (after_closed k conn code) [] false
+
+unfoldable pub TicksStand : Type 0
+TicksStand = (k : KeptWorker) (w : Worker) → Stands k w → (now : ℕ) → let moment = max k.now now in
+    IsStep w (Tick now) (after_tick k moment) (tick_sends moment k.core) false
+
 -- the value of a worker, and what goes out, after a step
 abbrev pub Steps : Worker → Input → KeptWorker → List Written → Type 0
 Steps w i new out = Stands new (taken w i) × ((out ≡ all_written (outputs w i)) × (spends w i ≡ false))
@@ -138,6 +158,17 @@ Greets old n new before out = (front : List (Session ℕ)) (x : Session ℕ) →
 
 abbrev pub GreetsNot : KeptWorker → ℕ → StepFault → Type 0
 GreetsNot old n fault = (front : List (Session ℕ)) (x : Session ℕ) → old.core.sessions ≡ front ++ x ∷ [] → FaultBy (is_past x.sent (length (greeted old n x))) fault
+
+-- what goes out for replies by which no session begins
+abbrev pub is_plain : Reply → Bool
+is_plain (reply.Send conn payload) = true
+is_plain (reply.Close conn code) = true
+is_plain (reply.Begin n) = false
+
+abbrev pub plain : Reply → List Written
+plain (reply.Send conn payload) = written (Says conn payload) ∷ []
+plain (reply.Close conn code) = written (Closes conn code) ∷ []
+plain (reply.Begin n) = []
 
 -- what is left after one reply
 abbrev pub Replies : Reply → KeptWorker → KeptWorker → List Written → List Written → Type 0

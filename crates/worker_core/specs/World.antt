@@ -1,6 +1,6 @@
 -- Workers that follow the logs of guilds, their sessions, and what a list of steps makes of them
 -- (Gateway, Connection Lifecycle).
-use Rattle.std.specs.Prelude.{ℕ, ◌+◌, List, [], ◌∷◌, ◌++◌, true, not, ◌==◌, ◌&&◌, Option, Some, None, if◌then◌else◌, length, nat_lt, map, filter, drop, flat_map, decimal, codes}
+use Rattle.std.specs.Prelude.{ℕ, ◌+◌, List, [], ◌∷◌, ◌++◌, true, not, ◌==◌, ◌&&◌, Option, Some, None, if◌then◌else◌, length, nat_lt, max, map, filter, drop, flat_map, decimal, codes}
 use Rattle.collections.specs.ById.{put_all}
 use Rattle.perm_bits.specs.Bits.{has_bit}
 use Rattle.intent_set.specs.Intents.{guilds}
@@ -23,6 +23,7 @@ use Rattle.session_core.specs.declared.reply.Mark.{Mark}
 use Rattle.session_core.specs.declared.reply.Mark.TheVariants.{Start, Entry}
 use Rattle.session_core.specs.State.{State, Session, Place, Attached, Detached, Ended, is_live, has_link, opened, no_sessions}
 use Rattle.session_core.specs.Frames.{Move, Nothing, Answers, Shuts, Begins, move_of, moved}
+use Rattle.session_core.specs.Ends.{lost, client_closed, ticked, silent_of}
 
 -- the entries that a worker has handled, by guild
 abbrev pub Seen : Type 0
@@ -133,11 +134,18 @@ module _ (w : Worker) (viewer : Viewer) where
 abbrev pub begins_with : Worker → Bot → Viewer → ℕ → Sent
 begins_with w bot viewer n = record { told = told Start (cursors w.seen) (cursors w.seen) (first_dispatches w viewer bot n); end = None }
 
+-- a session as it ends, with the cursors of its worker then
+abbrev pub ended_at : Cursors → Session Sent → List (Session Sent)
+ended_at now x = record x { place = Ended; sent = record x.sent { end = Some now } } ∷ []
+
 -- what comes to a worker
 pub data Input : Type 0 where
   Look : (guild : ℕ) (entries : List Edit) → Input
   Open : (conn : ℕ) → Input
   Frame : (conn : ℕ) (text : List ℕ) → Input
+  Lost : (conn : ℕ) → Input
+  Closed : (conn code : ℕ) → Input
+  Tick : (now : ℕ) → Input
 
 abbrev pub framed : Worker → ℕ → Move → Worker
 framed w conn move = record w { core = moved conn w.now (begins_with w) move w.core }
@@ -151,15 +159,28 @@ frame_sends w conn (Begins bot viewer) = sends (Attached conn) 0 (first_dispatch
 abbrev pub open_sends : {A : Type 0} → ℕ → State A → List Output
 open_sends conn s = if has_link conn s then [] else (if nat_lt (length s.links) 64 then Says conn (Hello 41250) ∷ [] else Closes conn 4000 ∷ [])
 
+-- time has passed, and does not run back
+abbrev pub passed : Worker → ℕ → Worker
+passed w now = record w { now = now; core = ticked (ended_at (cursors w.seen)) now w.core }
+
+abbrev pub tick_sends : {A : Type 0} → ℕ → State A → List Output
+tick_sends now s = map (λ conn. Closes conn 4000) (silent_of now s.links)
+
 abbrev pub taken : Worker → Input → Worker
 taken w (Look g es) = if contains g w.guilds then looked w g es else w
 taken w (Open conn) = record w { core = opened conn w.now w.core }
 taken w (Frame conn text) = framed w conn (move_of w.core conn text)
+taken w (Lost conn) = record w { core = lost conn w.now w.core }
+taken w (Closed conn code) = record w { core = client_closed (ended_at (cursors w.seen)) conn code w.now w.core }
+taken w (Tick now) = passed w (max w.now now)
 
 abbrev pub outputs : Worker → Input → List Output
 outputs w (Look g es) = if contains g w.guilds then look_sends w g es else []
 outputs w (Open conn) = open_sends conn w.core
 outputs w (Frame conn text) = frame_sends w conn (move_of w.core conn text)
+outputs w (Lost conn) = []
+outputs w (Closed conn code) = []
+outputs w (Tick now) = tick_sends (max w.now now) w.core
 
 pub record World : Type 0 where
   pub logs : ℕ → List Edit
@@ -171,6 +192,9 @@ pub data Step : Type 0 where
   Looks : (worker guild : ℕ) → Step
   Opens : (worker conn : ℕ) → Step
   Frames : (worker conn : ℕ) (text : List ℕ) → Step
+  Loses : (worker conn : ℕ) → Step
+  Leaves : (worker conn code : ℕ) → Step
+  Ticks : (worker now : ℕ) → Step
 
 -- the worker of this number, moved
 abbrev pub at_worker : ℕ → (Worker → Worker) → World → World
@@ -181,6 +205,9 @@ stepped m (Edits g e) = record m { logs = seen_with m.logs g e }
 stepped m (Looks n g) = at_worker n (λ w. taken w (Look g (drop (length (w.seen g)) (m.logs g)))) m
 stepped m (Opens n conn) = at_worker n (λ w. taken w (Open conn)) m
 stepped m (Frames n conn text) = at_worker n (λ w. taken w (Frame conn text)) m
+stepped m (Loses n conn) = at_worker n (λ w. taken w (Lost conn)) m
+stepped m (Leaves n conn code) = at_worker n (λ w. taken w (Closed conn code)) m
+stepped m (Ticks n now) = at_worker n (λ w. taken w (Tick now)) m
 
 abbrev pub run : World → List Step → World
 run m [] = m

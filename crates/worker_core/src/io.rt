@@ -15,6 +15,12 @@ pub enum Input {
     Open(u32),
     /// A text has come on a connection.
     Frame(u32, Text),
+    /// The link of a connection is lost.
+    Lost(u32),
+    /// A client has closed its connection with a code (Gateway, Disconnecting).
+    Closed(u32, u16),
+    /// This moment has come, in milliseconds. One before the worker's own is that moment again.
+    Tick(u64),
 }
 
 /// What goes out.

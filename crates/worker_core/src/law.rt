@@ -1,6 +1,6 @@
 //! The laws over every run, as functions whose contracts are the statements.
 ghost use Rattle.worker_core.specs.Law.{EachRunHolds, EachSendHolds};
-ghost use Rattle.worker_core.specs.Stands.{LooksStand, LooksPast, OpensStand, FramesStand};
+ghost use Rattle.worker_core.specs.Stands.{LooksStand, LooksPast, OpensStand, FramesStand, LossesStand, LeavesStand, TicksStand};
 
 /// Whatever steps come, what a session was sent folds to the projection of one prefix of each log.
 pub fn projection_of_a_prefix()
@@ -30,4 +30,19 @@ pub fn opens_stand()
 /// The same of a frame.
 pub fn frames_stand()
     ensures { FramesStand }
+{}
+
+/// The same of a link that is lost.
+pub fn losses_stand()
+    ensures { LossesStand }
+{}
+
+/// The same of a connection that its client closes.
+pub fn leaves_stand()
+    ensures { LeavesStand }
+{}
+
+/// The same of time that passes.
+pub fn ticks_stand()
+    ensures { TicksStand }
 {}

@@ -50,8 +50,8 @@ fn tell_entry(
 ) -> Result<(), StepFault>
     requires { place < length sessions.old.sessions }
     ensures { MatchResult result
-        (λ _. TellsAt place (λ x. due_between guild.now x.viewer was.now.served (served x.viewer guild.now) entry.now) sessions.old sessions.new out.old.items out.new.items)
-        (FailsAt place (λ x. due_between guild.now x.viewer was.now.served (served x.viewer guild.now) entry.now) sessions.old) }
+        (λ _. TellsAt place (λ x. due_between guild.now x.viewer was.now (served x.viewer guild.now) entry.now) sessions.old sessions.new out.old.items out.new.items)
+        (FailsAt place (λ x. due_between guild.now x.viewer was.now (served x.viewer guild.now) entry.now) sessions.old) }
 {
     let Some(viewer) = sessions.viewer_at(place) else {
         return Ok(());

@@ -1,19 +1,22 @@
 //! A worker: what it keeps, and its step.
 
-ghost use Rattle.std.specs.Prelude.{◌≡◌, [], ◌∷◌, false, true, Some, None, Err, IfOk, OnOk, IsSome, MatchResult, slice_get};
+ghost use Rattle.std.specs.Prelude.{◌≡◌, ℕ, [], ◌∷◌, false, true, max, flat_map, Some, None, Err, IfOk, OnOk, IsSome, MatchResult, slice_get};
+ghost use Rattle.std.specs.List.{list_all};
 ghost use Rattle.std.specs.Option.{option_map_or};
 ghost use Rattle.collections.specs.ById.{find_id, put_id};
 ghost use Rattle.guild_model.specs.Record.{closed};
 ghost use Rattle.edit_apply.specs.Edits.{state_from};
 ghost use Rattle.session_core.specs.State.{open_replies};
+ghost use Rattle.session_core.specs.Ends.{tick_replies};
+ghost use Rattle.session_core.specs.declared.reply.Reply.TheVariants.{Begin};
 ghost use Rattle.session_core.specs.Frames.{move_of, move_replies, is_spent};
 ghost use Rattle.session_core.specs.declared.fault.SessionFault.TheVariants as SessionFault;
-ghost use Rattle.worker_core.specs.World.{Worker as ModelWorker, Look as Looks, Open as Opens, Frame as Frames, Says, first_worker};
+ghost use Rattle.worker_core.specs.World.{Worker as ModelWorker, Look as Looks, Open as Opens, Frame as Frames, Lost, Closed, Tick, Says, first_worker};
 ghost use Rattle.worker_core.specs.Kept.{kept_looked, kept_sends};
 ghost use Rattle.worker_core.specs.Outputs.{input_of, written, all_written};
 ghost use Rattle.worker_core.specs.Spent.{kept_spends};
 ghost use Rattle.worker_core.specs.Telling.{FaultBy, kept_with};
-ghost use Rattle.worker_core.specs.Stands.{Stands, Steps, Fails, Greets, GreetsNot, Replies, RepliesNot, greeted, kept_ready, replica_id, after_open, after_frame};
+ghost use Rattle.worker_core.specs.Stands.{Stands, Steps, Fails, Greets, GreetsNot, Replies, RepliesNot, greeted, kept_ready, replica_id, after_open, after_frame, after_lost, after_closed, after_tick, is_plain, plain};
 
 use crate::greet::{greetings, listed, session_id};
 use crate::io::{Input, Output, StepFault, put};
@@ -104,6 +107,9 @@ impl Worker {
             Input::Look(guild, entries) => self.look(guild, entries.as_slice()),
             Input::Open(conn) => self.open(conn),
             Input::Frame(conn, text) => self.frame(conn, text.as_str()),
+            Input::Lost(conn) => self.lost(conn),
+            Input::Closed(conn, code) => self.closed(conn, code),
+            Input::Tick(now) => self.tick(now),
         }
     }
 
@@ -156,7 +162,7 @@ impl Worker {
         ensures { (w : ModelWorker) → Stands self.old w → MatchResult result (λ out. Steps w (Opens conn) self.new out.items) (Fails w (Opens conn)) }
     {
         let replies = self.open_session(conn)?;
-        self.reply_each(replies.as_slice())
+        self.reply_each(replies)
     }
 
     fn open_session(&mut self, conn: u32) -> Result<Vec<Reply>, AllocError>
@@ -170,7 +176,7 @@ impl Worker {
         ensures { (w : ModelWorker) → Stands self.old w → MatchResult result (λ out. Steps w (Frames conn text.now) self.new out.items) (Fails w (Frames conn text.now)) }
     {
         let replies = self.frame_session(conn, text)?;
-        self.reply_each(replies.as_slice())
+        self.reply_each(replies)
     }
 
     fn frame_session(&mut self, conn: u32, text: &str) -> Result<Vec<Reply>, SessionFault>
@@ -182,14 +188,55 @@ impl Worker {
         self.sessions.frame(conn, text, self.clock)
     }
 
+    fn lost(&mut self, conn: u32) -> Result<Vec<Output>, StepFault>
+        ensures { (w : ModelWorker) → Stands self.old w → MatchResult result (λ out. Steps w (Lost conn) self.new out.items) (Fails w (Lost conn)) }
+    {
+        self.lose_session(conn);
+        Ok(Vec::new(self.alloc))
+    }
+
+    fn lose_session(&mut self, conn: u32)
+        ensures { self.new ≡ after_lost self.old conn }
+    {
+        self.sessions.lost(conn, self.clock);
+    }
+
+    fn closed(&mut self, conn: u32, code: u16) -> Result<Vec<Output>, StepFault>
+        ensures { (w : ModelWorker) → Stands self.old w → MatchResult result (λ out. Steps w (Closed conn code) self.new out.items) (Fails w (Closed conn code)) }
+    {
+        self.close_session(conn, code);
+        Ok(Vec::new(self.alloc))
+    }
+
+    fn close_session(&mut self, conn: u32, code: u16)
+        ensures { self.new ≡ after_closed self.old conn code }
+    {
+        self.sessions.closed(conn, code, self.clock);
+    }
+
+    fn tick(&mut self, now: u64) -> Result<Vec<Output>, StepFault>
+        ensures { (w : ModelWorker) → Stands self.old w → MatchResult result (λ out. Steps w (Tick now) self.new out.items) (Fails w (Tick now)) }
+    {
+        let replies = self.tick_sessions(now)?;
+        self.reply_each(replies)
+    }
+
+    fn tick_sessions(&mut self, now: u64) -> Result<Vec<Reply>, AllocError>
+        ensures replies { IfOk result (λ replies. replies.items ≡ tick_replies (max self.old.now now) self.old.core) }
+        ensures ticked { OnOk result (self.new ≡ after_tick self.old (max self.old.now now)) }
+    {
+        self.clock = self.clock.max(now);
+        self.sessions.tick(self.clock)
+    }
+
     /// What goes out for the replies of a call, in order.
-    fn reply_each(&mut self, replies: &[Reply]) -> Result<Vec<Output>, StepFault>
-        ensures none { replies.now ≡ [] → MatchResult result (λ out. (self.new ≡ self.old) × (out.items ≡ [])) (FaultBy false) }
-        ensures one { (r : Reply) → replies.now ≡ r ∷ [] → MatchResult result (λ out. Replies r self.old self.new [] out.items) (RepliesNot r self.old) }
+    fn reply_each(&mut self, replies: Vec<Reply>) -> Result<Vec<Output>, StepFault>
+        ensures plain { list_all is_plain replies.items ≡ true → MatchResult result (λ out. (self.new ≡ self.old) × (out.items ≡ flat_map plain replies.items)) (FaultBy false) }
+        ensures begins { (n : ℕ) → replies.items ≡ Begin n ∷ [] → MatchResult result (λ out. Greets self.old n self.new [] out.items) (GreetsNot self.old n) }
     {
         let mut out = Vec::new(self.alloc);
         for reply in replies {
-            self.reply(*reply, &mut out)?;
+            self.reply(reply, &mut out)?;
         }
         Ok(out)
     }

@@ -18,8 +18,8 @@ returns-in_err-tell_entry c s noted is accepted =
     let told = c.loop-place.invariant.told s noted is accepted in
     let p = err_from_is_err_and c.from_residual.result c.from_residual.ensures.1 in
     rw p.1 (subst (λ (f : StepFault). FailsEach s c.args.entry.now c.args.sessions.now f) (sym p.2)
-    (each_fails s c.args.entry.now c.args.sessions.now c.args.guild.now _ c.loop-place.sessions c.args.out.now.items c.loop-place.out.items i lt here
-    (record { sessions = told.0; out = told.1.0; counted = told.1.1 }) is accepted (note_at _ (λ (x : Session ℕ). was_of s x.viewer c.args.entry.now) xs i here.item _ noted here.found) c.in_err-tell_entry.field-0.0 c.in_err-tell_entry.ensures))
+    (each_fails s c.args.entry.now c.args.sessions.now c.args.guild.now c.index-notes-place.result c.loop-place.sessions c.args.out.now.items c.loop-place.out.items i lt here
+    (record { sessions = told.0; out = told.1.0; counted = told.1.1 }) is accepted (c.index-notes-place.is ∙ note_at _ (λ (x : Session ℕ). was_of s x.viewer c.args.entry.now) xs i here.item c.index-notes-place.result noted here.found) c.in_err-tell_entry.field-0.0 c.in_err-tell_entry.ensures))
 
 pub loop-place-preserved : goal.loop-place-preserved
 loop-place-preserved c = record {
@@ -29,8 +29,8 @@ loop-place-preserved c = record {
       let lt : i < length xs = omega (arith, c.requires) in
       let here = here_at xs i lt in
       let told = c.loop-place.invariant.told s noted is accepted in
-      let step = each_more s c.args.entry.now c.args.sessions.now c.args.guild.now _ c.loop-place.sessions c.args.out.now.items c.loop-place.out.items i lt here
-      (record { sessions = told.0; out = told.1.0; counted = told.1.1 }) is accepted (note_at _ (λ (x : Session ℕ). was_of s x.viewer c.args.entry.now) xs i here.item _ noted here.found) c.tell_entry.new.sessions c.tell_entry.new.out.items c.in_ok-tell_entry.ensures in
+      let step = each_more s c.args.entry.now c.args.sessions.now c.args.guild.now c.index-notes-place.result c.loop-place.sessions c.args.out.now.items c.loop-place.out.items i lt here
+      (record { sessions = told.0; out = told.1.0; counted = told.1.1 }) is accepted (c.index-notes-place.is ∙ note_at _ (λ (x : Session ℕ). was_of s x.viewer c.args.entry.now) xs i here.item c.index-notes-place.result noted here.found) c.tell_entry.new.sessions c.tell_entry.new.out.items c.in_ok-tell_entry.ensures in
       (step.sessions, (step.out, step.counted));
   as_many =
       let xs : List (Session ℕ) = c.args.sessions.now.sessions in

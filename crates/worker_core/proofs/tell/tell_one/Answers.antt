@@ -17,5 +17,5 @@ returns c =
     tells_one c.args.place c.args.dispatch.now c.args.sessions.now c.push_at.new.self pushed c.args.out.now.items c.put.new.out.items
     c.in_ok-pushed.ensures.pushed c.in_ok-pushed.ensures.counted c.in_ok-pushed.ensures.fits
     (c.in_ok-put.ensures
-    ∙ (ap (λ t. c.args.out.now.items ++ Send c.in-Some.conn t ∷ []) (c.from_string.ensures ∙ c.in_ok-text.ensures)
+    ∙ (ap (λ t. c.args.out.now.items ++ Send c.in-Some.conn t ∷ []) (c.from_string.ensures ∙ c.in_ok-text.ensures.text)
     ∙ ap (λ ws. c.args.out.now.items ++ ws) (sym (sent_some pushed c.args.dispatch.now c.in-Some.conn c.in-Some.is))))

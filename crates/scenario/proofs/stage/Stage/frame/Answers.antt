@@ -1,11 +1,10 @@
-use Rattle.std.proofs.Common.{refl, sym, ◌∙◌}
-use Rattle.scenario.specs.Player.{world}
-use Rattle.scenario.specs.Stands.{guilds_of}
-use Rattle.scenario.proofs.Stages.{frame_plays}
+use Rattle.std.proofs.Common.{sym, ◌∙◌}
+use Rattle.edit_text.specs.declared.line.Line.TheVariants as line
+use Rattle.scenario.proofs.Stages.{frame_gives, frame_past}
 use Rattle.scenario.proofs.stage.Stage.frame.Goals as goal
 
+pub returns-in_default : goal.returns-in_default
+returns-in_default c p stands = frame_past c.args.self.now p stands c.args.conn (sym c.worker_of.ensures ∙ c.in_default.is) c.new.result.items c.new.ensures.items c.args.text
+
 pub returns : goal.returns
-returns c p stands =
-    let start = c.in_ok-start.ensures p (c.as_slice.ensures ∙ stands.keeps.bots) (c.as_slice-2.ensures ∙ stands.keeps.guilds) stands.seats in
-    frame_plays (λ out. out.items) c.frame.result c.args.self.now (record c.args.self.now { seats = c.frame.new.seats }) p c.in-Some.opened.now c.args.conn c.args.text c.start.new.seats.items
-    stands.keeps (sym c.in-Some.ensures) refl refl refl refl start (c.frame.ensures (guilds_of p) (world p).workers start.1)
+returns c p stands = c.give.ensures p (line.Frame c.args.conn c.args.text) stands (frame_gives c.args.self.now p stands.keeps c.args.conn c.in-Some.worker (sym c.worker_of.ensures ∙ c.in-Some.is) c.args.text)

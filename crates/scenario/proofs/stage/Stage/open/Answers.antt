@@ -7,5 +7,5 @@ use Rattle.scenario.proofs.stage.Stage.open.Goals as goal
 pub returns : goal.returns
 returns c p stands =
     let start = c.in_ok-start.ensures p (c.as_slice.ensures ∙ stands.keeps.bots) (c.as_slice-2.ensures ∙ stands.keeps.guilds) stands.seats in
-    open_plays (λ out. out.items) c.open.result c.args.self.now (record c.args.self.now { used = c.insert.new.self; seats = c.open.new.seats }) p c.args.worker c.args.conn c.start.new.seats.items
-    stands.keeps (search rules) refl refl refl c.in_ok-insert.ensures.ok start (c.open.ensures (guilds_of p) (world p).workers start.1)
+    open_plays (λ out. out.items) c.give.result c.args.self.now (record c.args.self.now { used = c.insert.new.self; seats = c.give.new.seats }) p c.args.worker c.args.conn c.start.new.seats.items
+    stands.keeps (search rules) refl refl refl c.in_ok-insert.ensures.ok start (c.give.ensures (guilds_of p) (world p).workers start.1)
