@@ -7,6 +7,15 @@ use Rattle.std.proofs.lemmas.Bool.Decides.{nat_tests}
 use Rattle.collections.specs.ById.{find_id, put_id, AllAbove, IsById, changed_id, keep_if, or_else, put_all, without_id}
 use Rattle.collections.proofs.Ids.{AllAbove-weaker, find_above, IsById-put}
 
+-- what is found in a changed list is a changed item, and in one that is less by an item it is another
+pub found-map : {T U : Type 0} (f : T → U) (o : Option T) (y : U) → option_map f o ≡ Some y → (x : T) × ((o ≡ Some x) × (y ≡ f x))
+found-map f None y e = absurd (cc)
+found-map f (Some x) y e = (x, (refl, cc))
+
+pub found-left : {T : Type 0} (gone : Bool) (o : Option T) (x : T) → (if gone then None else o) ≡ Some x → (gone ≡ false) × (o ≡ Some x)
+found-left true o x e = absurd (cc)
+found-left false o x e = (refl, e)
+
 module _ {T : Type 0} (key : T → ℕ) where
   -- what is found has the id
   pub key-found : (id : ℕ) (xs : List T) (x : T) → find_id key id xs ≡ Some x → key x ≡ id

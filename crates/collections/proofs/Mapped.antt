@@ -6,7 +6,7 @@ use Rattle.std.proofs.lemmas.List.Elements.{All-cons, All-head, All-tail}
 use Rattle.collections.specs.ById.{find_id, put_id, put_all, IsById, or_else, keep_if}
 use Rattle.collections.proofs.Finds.{same_by_id, find-put_all, find-filter, IsById-put_all, IsById-filter}
 
-or_else-none : {T : Type 0} (o : Option T) → or_else o None ≡ o
+pub or_else-none : {T : Type 0} (o : Option T) → or_else o None ≡ o
 or_else-none None = refl
 or_else-none (Some x) = refl
 

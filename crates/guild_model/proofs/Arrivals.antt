@@ -5,6 +5,7 @@ use Rattle.std.specs.Map.{lookup, lookup_entry, remove_entry, set_value}
 use Rattle.std.proofs.lemmas.Bool.Decides.{nat_tests}
 use Rattle.lru.specs.LruCache.{LruCache, lru_cache, put_entries}
 use Rattle.collections.specs.ById.{changed_id, or_else}
+use Rattle.collections.proofs.Mapped.{or_else-none}
 use Rattle.guild_model.specs.declared.message.MessageHead.{MessageHead}
 use Rattle.guild_model.specs.Heads.{head_id, find_head, arrived, without_head, arrivals, IsIndex, IsKept}
 
@@ -29,10 +30,6 @@ pub filter_more : (p : MessageHead → Bool) (xs : List MessageHead) (h : Messag
 filter_more p [] h = refl
 filter_more p (x ∷ xs) h = grind (arith, filter_more p xs h)
 
-or_none : {T : Type 0} (o : Option T) → or_else o None ≡ o
-or_none None = refl
-or_none (Some x) = refl
-
 -- ---- a look-up
 
 pub found_so : (id : ℕ) (es : Entries) → IsIndex es → lookup (nat_eq id) es ≡ find_head id (arrivals es)
@@ -47,7 +44,7 @@ found_so id (e ∷ es) h = by_test (nat_eq id e.0) refl (found_so id es h.2)
         sym (find_more id (arrivals es) e.1 ∙ rw (none, here) refl)
     by_test false is rest =
         let other : (e.1.id == id) ≡ false = grind (arith, nat_tests, h.0) in
-        rest ∙ sym (find_more id (arrivals es) e.1 ∙ rw other (or_none (find_head id (arrivals es))))
+        rest ∙ sym (find_more id (arrivals es) e.1 ∙ rw other (or_else-none (find_head id (arrivals es))))
 
 pub no_entry : (test : ℕ → Bool) (es : Entries) → lookup test es ≡ None → lookup_entry test es ≡ None
 no_entry test [] e = refl

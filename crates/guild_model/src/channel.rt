@@ -1,4 +1,5 @@
 ghost use Rattle.std.specs.Prelude.{◌≡◌, [], IfOk, Some};
+ghost use Rattle.guild_model.specs.Consistent.{has_threads};
 ghost use Rattle.guild_model.specs.Numbers.{channel_kind_number, channel_kind_numbered, overwrite_kind_number, overwrite_kind_numbered};
 
 use collections::{ById, Duplicate, Keyed, Text};
@@ -47,6 +48,16 @@ impl ChannelKind {
             13 => Some(ChannelKind::Stage),
             15 => Some(ChannelKind::Forum),
             _ => None,
+        }
+    }
+
+    /// Whether threads stand in channels of the type (Threads, Thread Fields).
+    pub fn has_threads(self) -> bool
+        ensures { result ≡ has_threads self }
+    {
+        match self {
+            ChannelKind::Text | ChannelKind::Announcement | ChannelKind::Forum => true,
+            ChannelKind::Voice | ChannelKind::Category | ChannelKind::Stage => false,
         }
     }
 }

@@ -72,6 +72,7 @@ impl Model for Guild {
 impl Guild {
     ghost use Rattle.guild_model.specs.Record.{closed, role_id, member_id, channel_id, thread_id};
     ghost use Rattle.guild_model.specs.Heads.{find_head};
+    ghost use Rattle.guild_model.specs.Consistent.{is_place};
 
     /// The record of a guild to which nothing has happened: not open, and empty.
     pub fn closed(alloc: Global, id: Snowflake) -> Guild
@@ -126,6 +127,13 @@ impl Guild {
         ensures { option_copied result ≡ find_head id self.now.messages }
     {
         self.messages.get(id)
+    }
+
+    /// Whether a channel or a thread of the guild has an id.
+    pub fn has_place(&self, id: Snowflake) -> bool
+        ensures { result ≡ is_place self.now id }
+    {
+        self.channels.contains(id.0) || self.threads.contains(id.0)
     }
 
     /// A record that is equal to this.

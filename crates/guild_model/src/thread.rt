@@ -1,5 +1,6 @@
 ghost use Rattle.std.specs.Prelude.{◌≡◌, IfOk, Some};
 ghost use Rattle.guild_model.specs.Numbers.{thread_kind_number, thread_kind_numbered};
+ghost use Rattle.guild_model.specs.Sight.{is_private};
 
 use crate::moment::Moment;
 use collections::{ById, Duplicate, Keyed, Text};
@@ -38,6 +39,17 @@ impl ThreadKind {
             11 => Some(ThreadKind::Public),
             12 => Some(ThreadKind::Private),
             _ => None,
+        }
+    }
+
+    /// Whether only those in a thread of the type see it, and those who manage threads (Threads, Private
+    /// Threads).
+    pub fn is_private(self) -> bool
+        ensures { result ≡ is_private self }
+    {
+        match self {
+            ThreadKind::Private => true,
+            ThreadKind::Announcement | ThreadKind::Public => false,
         }
     }
 }
