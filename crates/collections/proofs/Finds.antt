@@ -7,7 +7,7 @@ use Rattle.std.proofs.lemmas.Bool.Decides.{nat_tests}
 use Rattle.collections.specs.ById.{find_id, put_id, AllAbove, IsById, changed_id, keep_if, or_else, put_all, without_id}
 use Rattle.collections.proofs.Ids.{AllAbove-weaker, find_above, IsById-put}
 
--- what is found in a changed list is a changed item, and in one that is less by an item it is another
+-- where a thing was changed or may be gone, what it was
 pub found-map : {T U : Type 0} (f : T → U) (o : Option T) (y : U) → option_map f o ≡ Some y → (x : T) × ((o ≡ Some x) × (y ≡ f x))
 found-map f None y e = absurd (cc)
 found-map f (Some x) y e = (x, (refl, cc))
@@ -15,6 +15,14 @@ found-map f (Some x) y e = (x, (refl, cc))
 pub found-left : {T : Type 0} (gone : Bool) (o : Option T) (x : T) → (if gone then None else o) ≡ Some x → (gone ≡ false) × (o ≡ Some x)
 found-left true o x e = absurd (cc)
 found-left false o x e = (refl, e)
+
+pub found-kept : {T : Type 0} (p : T → Bool) (o : Option T) (x : T) → keep_if p o ≡ Some x → (p x ≡ true) × (o ≡ Some x)
+found-kept p None x e = absurd (cc)
+found-kept p (Some y) x e = by_test (p y) refl e
+  where
+    by_test : (b : Bool) → p y ≡ b → (if b then Some y else None) ≡ Some x → (p x ≡ true) × (Some y ≡ Some x)
+    by_test true passes e = let same : y ≡ x = cc in (ap p (sym same) ∙ passes, e)
+    by_test false passes e = absurd (cc)
 
 module _ {T : Type 0} (key : T → ℕ) where
   -- what is found has the id
@@ -70,6 +78,10 @@ module _ {T : Type 0} (key : T → ℕ) where
   find-without gone id [] = grind arith
   find-without gone id (x ∷ xs) = grind (arith, nat_tests, find-without gone id xs)
 
+  -- what is still found after one is taken away is another, which was found
+  pub found-without : (gone id : ℕ) (xs : List T) (x : T) → find_id key id (without_id key gone xs) ≡ Some x → ((gone == id) ≡ false) × (find_id key id xs ≡ Some x)
+  found-without gone id xs x e = found-left (gone == id) (find_id key id xs) x (sym (find-without gone id xs) ∙ e)
+
   AllAbove-filter : (p : T → Bool) (k : ℕ) (xs : List T) → AllAbove key k xs → AllAbove key k (filter p xs)
   AllAbove-filter p k [] h = tt
   AllAbove-filter p k (x ∷ xs) h = elim (p x) as (λ b. AllAbove key k (if b then x ∷ filter p xs else filter p xs)) [
@@ -103,6 +115,10 @@ module _ {T : Type 0} (key : T → ℕ) where
       let above : id ≤ key x → find_id key id xs ≡ None = λ le. find_above key id (key x) xs le h.0 in
       grind (arith, nat_tests, rest, above)
 
+  -- what a filter let through passes, and was there
+  pub found-filter : (p : T → Bool) (id : ℕ) (xs : List T) (x : T) → IsById key xs → find_id key id (filter p xs) ≡ Some x → (p x ≡ true) × (find_id key id xs ≡ Some x)
+  found-filter p id xs x h e = found-kept p (find_id key id xs) x (sym (find-filter p id xs h) ∙ e)
+
   pub IsById-put_all : (xs ys : List T) → IsById key xs → IsById key (put_all key xs ys)
   IsById-put_all xs [] h = h
   IsById-put_all xs (y ∷ ys) h = IsById-put_all (put_id key y xs) ys (IsById-put key y xs h)
@@ -127,6 +143,10 @@ module _ {T U : Type 0} (key : T → ℕ) (as_key : U → ℕ) (f : T → U) (sa
   pub find-map : (id : ℕ) (xs : List T) → find_id as_key id (map f xs) ≡ option_map f (find_id key id xs)
   find-map id [] = refl
   find-map id (x ∷ xs) = grind (arith, nat_tests, same x, find-map id xs)
+
+  -- what is found among them is what becomes of the one that was found
+  pub found-mapped : (id : ℕ) (xs : List T) (y : U) → find_id as_key id (map f xs) ≡ Some y → (x : T) × ((find_id key id xs ≡ Some x) × (y ≡ f x))
+  found-mapped id xs y e = found-map f (find_id key id xs) y (sym (find-map id xs) ∙ e)
 
 -- parts that some records have, listed by the same ids: who has one finds its own
 module _ {T M : Type 0} (key : T → ℕ) (part : T → Option M) (part_key : M → ℕ) (same : (x : T) (m : M) → part x ≡ Some m → part_key m ≡ key x) where

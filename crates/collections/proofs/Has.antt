@@ -1,6 +1,7 @@
 -- Which ids a list has after an edit of it, and what holds of all its records.
-use Rattle.std.proofs.Common.{◌≡◌, ℕ, Bool, true, false, not, ◌&&◌, ◌||◌, List, [], ◌∷◌, map, Option, Some, None, if◌then◌else◌, refl, ap, subst, arith}
+use Rattle.std.proofs.Common.{◌≡◌, ℕ, Bool, true, false, not, ◌&&◌, ◌||◌, List, [], ◌∷◌, map, Option, Some, None, if◌then◌else◌, refl, sym, ap, ◌∙◌, subst, arith}
 use Rattle.std.specs.Prelude.{◌==◌, nat_lt, is_some, option_map, All}
+use Rattle.std.proofs.lemmas.Bool.{and_parts, not-true}
 use Rattle.std.proofs.lemmas.List.Elements.{All-cons, All-head, All-tail}
 use Rattle.collections.specs.ById.{find_id, has_id, put_id, changed_id, without_id}
 use Rattle.collections.proofs.Finds.{find-put, find-changed, find-without, find-map}
@@ -23,6 +24,12 @@ module _ {T : Type 0} (key : T → ℕ) where
       both : (b : Bool) (o : Option T) → is_some {T = T} (if b then None else o) ≡ (not b && is_some o)
       both true o = refl
       both false o = refl
+
+  -- what is still there after one is taken away is another, which was there
+  pub has-left : (gone id : ℕ) (xs : List T) → has_id key id (without_id key gone xs) ≡ true → ((gone == id) ≡ false) × (has_id key id xs ≡ true)
+  has-left gone id xs there =
+      let parts = and_parts (not (gone == id)) (has_id key id xs) (sym (has-without gone id xs) ∙ there) in
+      (not-true (gone == id) parts.0, parts.1)
 
   pub has-changed : (at : ℕ) (f : T → T) → ((x : T) → key (f x) ≡ key x) → (id : ℕ) (xs : List T) → has_id key id (changed_id key at f xs) ≡ has_id key id xs
   has-changed at f same id xs = rw (find-changed key at f same id xs) (still (at == id) (find_id key id xs))

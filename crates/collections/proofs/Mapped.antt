@@ -1,9 +1,9 @@
 -- Lists that are mapped, filtered and put together again.
-use Rattle.std.proofs.Common.{◌≡◌, ℕ, Bool, true, false, List, [], ◌∷◌, map, Option, Some, None, if◌then◌else◌, refl, sym, ap, subst, ◌∙◌}
-use Rattle.std.specs.Prelude.{◌==◌, nat_lt, filter, option_map, All, cond}
+use Rattle.std.proofs.Common.{◌≡◌, ℕ, Bool, true, false, List, [], ◌∷◌, map, Option, Some, None, if◌then◌else◌, refl, sym, ap, ◌∙◌}
+use Rattle.std.specs.Prelude.{◌==◌, filter, option_map, All, cond}
 use Rattle.std.specs.List.{find, filter_map, cons_option}
-use Rattle.std.proofs.lemmas.List.Elements.{All-cons, All-head, All-tail}
-use Rattle.collections.specs.ById.{find_id, put_id, put_all, IsById, or_else, keep_if}
+use Rattle.std.proofs.lemmas.List.Elements.{All-head, All-tail}
+use Rattle.collections.specs.ById.{find_id, put_all, IsById, or_else, keep_if}
 use Rattle.collections.proofs.Finds.{same_by_id, find-put_all, find-filter, IsById-put_all, IsById-filter}
 
 pub or_else-none : {T : Type 0} (o : Option T) → or_else o None ≡ o
@@ -14,25 +14,6 @@ module _ {T : Type 0} (key : T → ℕ) where
   -- an ascending list that is put together item by item
   pub put_all-nil : (xs : List T) → IsById key xs → put_all key [] xs ≡ xs
   put_all-nil xs h = same_by_id key _ _ (IsById-put_all key [] xs tt) h (λ id. find-put_all key id [] xs h ∙ or_else-none (find_id key id xs))
-
-  -- what holds of each holds of the one that is found
-  pub all-found : (P : T → Type 0) (id : ℕ) (xs : List T) (x : T) → All P xs → find_id key id xs ≡ Some x → P x
-  all-found P id [] x h e = absurd (cc)
-  all-found P id (y ∷ ys) x h e = by_test (key y == id) e (all-found P id ys x (All-tail P y ys h))
-    where
-      by_test : (b : Bool) → (if b then Some y else find_id key id ys) ≡ Some x → (find_id key id ys ≡ Some x → P x) → P x
-      by_test true e rest = let same : y ≡ x = cc in subst P same (All-head P y ys h)
-      by_test false e rest = rest e
-
-  -- what holds of each and of the one that is put
-  pub all-put : (P : T → Type 0) (x : T) (xs : List T) → P x → All P xs → All P (put_id key x xs)
-  all-put P x [] p h = All-cons P x [] p h
-  all-put P x (y ∷ ys) p h = by_tests (nat_lt (key x) (key y)) (key x == key y) (all-put P x ys p (All-tail P y ys h))
-    where
-      by_tests : (before onto : Bool) → All P (put_id key x ys) → All P (if before then x ∷ y ∷ ys else (if onto then x ∷ ys else y ∷ put_id key x ys))
-      by_tests true onto rest = All-cons P x (y ∷ ys) p h
-      by_tests false true rest = All-cons P x ys p (All-tail P y ys h)
-      by_tests false false rest = All-cons P y (put_id key x ys) (All-head P y ys h) rest
 
   -- two tests that agree on what is found
   pub filter-same : (p q : T → Bool) (xs : List T) → IsById key xs → ((id : ℕ) (x : T) → find_id key id xs ≡ Some x → p x ≡ q x) → filter p xs ≡ filter q xs
