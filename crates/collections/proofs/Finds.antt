@@ -1,5 +1,5 @@
 -- A list that ascends by id is known by its look-ups, and each edit of it by what it then finds.
-use Rattle.std.proofs.Common.{◌≡◌, ℕ, ◌<◌, ◌≤◌, Bool, true, false, List, [], ◌∷◌, map, Some, None, if◌then◌else◌, refl, sym, ap, ◌∙◌, arith, inl, inr}
+use Rattle.std.proofs.Common.{◌≡◌, ℕ, ◌<◌, ◌≤◌, Bool, true, false, not, List, [], ◌∷◌, map, Some, None, if◌then◌else◌, refl, sym, ap, ◌∙◌, arith, inl, inr}
 use Rattle.std.specs.Prelude.{◌==◌, filter, option_map, option_and_then, Option}
 use Rattle.std.specs.List.{items_where_true, filter_map}
 use Rattle.std.proofs.lemmas.Bool.{cases_lt}
@@ -95,6 +95,9 @@ module _ {T : Type 0} (key : T → ℕ) where
     | true ↦ (AllAbove-filter p (key x) xs h.0, IsById-filter p xs h.1)
     | false ↦ IsById-filter p xs h.1
   ]
+
+  pub IsById-without : (id : ℕ) (xs : List T) → IsById key xs → IsById key (without_id key id xs)
+  IsById-without id xs h = IsById-filter (λ x. not (key x == id)) xs h
 
   AllAbove-where : (k : ℕ) (bs : List Bool) (xs : List T) → AllAbove key k xs → AllAbove key k (items_where_true bs xs)
   AllAbove-where k [] xs h = tt

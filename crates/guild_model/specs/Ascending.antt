@@ -12,6 +12,12 @@ pub record HasOrderedOverwrites (c : Channel) : Type 0 where
   pub roles : IsById overwrite_id c.overwrites.roles
   pub members : IsById overwrite_id c.overwrites.members
 
+abbrev pub HoldsInOrder : Member → Type 0
+HoldsInOrder m = IsById own_id m.roles
+
+abbrev pub HasInOrder : Thread → Type 0
+HasInOrder t = IsById thread_member_id t.members
+
 pub record IsAscending (g : Record) : Type 0 where
   pub roles : IsById role_id g.roles
   pub members : IsById member_id g.members
@@ -19,9 +25,9 @@ pub record IsAscending (g : Record) : Type 0 where
   pub threads : IsById thread_id g.threads
   pub voices : IsById voice_id g.voices
   pub presences : IsById presence_id g.presences
-  pub held : All (λ (m : Member). IsById own_id m.roles) g.members
+  pub held : All HoldsInOrder g.members
   pub overwrites : All HasOrderedOverwrites g.channels
-  pub joined : All (λ (t : Thread). IsById thread_member_id t.members) g.threads
+  pub joined : All HasInOrder g.threads
   pub messages : AreRecent g.messages
 
 -- what holds of every record that edits make
