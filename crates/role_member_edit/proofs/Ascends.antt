@@ -2,29 +2,18 @@
 use Rattle.std.proofs.Common.{◌≡◌, ℕ, Bool, not, List, Option, refl}
 use Rattle.std.specs.Prelude.{◌==◌}
 use Rattle.std.proofs.lemmas.List.Elements.{All-filter, All-map, All-weaker}
-use Rattle.collections.specs.ById.{IsById, without_id}
 use Rattle.collections.proofs.Ids.{IsById-put, IsById-changed}
-use Rattle.collections.proofs.Finds.{IsById-filter, IsById-map}
+use Rattle.collections.proofs.Finds.{IsById-map, IsById-without}
 use Rattle.collections.proofs.Has.{All-put, All-changed}
 use Rattle.guild_model.specs.declared.role.Role.{Role}
 use Rattle.guild_model.specs.declared.member.Member.{Member}
 use Rattle.guild_model.specs.declared.channel.Channel.{Channel}
-use Rattle.guild_model.specs.declared.thread.Thread.{Thread}
 use Rattle.guild_model.specs.Record.{Record, own_id, role_id, member_id, overwrite_id, channel_id, thread_id, thread_member_id, voice_id, presence_id}
-use Rattle.guild_model.specs.Ascending.{IsAscending, HasOrderedOverwrites}
+use Rattle.guild_model.specs.Ascending.{IsAscending, HasOrderedOverwrites, HasInOrder, HoldsInOrder}
 use Rattle.guild_model.specs.Changes.{without_role, without_role_overwrite}
 use Rattle.role_member_edit.specs.Roles.{with_role_set, role_deleted}
 use Rattle.role_member_edit.specs.Members.{new_member, member_added, without_user, member_removed, with_member_changed, with_nick, with_timeout}
 use Rattle.role_member_edit.specs.HeldRoles.{with_role}
-
-IsById-without : {T : Type 0} (key : T → ℕ) (id : ℕ) (xs : List T) → IsById key xs → IsById key (without_id key id xs)
-IsById-without key id xs h = IsById-filter key (λ x. not (key x == id)) xs h
-
-abbrev HoldsInOrder : Member → Type 0
-HoldsInOrder m = IsById own_id m.roles
-
-abbrev HasInOrder : Thread → Type 0
-HasInOrder t = IsById thread_member_id t.members
 
 module _ (g : Record) (a : IsAscending g) where
   pub role_set : (r : Role) → IsAscending (with_role_set g r)

@@ -1,11 +1,11 @@
 -- A record in which the lists hold together stays so under each edit of roles and members.
-use Rattle.std.proofs.Common.{◌≡◌, ℕ, Bool, true, false, not, ◌&&◌, ◌||◌, List, [], ◌∷◌, map, Option, Some, None, if◌then◌else◌, refl, sym, ap, ◌∙◌, subst, arith}
+use Rattle.std.proofs.Common.{◌≡◌, ℕ, Bool, true, false, ◌||◌, List, [], ◌∷◌, map, Option, Some, None, if◌then◌else◌, refl, sym, ap, ◌∙◌, subst, arith}
 use Rattle.std.specs.Prelude.{◌==◌, option_map}
 use Rattle.std.proofs.lemmas.Bool.Decides.{nat_tests}
 use Rattle.std.proofs.lemmas.List.Elements.{All-weaker}
 use Rattle.collections.specs.ById.{find_id, has_id, put_id, changed_id, without_id}
-use Rattle.collections.proofs.Finds.{find-put, find-changed, find-without, find-map}
-use Rattle.collections.proofs.Has.{has-put, has-kept, has-without, has-changed, has-map, changed_alike}
+use Rattle.collections.proofs.Finds.{find-put, find-changed, find-map, found-without, found-mapped}
+use Rattle.collections.proofs.Has.{has-put, has-kept, has-left, has-without, has-changed, has-map, changed_alike}
 use Rattle.guild_model.specs.declared.member.Member.{Member}
 use Rattle.guild_model.specs.declared.channel.Channel.{Channel}
 use Rattle.guild_model.specs.declared.thread.Thread.{Thread}
@@ -14,17 +14,12 @@ use Rattle.guild_model.specs.Record.{Record, own_id, role_id, member_id, overwri
 use Rattle.guild_model.specs.Consistent.{IsConsistent, is_parent, is_place}
 use Rattle.guild_model.specs.declared.verdict.Verdict.TheVariants.{UnknownRole, IdTaken, EveryoneRole, OwnerStays}
 use Rattle.guild_model.specs.Tests.{refused_if, unknown_role, unknown_member}
-use Rattle.guild_model.proofs.Tests.{first_passes, not_refused}
+use Rattle.guild_model.proofs.Tests.{first_passes, not_refused, passed}
 use Rattle.guild_model.specs.Changes.{without_role, without_role_overwrite}
 use Rattle.guild_model.proofs.Kept.{members_changed}
 use Rattle.role_member_edit.specs.Roles.{everyone_role, role_delete_verdict, role_deleted}
 use Rattle.role_member_edit.specs.Members.{owner_stays, member_remove_verdict, new_member, member_added, without_user, member_removed, with_member_changed, with_nick, with_timeout}
 use Rattle.role_member_edit.specs.HeldRoles.{holds, member_role_add_verdict, member_role_added, with_role, with_roles, held_with}
-
--- what is found in a changed list is a changed record
-found-map : {T : Type 0} (f : T → T) (o : Option T) (y : T) → option_map f o ≡ Some y → (x : T) × ((o ≡ Some x) × (y ≡ f x))
-found-map f None y e = absurd (cc)
-found-map f (Some x) y e = (x, (refl, cc))
 
 -- what the tests let through
 delete_other : (g : Record) (role : ℕ) → role_delete_verdict g role ≡ None → (role == g.id) ≡ false
@@ -41,8 +36,7 @@ a_role g user role e =
     let first = first_passes (everyone_role g role) (unknown_member g user ∷ unknown_role g role ∷ held ∷ []) e in
     let second = first_passes (unknown_member g user) (unknown_role g role ∷ held ∷ []) first.1 in
     let third = first_passes (unknown_role g role) (held ∷ []) second.1 in
-    let there = not_refused (not (has_id role_id role g.roles)) UnknownRole third.0 in
-    (grind arith, not_refused (role == g.id) EveryoneRole first.0)
+    (passed (has_id role_id role g.roles) UnknownRole third.0, not_refused (role == g.id) EveryoneRole first.0)
 
 -- a member is given the roles that it holds and one more
 pub given_as : (g : Record) (user role : ℕ) (roles : List ℕ) → roles ≡ held_with g user role → with_member_changed g user (with_roles roles) ≡ member_role_added g user role
@@ -100,11 +94,7 @@ module _ (g : Record) (is_open : g.opened ≡ true) (h : IsConsistent g) where
   given user role accepted = member_changed user (with_role role) (λ m. refl) (holds_more role (a_role g user role accepted))
 
   holds_less : (role : ℕ) (m : Member) → Holds m → Holds (without_role role m)
-  holds_less role m old other holds = old other (both (role == other) (has_id own_id other m.roles) (sym (has-without own_id role other m.roles) ∙ holds))
-    where
-      both : (b c : Bool) → (not b && c) ≡ true → c ≡ true
-      both true c e = absurd (cc)
-      both false c e = e
+  holds_less role m old other holds = old other (has-left own_id role other m.roles holds).1
 
   pub taken : (user role : ℕ) → IsConsistent (with_member_changed g user (without_role role))
   taken user role = member_changed user (without_role role) (λ m. refl) (holds_less role)
@@ -113,24 +103,17 @@ module _ (g : Record) (is_open : g.opened ≡ true) (h : IsConsistent g) where
   still_role : (role other : ℕ) → (role == other) ≡ false → has_id role_id other g.roles ≡ true → has_id role_id other (without_id role_id role g.roles) ≡ true
   still_role role other ne there = grind (arith, has-without role_id role other g.roles)
 
-  left : (gone id : ℕ) (b c : Bool) → b ≡ (not (gone == id) && c) → b ≡ true → ((gone == id) ≡ false) × (c ≡ true)
-  left gone id b c e there = split (gone == id) c (sym e ∙ there)
-    where
-      split : (s c : Bool) → (not s && c) ≡ true → (s ≡ false) × (c ≡ true)
-      split true c e = absurd (cc)
-      split false c e = (refl, e)
-
   held_left : (role other : ℕ) (m x : Member) → m ≡ without_role role x → Holds x → has_id own_id other m.roles ≡ true
       → (has_id role_id other (without_id role_id role g.roles) ≡ true) × ((other == g.id) ≡ false)
   held_left role other m x e old holds =
-      let parts = left role other _ _ (ap (λ (m : Member). has_id own_id other m.roles) e ∙ has-without own_id role other x.roles) holds in
+      let parts = has-left own_id role other x.roles (sym (ap (λ (m : Member). has_id own_id other m.roles) e) ∙ holds) in
       let is = old other parts.1 in
       (still_role role other parts.0 is.0, is.1)
 
   overwritten_left : (role other : ℕ) (c x : Channel) → c ≡ without_role_overwrite role x → (has_id overwrite_id other x.overwrites.roles ≡ true → has_id role_id other g.roles ≡ true)
       → has_id overwrite_id other c.overwrites.roles ≡ true → has_id role_id other (without_id role_id role g.roles) ≡ true
   overwritten_left role other c x e old there =
-      let parts = left role other _ _ (ap (λ (c : Channel). has_id overwrite_id other c.overwrites.roles) e ∙ has-without overwrite_id role other x.overwrites.roles) there in
+      let parts = has-left overwrite_id role other x.overwrites.roles (sym (ap (λ (c : Channel). has_id overwrite_id other c.overwrites.roles) e) ∙ there) in
       still_role role other parts.0 (old parts.1)
 
   same_parent : (role : ℕ) (o : Option Channel) → is_parent (option_map (without_role_overwrite role) o) ≡ is_parent o
@@ -147,10 +130,10 @@ module _ (g : Record) (is_open : g.opened ≡ true) (h : IsConsistent g) where
         everyone = λ _. still_role role g.id ne (h.everyone is_open);
         owner = λ _. members g.owner ∙ h.owner is_open;
         held = λ user other m found holds.
-            let was = found-map (without_role role) (find_id member_id user g.members) m (sym (find-map member_id member_id (without_role role) (λ m. refl) user g.members) ∙ found) in
+            let was = found-mapped member_id member_id (without_role role) (λ m. refl) user g.members m found in
             held_left role other m was.0 was.1.1 (λ r. h.held user r was.0 was.1.0) holds;
         overwritten = λ channel other c found there.
-            let was = found-map (without_role_overwrite role) (find_id channel_id channel g.channels) c (sym (find-map channel_id channel_id (without_role_overwrite role) (λ c. refl) channel g.channels) ∙ found) in
+            let was = found-mapped channel_id channel_id (without_role_overwrite role) (λ c. refl) channel g.channels c found in
             overwritten_left role other c was.0 was.1.1 (h.overwritten channel other was.0 was.1.0) there;
         voices = λ user v found. let old = h.voices user v found in (members user ∙ old.0, channels v.channel ∙ old.1);
         presences = λ user there. members user ∙ h.presences user there;
@@ -166,42 +149,37 @@ module _ (g : Record) (is_open : g.opened ≡ true) (h : IsConsistent g) where
   still_member : (user other : ℕ) → (user == other) ≡ false → has_id member_id other g.members ≡ true → has_id member_id other (without_id member_id user g.members) ≡ true
   still_member user other ne there = grind (arith, has-without member_id user other g.members)
 
-  found_left : {T : Type 0} (b : Bool) (o : Option T) (x : T) → (if b then None else o) ≡ Some x → (b ≡ false) × (o ≡ Some x)
-  found_left true o x e = absurd (cc)
-  found_left false o x e = (refl, e)
-
   joined_left : (user other : ℕ) (t x : Thread) → t ≡ without_user user x → (has_id thread_member_id other x.members ≡ true → has_id member_id other g.members ≡ true)
       → has_id thread_member_id other t.members ≡ true → has_id member_id other (without_id member_id user g.members) ≡ true
   joined_left user other t x e old there =
-      let parts = left user other _ _ (ap (λ (t : Thread). has_id thread_member_id other t.members) e ∙ has-without thread_member_id user other x.members) there in
+      let parts = has-left thread_member_id user other x.members (sym (ap (λ (t : Thread). has_id thread_member_id other t.members) e) ∙ there) in
       still_member user other parts.0 (old parts.1)
 
   pub member_gone : (user : ℕ) → member_remove_verdict g user ≡ None → IsConsistent (member_removed g user)
   member_gone user accepted =
       let ne : (user == g.owner) ≡ false = remove_other g user accepted in
       let threads : (id : ℕ) → has_id thread_id id (map (without_user user) g.threads) ≡ has_id thread_id id g.threads = λ id. has-map thread_id (without_user user) (λ t. refl) id g.threads in
-      let thread_was : (thread : ℕ) (t : Thread) → find_id thread_id thread (map (without_user user) g.threads) ≡ Some t → (x : Thread) × ((find_id thread_id thread g.threads ≡ Some x) × (t ≡ without_user user x)) =
-      λ thread t found. found-map (without_user user) (find_id thread_id thread g.threads) t (sym (find-map thread_id thread_id (without_user user) (λ t. refl) thread g.threads) ∙ found) in
+      let thread_was = found-mapped thread_id thread_id (without_user user) (λ t. refl) in
       record {
         empty = λ closed. absurd (cc (is_open, closed));
         everyone = h.everyone;
         owner = λ _. still_member user g.owner ne (h.owner is_open);
         held = λ other role m found holds.
-            let was = found_left (user == other) (find_id member_id other g.members) m (sym (find-without member_id user other g.members) ∙ found) in
+            let was = found-without member_id user other g.members m found in
             h.held other role m was.1 holds;
         overwritten = h.overwritten;
         voices = λ other v found.
-            let was = found_left (user == other) (find_id voice_id other g.voices) v (sym (find-without voice_id user other g.voices) ∙ found) in
+            let was = found-without voice_id user other g.voices v found in
             let old = h.voices other v was.1 in
             (still_member user other was.0 old.0, old.1);
         presences = λ other there.
-            let parts = left user other _ _ (has-without presence_id user other g.presences) there in
+            let parts = has-left presence_id user other g.presences there in
             still_member user other parts.0 (h.presences other parts.1);
         parents = λ thread t found.
-            let was = thread_was thread t found in
+            let was = thread_was thread g.threads t found in
             ap (λ (t : Thread). is_parent (find_id channel_id t.parent g.channels)) was.1.1 ∙ h.parents thread was.0 was.1.0;
         joined = λ thread other t found there.
-            let was = thread_was thread t found in
+            let was = thread_was thread g.threads t found in
             joined_left user other t was.0 was.1.1 (h.joined thread other was.0 was.1.0) there;
         apart = λ id there. threads id ∙ h.apart id there;
         places = All-weaker (λ (m : MessageHead). is_place g m.place ≡ true) (λ (m : MessageHead). is_place (member_removed g user) m.place ≡ true)

@@ -1,9 +1,8 @@
 -- The lists of a record still ascend after each edit of voice states and presences.
-use Rattle.std.proofs.Common.{ℕ, Bool, not, List, Option, Some, None}
-use Rattle.std.specs.Prelude.{◌==◌}
+use Rattle.std.proofs.Common.{ℕ, Bool, List, Option, Some, None}
 use Rattle.collections.specs.ById.{IsById}
 use Rattle.collections.proofs.Ids.{IsById-put}
-use Rattle.collections.proofs.Finds.{IsById-filter}
+use Rattle.collections.proofs.Finds.{IsById-without}
 use Rattle.guild_model.specs.declared.presence.Activity.{Activity}
 use Rattle.guild_model.specs.declared.presence.Presence.{Presence}
 use Rattle.guild_model.specs.declared.voice.Voice.{Voice}
@@ -42,9 +41,9 @@ module _ (g : Record) (a : IsAscending g) where
   }
 
   pub voice_set : (user : ℕ) (channel : Option ℕ) (mute deaf : Bool) → IsAscending (voice_was_set g user channel mute deaf)
-  voice_set user None mute deaf = with_voices _ (IsById-filter voice_id (λ v. not (voice_id v == user)) g.voices a.voices)
+  voice_set user None mute deaf = with_voices _ (IsById-without voice_id user g.voices a.voices)
   voice_set user (Some channel) mute deaf = with_voices _ (IsById-put voice_id (new_voice user channel mute deaf) g.voices a.voices)
 
   pub presence_set : (user : ℕ) (activity : Option Activity) → IsAscending (with_activity g user activity)
-  presence_set user None = with_presences _ (IsById-filter presence_id (λ p. not (presence_id p == user)) g.presences a.presences)
+  presence_set user None = with_presences _ (IsById-without presence_id user g.presences a.presences)
   presence_set user (Some activity) = with_presences _ (IsById-put presence_id (new_presence user activity) g.presences a.presences)

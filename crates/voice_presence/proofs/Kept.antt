@@ -1,10 +1,10 @@
 -- A record in which the lists hold together stays so under each edit of voice states and presences.
-use Rattle.std.proofs.Common.{◌≡◌, ℕ, Bool, true, false, not, ◌&&◌, ◌||◌, ◌∷◌, [], Option, Some, None, if◌then◌else◌, refl, sym, ◌∙◌, subst, arith}
+use Rattle.std.proofs.Common.{◌≡◌, ℕ, Bool, true, false, not, ◌||◌, ◌∷◌, [], Option, Some, None, if◌then◌else◌, refl, sym, ◌∙◌, subst, arith}
 use Rattle.std.specs.Prelude.{◌==◌}
 use Rattle.std.proofs.lemmas.Bool.Decides.{nat_tests}
 use Rattle.collections.specs.ById.{find_id, has_id}
-use Rattle.collections.proofs.Finds.{find-put, find-without}
-use Rattle.collections.proofs.Has.{has-put, has-without}
+use Rattle.collections.proofs.Finds.{find-put, found-without}
+use Rattle.collections.proofs.Has.{has-put, has-left}
 use Rattle.guild_model.specs.declared.presence.Activity.{Activity}
 use Rattle.guild_model.specs.declared.presence.Presence.{Presence}
 use Rattle.guild_model.specs.declared.voice.Voice.{Voice}
@@ -12,36 +12,24 @@ use Rattle.guild_model.specs.declared.verdict.Verdict.TheVariants.{UnknownMember
 use Rattle.guild_model.specs.Record.{Record, member_id, channel_id, voice_id, presence_id}
 use Rattle.guild_model.specs.Consistent.{IsConsistent}
 use Rattle.guild_model.specs.Tests.{refused_if, unknown_member, unknown_channel}
-use Rattle.guild_model.proofs.Tests.{first_passes, not_refused}
+use Rattle.guild_model.proofs.Tests.{first_passes, passed}
 use Rattle.guild_model.proofs.Kept.{voices_changed, presences_changed}
 use Rattle.voice_presence.specs.Voices.{has_voice_there, no_voice_channel, voice_set_verdict, new_voice, voice_joined, voice_left}
 use Rattle.voice_presence.specs.Presences.{presence_set_verdict, new_presence, with_activity}
 
-is_true : (b : Bool) → not b ≡ false → b ≡ true
-is_true true e = refl
-is_true false e = absurd (cc)
-
 -- what the tests let through
 member_there : (g : Record) (user : ℕ) → unknown_member g user ≡ None → has_id member_id user g.members ≡ true
-member_there g user e = is_true (has_id member_id user g.members) (not_refused (not (has_id member_id user g.members)) UnknownMember e)
+member_there g user e = passed (has_id member_id user g.members) UnknownMember e
 
 channel_there : (g : Record) (channel : ℕ) → no_voice_channel g channel ≡ None → has_id channel_id channel g.channels ≡ true
 channel_there g channel e =
     let known = (first_passes (unknown_channel g channel) (refused_if (not (has_voice_there (find_id channel_id channel g.channels))) WrongType ∷ []) e).0 in
-    is_true (has_id channel_id channel g.channels) (not_refused (not (has_id channel_id channel g.channels)) UnknownChannel known)
+    passed (has_id channel_id channel g.channels) UnknownChannel known
 
 both_there : (g : Record) (user channel : ℕ) → voice_set_verdict g user (Some channel) ≡ None → (has_id member_id user g.members ≡ true) × (has_id channel_id channel g.channels ≡ true)
 both_there g user channel e =
     let first = first_passes (unknown_member g user) (no_voice_channel g channel ∷ []) e in
     (member_there g user first.0, channel_there g channel (first_passes (no_voice_channel g channel) [] first.1).0)
-
-found_left : {T : Type 0} (b : Bool) (o : Option T) (x : T) → (if b then None else o) ≡ Some x → o ≡ Some x
-found_left true o x e = absurd (cc)
-found_left false o x e = e
-
-right : (b c : Bool) → (not b && c) ≡ true → c ≡ true
-right true c e = absurd (cc)
-right false c e = e
 
 module _ (g : Record) (is_open : g.opened ≡ true) (h : IsConsistent g) where
   -- a voice state of a member, in a channel
@@ -62,7 +50,7 @@ module _ (g : Record) (is_open : g.opened ≡ true) (h : IsConsistent g) where
   pub voice_gone : (user : ℕ) → IsConsistent (voice_left g user)
   voice_gone user =
       voices_changed g is_open h _
-      (λ id v found. h.voices id v (found_left (user == id) (find_id voice_id id g.voices) v (sym (find-without voice_id user id g.voices) ∙ found)))
+      (λ id v found. h.voices id v (found-without voice_id user id g.voices v found).1)
 
   pub presence_came : (user : ℕ) (activity : Activity) → presence_set_verdict g user ≡ None → IsConsistent (with_activity g user (Some activity))
   presence_came user activity accepted =
@@ -76,4 +64,4 @@ module _ (g : Record) (is_open : g.opened ≡ true) (h : IsConsistent g) where
 
   pub presence_gone : (user : ℕ) → IsConsistent (with_activity g user None)
   presence_gone user =
-      presences_changed g is_open h _ (λ id found. h.presences id (right (user == id) (has_id presence_id id g.presences) (sym (has-without presence_id user id g.presences) ∙ found)))
+      presences_changed g is_open h _ (λ id found. h.presences id (has-left presence_id user id g.presences found).1)
