@@ -2,9 +2,9 @@
 use Rattle.std.proofs.Common.{◌≡◌, ℕ, Bool, true, false, not, List, Option, Some, None, refl}
 use Rattle.std.specs.Prelude.{◌==◌, filter}
 use Rattle.std.proofs.lemmas.List.Elements.{All-filter, All-map, All-weaker}
-use Rattle.collections.specs.ById.{find_id, IsById, without_id}
+use Rattle.collections.specs.ById.{find_id, IsById}
 use Rattle.collections.proofs.Ids.{IsById-put, IsById-changed}
-use Rattle.collections.proofs.Finds.{IsById-filter, IsById-map}
+use Rattle.collections.proofs.Finds.{IsById-filter, IsById-map, IsById-without}
 use Rattle.collections.proofs.Has.{All-found, All-put, All-changed}
 use Rattle.guild_model.specs.declared.channel.Channel.{Channel}
 use Rattle.guild_model.specs.declared.channel.ChannelKind.{ChannelKind}
@@ -12,9 +12,8 @@ use Rattle.guild_model.specs.declared.channel.Overwrite.{Overwrite}
 use Rattle.guild_model.specs.declared.channel.Overwrites.{Overwrites}
 use Rattle.guild_model.specs.declared.channel.OverwriteKind.{OverwriteKind}
 use Rattle.guild_model.specs.declared.channel.OverwriteKind.TheVariants.{Role, Member}
-use Rattle.guild_model.specs.declared.thread.Thread.{Thread}
-use Rattle.guild_model.specs.Record.{Record, overwrite_id, channel_id, thread_id, thread_member_id, voice_id}
-use Rattle.guild_model.specs.Ascending.{IsAscending, HasOrderedOverwrites}
+use Rattle.guild_model.specs.Record.{Record, overwrite_id, channel_id, thread_id, voice_id}
+use Rattle.guild_model.specs.Ascending.{IsAscending, HasOrderedOverwrites, HasInOrder}
 use Rattle.guild_model.proofs.Recent.{recent_left}
 use Rattle.channel_edit.specs.Channels.{first_overwrites, overwrites_there, new_channel, channel_created, with_settings, with_channel_changed, channel_updated}
 use Rattle.channel_edit.specs.ChannelEnd.{orphaned, is_outside, speaks_outside, stands_outside, channel_deleted}
@@ -79,12 +78,9 @@ module _ (g : Record) (a : IsAscending g) where
   pub overwrite_set : (channel : ℕ) (kind : OverwriteKind) (w : Overwrite) → IsAscending (overwrite_was_set g channel w.id kind w.allow w.deny)
   overwrite_set channel kind w = channel_changed channel (with_overwrite kind w) (λ c. refl) (ordered_put kind w)
 
-  IsById-without : (id : ℕ) (os : List Overwrite) → IsById overwrite_id os → IsById overwrite_id (without_id overwrite_id id os)
-  IsById-without id os h = IsById-filter overwrite_id (λ o. not (overwrite_id o == id)) os h
-
   ordered_left : (kind : OverwriteKind) (id : ℕ) (c : Channel) → HasOrderedOverwrites c → HasOrderedOverwrites (without_overwrite kind id c)
-  ordered_left Role id c o = record { roles = IsById-without id c.overwrites.roles o.roles; members = o.members }
-  ordered_left Member id c o = record { roles = o.roles; members = IsById-without id c.overwrites.members o.members }
+  ordered_left Role id c o = record { roles = IsById-without overwrite_id id c.overwrites.roles o.roles; members = o.members }
+  ordered_left Member id c o = record { roles = o.roles; members = IsById-without overwrite_id id c.overwrites.members o.members }
 
   pub overwrite_gone : (channel id : ℕ) (kind : OverwriteKind) → IsAscending (overwrite_deleted g channel id kind)
   overwrite_gone channel id kind = channel_changed channel (without_overwrite kind id) (λ c. refl) (ordered_left kind id)
@@ -103,6 +99,6 @@ module _ (g : Record) (a : IsAscending g) where
         overwrites = All-map HasOrderedOverwrites (orphaned channel) (filter others g.channels)
             (All-weaker HasOrderedOverwrites (λ c. HasOrderedOverwrites (orphaned channel c)) (λ c o. record { roles = o.roles; members = o.members }) (filter others g.channels)
             (All-filter others HasOrderedOverwrites g.channels a.overwrites));
-        joined = All-filter (is_outside channel) (λ (t : Thread). IsById thread_member_id t.members) g.threads a.joined;
+        joined = All-filter (is_outside channel) HasInOrder g.threads a.joined;
         messages = recent_left (stands_outside g.threads channel) g.messages a.messages;
       }

@@ -1,11 +1,12 @@
 -- A record in which the lists hold together stays so under each edit of channels.
 use Rattle.std.proofs.Common.{◌≡◌, ℕ, Bool, true, false, not, ◌&&◌, ◌||◌, List, [], ◌∷◌, map, Option, Some, None, if◌then◌else◌, refl, sym, ap, ◌∙◌, subst, arith, length}
 use Rattle.std.specs.Prelude.{◌==◌, slice_index_or, is_some, option_map, filter}
+use Rattle.std.proofs.lemmas.Bool.{and_parts, not-true, or_left, or_parts, or_right}
 use Rattle.std.proofs.lemmas.Bool.Decides.{nat_tests}
 use Rattle.std.proofs.lemmas.List.Elements.{All-weaker, All-filter, filter_passes}
 use Rattle.collections.specs.ById.{find_id, has_id, put_id, changed_id, without_id, keep_if, IsById}
-use Rattle.collections.proofs.Finds.{find-put, find-changed, find-without, find-map, find-filter}
-use Rattle.collections.proofs.Has.{has-put, has-kept, has-without, has-changed, has-map, changed_alike}
+use Rattle.collections.proofs.Finds.{find-put, find-changed, find-without, find-map, find-filter, found-map, found-left, found-filter}
+use Rattle.collections.proofs.Has.{has-put, has-kept, has-left, has-without, has-changed, has-map, changed_alike}
 use Rattle.guild_model.specs.declared.channel.Channel.{Channel}
 use Rattle.guild_model.specs.declared.channel.ChannelKind.{ChannelKind}
 use Rattle.guild_model.specs.declared.channel.Overwrite.{Overwrite}
@@ -19,7 +20,7 @@ use Rattle.guild_model.specs.declared.verdict.Verdict.TheVariants.{IdTaken, Unkn
 use Rattle.guild_model.specs.Record.{Record, role_id, overwrite_id, channel_id, thread_id, voice_id}
 use Rattle.guild_model.specs.Consistent.{IsConsistent, has_threads, is_parent, is_place}
 use Rattle.guild_model.specs.Tests.{refused_if, too_long, too_many, unknown_channel}
-use Rattle.guild_model.proofs.Tests.{first_passes, not_refused}
+use Rattle.guild_model.proofs.Tests.{first_passes, not_refused, passed, parent-there}
 use Rattle.guild_model.proofs.Kept.{channels_changed}
 use Rattle.channel_edit.specs.Channels.{unknown_parent, wrong_parent, first_overwrites, overwrites_there, new_channel, channel_create_verdict, channel_created, with_settings, with_channel_changed, channel_updated}
 use Rattle.channel_edit.specs.ChannelEnd.{orphaned, is_outside, speaks_outside, is_in_channel, stands_outside, channel_deleted}
@@ -43,27 +44,6 @@ set_as g channel kind o os e =
     let same : changed_id channel_id channel (with_overwrites os) g.channels ≡ changed_id channel_id channel (with_overwrite kind o) g.channels =
     changed_alike channel_id channel _ _ g.channels (λ c found. rw (e, found) refl) in
     ap (λ cs. record g { channels = cs }) same
-
--- the parts of an answer
-neither : (b c : Bool) → (b || c) ≡ false → (b ≡ false) × (c ≡ false)
-neither true c e = absurd (cc)
-neither false c e = (refl, e)
-
-found-map : {T : Type 0} (f : T → T) (o : Option T) (y : T) → option_map f o ≡ Some y → (x : T) × ((o ≡ Some x) × (y ≡ f x))
-found-map f None y e = absurd (cc)
-found-map f (Some x) y e = (x, (refl, cc))
-
-found_left : {T : Type 0} (b : Bool) (o : Option T) (x : T) → (if b then None else o) ≡ Some x → (b ≡ false) × (o ≡ Some x)
-found_left true o x e = absurd (cc)
-found_left false o x e = (refl, e)
-
-keep_parts : {T : Type 0} (p : T → Bool) (o : Option T) (x : T) → keep_if p o ≡ Some x → (o ≡ Some x) × (p x ≡ true)
-keep_parts p None x e = absurd (cc)
-keep_parts p (Some y) x e = by_test (p y) refl e
-  where
-    by_test : (b : Bool) → p y ≡ b → (if b then Some y else None) ≡ Some x → (Some y ≡ Some x) × (p x ≡ true)
-    by_test true is e = let same : y ≡ x = cc in (e, subst (λ z. p z ≡ true) same is)
-    by_test false is e = absurd (cc)
 
 keep_none : {T : Type 0} (p : T → Bool) (o : Option T) → is_some o ≡ false → is_some (keep_if p o) ≡ false
 keep_none p None e = refl
@@ -101,13 +81,9 @@ module _ (g : Record) (is_open : g.opened ≡ true) (h : IsConsistent g) where
   covered_set : (o : Overwrite) (kind : OverwriteKind) → unknown_target g o.id kind ≡ None → (os : Overwrites) → Covered os → Covered (put_overwrite kind o os)
   covered_set o Member e os old role there = old role there
   covered_set o Role e os old role there =
-      let is : has_id role_id o.id g.roles ≡ true = is_true (has_id role_id o.id g.roles) (not_refused (not (has_id role_id o.id g.roles)) UnknownRole e) in
+      let is : has_id role_id o.id g.roles ≡ true = passed (has_id role_id o.id g.roles) UnknownRole e in
       by_test (overwrite_id o == role) refl (sym (has-put overwrite_id o role os.roles) ∙ there) is
     where
-      is_true : (b : Bool) → not b ≡ false → b ≡ true
-      is_true true e = refl
-      is_true false e = absurd (cc)
-
       by_test : (b : Bool) → (o.id == role) ≡ b → (b || has_id overwrite_id role os.roles) ≡ true → has_id role_id o.id g.roles ≡ true → has_id role_id role g.roles ≡ true
       by_test true is_same either is = let same : o.id ≡ role = grind (arith, nat_tests) in subst (λ (r : ℕ). has_id role_id r g.roles ≡ true) same is
       by_test false is_other either is = old role either
@@ -119,11 +95,7 @@ module _ (g : Record) (is_open : g.opened ≡ true) (h : IsConsistent g) where
 
   covered_left : (id : ℕ) (kind : OverwriteKind) (os : Overwrites) → Covered os → Covered (drop_overwrite kind id os)
   covered_left id Member os old role there = old role there
-  covered_left id Role os old role there = old role (both (id == role) (has_id overwrite_id role os.roles) (sym (has-without overwrite_id id role os.roles) ∙ there))
-    where
-      both : (b c : Bool) → (not b && c) ≡ true → c ≡ true
-      both true c e = absurd (cc)
-      both false c e = e
+  covered_left id Role os old role there = old role (has-left overwrite_id id role os.roles there).1
 
   pub overwrite_gone : (channel id : ℕ) (kind : OverwriteKind) → IsConsistent (overwrite_deleted g channel id kind)
   overwrite_gone channel id kind = channel_changed channel (without_overwrite kind id) (λ c. refl) (λ c. refl) (λ c old. covered_left id kind c.overwrites old)
@@ -142,10 +114,6 @@ module _ (g : Record) (is_open : g.opened ≡ true) (h : IsConsistent g) where
   found_put true c n o new old e = let same : n ≡ c = cc in subst (λ (c : Channel). Covered c.overwrites) same new
   found_put false c n o new old e = old e
 
-  is_there : (o : Option Channel) → is_parent o ≡ true → is_some o ≡ true
-  is_there None e = absurd (cc)
-  is_there (Some c) e = refl
-
   other_parent : (b : Bool) (n : Channel) (o : Option Channel) → b ≡ false → is_parent o ≡ true → is_parent (if b then Some n else o) ≡ true
   other_parent true n o e was = absurd (cc)
   other_parent false n o e was = was
@@ -163,7 +131,7 @@ module _ (g : Record) (is_open : g.opened ≡ true) (h : IsConsistent g) where
   pub channel_came : (channel : ℕ) (kind : ChannelKind) (name : List ℕ) (parent : Option ℕ) (position : ℕ) (sync : Bool) → channel_create_verdict g channel kind name parent ≡ None → IsConsistent (channel_created g channel kind name parent position sync)
   channel_came channel kind name parent position sync accepted =
       let n : Channel = new_channel g channel kind name parent position sync in
-      let free = neither (has_id channel_id channel g.channels) (has_id thread_id channel g.threads) (place_free g channel kind name parent accepted) in
+      let free = or_parts (has_id channel_id channel g.channels) (has_id thread_id channel g.threads) (place_free g channel kind name parent accepted) in
       record {
         empty = λ closed. absurd (cc (is_open, closed));
         everyone = h.everyone;
@@ -175,7 +143,7 @@ module _ (g : Record) (is_open : g.opened ≡ true) (h : IsConsistent g) where
         presences = h.presences;
         parents = λ thread t found.
             let was = h.parents thread t found in
-            let other = differs channel t.parent free.0 (is_there (find_id channel_id t.parent g.channels) was) in
+            let other = differs channel t.parent free.0 (parent-there (find_id channel_id t.parent g.channels) was) in
             ap is_parent (find-put channel_id n t.parent g.channels) ∙ other_parent (channel == t.parent) n (find_id channel_id t.parent g.channels) other was;
         joined = h.joined;
         apart = λ id there. apart_from channel id free.1 (sym (has-put channel_id n id g.channels) ∙ there);
@@ -209,34 +177,22 @@ module _ (g : Record) (is_open : g.opened ≡ true) (h : IsConsistent g) where
     parent_left false None e was = was
     parent_left false (Some c) e was = was
 
-    thread_was : (thread : ℕ) (t : Thread) → find_id thread_id thread (filter (is_outside channel) g.threads) ≡ Some t → (find_id thread_id thread g.threads ≡ Some t) × (is_outside channel t ≡ true)
-    thread_was thread t found = keep_parts (is_outside channel) (find_id thread_id thread g.threads) t (sym (find-filter thread_id (is_outside channel) thread g.threads threads_ascend) ∙ found)
+    thread_was : (thread : ℕ) (t : Thread) → find_id thread_id thread (filter (is_outside channel) g.threads) ≡ Some t → (is_outside channel t ≡ true) × (find_id thread_id thread g.threads ≡ Some t)
+    thread_was thread t found = found-filter thread_id (is_outside channel) thread g.threads t threads_ascend found
 
-    voice_was : (user : ℕ) (v : Voice) → find_id voice_id user (filter (speaks_outside channel) g.voices) ≡ Some v → (find_id voice_id user g.voices ≡ Some v) × (speaks_outside channel v ≡ true)
-    voice_was user v found = keep_parts (speaks_outside channel) (find_id voice_id user g.voices) v (sym (find-filter voice_id (speaks_outside channel) user g.voices voices_ascend) ∙ found)
+    voice_was : (user : ℕ) (v : Voice) → find_id voice_id user (filter (speaks_outside channel) g.voices) ≡ Some v → (speaks_outside channel v ≡ true) × (find_id voice_id user g.voices ≡ Some v)
+    voice_was user v found = found-filter voice_id (speaks_outside channel) user g.voices v voices_ascend found
 
     kept_thread : (o : Option Thread) → is_in_channel channel o ≡ false → is_some o ≡ true → is_some (keep_if (is_outside channel) o) ≡ true
     kept_thread None out there = there
     kept_thread (Some t) out there = grind arith
 
-    outside_parts : (a b : Bool) → not (a || b) ≡ true → (a ≡ false) × (b ≡ false)
-    outside_parts true b e = absurd (cc)
-    outside_parts false true e = absurd (cc)
-    outside_parts false false e = (refl, refl)
-
     same_test : (a b : ℕ) → (a == b) ≡ false → (b == a) ≡ false
     same_test a b e = grind (arith, nat_tests)
 
-    or_left : (a b : Bool) → a ≡ true → (a || b) ≡ true
-    or_left a b e = ap (λ x. x || b) e
-
-    or_right : (a b : Bool) → b ≡ true → (a || b) ≡ true
-    or_right true b e = refl
-    or_right false b e = e
-
     place_left : (m : MessageHead) → is_place g m.place ≡ true → stands_outside g.threads channel m ≡ true → is_place (channel_deleted g channel) m.place ≡ true
     place_left m there out =
-        let parts = outside_parts (m.place == channel) (is_in_channel channel (find_id thread_id m.place g.threads)) out in
+        let parts = or_parts (m.place == channel) (is_in_channel channel (find_id thread_id m.place g.threads)) (not-true _ out) in
         by_place (has_id channel_id m.place g.channels) refl there (same_test m.place channel parts.0) parts.1
       where
         by_place : (b : Bool) → has_id channel_id m.place g.channels ≡ b → (b || has_id thread_id m.place g.threads) ≡ true → (channel == m.place) ≡ false → is_in_channel channel (find_id thread_id m.place g.threads) ≡ false → is_place (channel_deleted g channel) m.place ≡ true
@@ -253,25 +209,21 @@ module _ (g : Record) (is_open : g.opened ≡ true) (h : IsConsistent g) where
       held = h.held;
       overwritten = λ id role c found there.
           let was = found-map (orphaned channel) (if channel == id then None else find_id channel_id id g.channels) c (sym (find_left id) ∙ found) in
-          let old = found_left (channel == id) (find_id channel_id id g.channels) was.0 was.1.0 in
+          let old = found-left (channel == id) (find_id channel_id id g.channels) was.0 was.1.0 in
           h.overwritten id role was.0 old.1 (sym (ap (λ (c : Channel). has_id overwrite_id role c.overwrites.roles) was.1.1) ∙ there);
       voices = λ user v found.
           let was = voice_was user v found in
-          let old = h.voices user v was.0 in
-          (old.0, stays v.channel (two_sides v.channel channel was.1) old.1);
+          let old = h.voices user v was.1 in
+          (old.0, stays v.channel (two_sides v.channel channel was.0) old.1);
       presences = h.presences;
       parents = λ thread t found.
           let was = thread_was thread t found in
-          ap is_parent (find_left t.parent) ∙ parent_left (channel == t.parent) (find_id channel_id t.parent g.channels) (two_sides t.parent channel was.1) (h.parents thread t was.0);
-      joined = λ thread user t found there. h.joined thread user t (thread_was thread t found).0 there;
+          ap is_parent (find_left t.parent) ∙ parent_left (channel == t.parent) (find_id channel_id t.parent g.channels) (two_sides t.parent channel was.0) (h.parents thread t was.1);
+      joined = λ thread user t found there. h.joined thread user t (thread_was thread t found).1 there;
       apart = λ id there.
-          let had = both (channel == id) (has_id channel_id id g.channels) (sym (has_left id) ∙ there) in
+          let had = (and_parts (not (channel == id)) (has_id channel_id id g.channels) (sym (has_left id) ∙ there)).1 in
           ap is_some (find-filter thread_id (is_outside channel) id g.threads threads_ascend) ∙ keep_none (is_outside channel) (find_id thread_id id g.threads) (h.apart id had);
       places = λ k d lt.
           place_left (slice_index_or (filter (stands_outside g.threads channel) g.messages) k d) (All-filter (stands_outside g.threads channel) (λ (m : MessageHead). is_place g m.place ≡ true) g.messages h.places k d lt)
           (filter_passes (stands_outside g.threads channel) g.messages k d lt);
     }
-      where
-        both : (b c : Bool) → (not b && c) ≡ true → c ≡ true
-        both true c e = absurd (cc)
-        both false c e = e

@@ -3,7 +3,6 @@
 ghost use Rattle.std.specs.Prelude.{◌≡◌, None, true, OnOk, OnErr, IfOk};
 ghost use Rattle.guild_model.specs.Tests.{outcome};
 ghost use Rattle.guild_model.specs.Record.{channel_id};
-ghost use Rattle.guild_model.specs.Consistent.{is_place};
 ghost use Rattle.collections.specs.ById.{find_id};
 ghost use Rattle.channel_edit.specs.Channels.{channel_create_verdict, channel_created, first_overwrites, overwrites_there};
 
@@ -12,12 +11,6 @@ use collections::{Duplicate, Text};
 use guild_model::{Channel, ChannelKind, Guild, Overwrites, Verdict, limits, rules};
 use snowflake_id::Snowflake;
 use std::alloc::{AllocError, Global};
-
-fn has_place(guild: &Guild, id: Snowflake) -> bool
-    ensures { result ≡ is_place guild.now id }
-{
-    guild.channels.contains(id.0) || guild.threads.contains(id.0)
-}
 
 /// Refused in this order: `IdTaken` where a channel or a thread has the id, `UnknownChannel` for the
 /// parent, `WrongType` for it, `TooMany`, `TooLong` for the name.
@@ -30,7 +23,7 @@ pub fn check(
 ) -> Result<(), Verdict>
     ensures { result ≡ outcome (channel_create_verdict guild.now channel kind name.now parent.now) }
 {
-    if has_place(guild, channel) {
+    if guild.has_place(channel) {
         return Err(Verdict::IdTaken);
     }
     knows_parent(guild, parent)?;
