@@ -4,21 +4,18 @@ use Rattle.std.specs.Prelude.{◌==◌, All}
 use Rattle.std.proofs.lemmas.List.Elements.{All-filter}
 use Rattle.collections.specs.ById.{IsById, put_id, changed_id, without_id}
 use Rattle.collections.proofs.Ids.{IsById-put, IsById-changed}
-use Rattle.collections.proofs.Finds.{IsById-filter}
+use Rattle.collections.proofs.Finds.{IsById-without}
 use Rattle.collections.proofs.Has.{All-put, All-changed}
 use Rattle.guild_model.specs.declared.thread.Thread.{Thread}
 use Rattle.guild_model.specs.declared.thread.ThreadKind.{ThreadKind}
 use Rattle.guild_model.specs.declared.message.MessageHead.{MessageHead}
 use Rattle.guild_model.specs.Record.{Record, thread_id, thread_member_id}
 use Rattle.guild_model.specs.Heads.{AreRecent}
-use Rattle.guild_model.specs.Ascending.{IsAscending}
+use Rattle.guild_model.specs.Ascending.{IsAscending, HasInOrder}
 use Rattle.guild_model.proofs.Recent.{recent_left}
 use Rattle.thread_edit.specs.Threads.{new_thread_member, new_thread, thread_created, thread_changed, with_thread_name, stands_elsewhere, thread_deleted}
 use Rattle.thread_edit.specs.Archives.{with_archived}
 use Rattle.thread_edit.specs.ThreadMembers.{with_joined, with_left}
-
-abbrev HasInOrder : Thread → Type 0
-HasInOrder t = IsById thread_member_id t.members
 
 module _ (g : Record) (a : IsAscending g) where
   threads_changed : (ts : List Thread) (ms : List MessageHead) → IsById thread_id ts → All HasInOrder ts → AreRecent ms → IsAscending (record g { threads = ts; messages = ms })
@@ -54,10 +51,10 @@ module _ (g : Record) (a : IsAscending g) where
   user_joined thread user at = changed thread (with_joined user at) (λ t. refl) (λ t o. IsById-put thread_member_id (new_thread_member user at) t.members o)
 
   pub user_left : (thread user : ℕ) → IsAscending (thread_changed g thread (with_left user))
-  user_left thread user = changed thread (with_left user) (λ t. refl) (λ t o. IsById-filter thread_member_id (λ m. not (thread_member_id m == user)) t.members o)
+  user_left thread user = changed thread (with_left user) (λ t. refl) (λ t o. IsById-without thread_member_id user t.members o)
 
   pub thread_gone : (thread : ℕ) → IsAscending (thread_deleted g thread)
   thread_gone thread =
       let others : Thread → Bool = λ t. not (thread_id t == thread) in
-      threads_changed (without_id thread_id thread g.threads) _ (IsById-filter thread_id others g.threads a.threads) (All-filter others HasInOrder g.threads a.joined)
+      threads_changed (without_id thread_id thread g.threads) _ (IsById-without thread_id thread g.threads a.threads) (All-filter others HasInOrder g.threads a.joined)
       (recent_left (stands_elsewhere thread) g.messages a.messages)

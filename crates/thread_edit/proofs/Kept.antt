@@ -1,11 +1,12 @@
 -- A record in which the lists hold together stays so under each edit of threads.
-use Rattle.std.proofs.Common.{◌≡◌, ℕ, Bool, true, false, not, ◌&&◌, ◌||◌, List, [], ◌∷◌, Option, Some, None, if◌then◌else◌, refl, sym, ap, ◌∙◌, subst, arith, length}
+use Rattle.std.proofs.Common.{◌≡◌, ℕ, Bool, true, false, not, ◌||◌, List, [], ◌∷◌, Option, Some, None, if◌then◌else◌, refl, sym, ap, ◌∙◌, subst, arith, length}
 use Rattle.std.specs.Prelude.{◌==◌, All, slice_index_or, is_some, option_map, filter}
+use Rattle.std.proofs.lemmas.Bool.{and_from, and_right, not_from_false, or_parts}
 use Rattle.std.proofs.lemmas.Bool.Decides.{nat_tests}
 use Rattle.std.proofs.lemmas.List.Elements.{All-weaker, All-filter, filter_passes}
 use Rattle.collections.specs.ById.{find_id, has_id, put_id, changed_id, without_id}
-use Rattle.collections.proofs.Finds.{find-put, find-changed, find-without}
-use Rattle.collections.proofs.Has.{has-put, has-kept, has-without, has-changed, changed_alike}
+use Rattle.collections.proofs.Finds.{find-put, find-changed, found-without}
+use Rattle.collections.proofs.Has.{has-put, has-kept, has-left, has-without, has-changed, changed_alike}
 use Rattle.guild_model.specs.declared.channel.Channel.{Channel}
 use Rattle.guild_model.specs.declared.channel.ChannelKind.{ChannelKind}
 use Rattle.guild_model.specs.declared.channel.ChannelKind.TheVariants as channel
@@ -17,14 +18,10 @@ use Rattle.guild_model.specs.declared.verdict.Verdict.TheVariants.{UnknownMember
 use Rattle.guild_model.specs.Record.{Record, member_id, channel_id, thread_id, thread_member_id}
 use Rattle.guild_model.specs.Consistent.{IsConsistent, has_threads, is_parent, is_place}
 use Rattle.guild_model.specs.Tests.{refused_if, too_long, too_many, unknown_member, unknown_channel}
-use Rattle.guild_model.proofs.Tests.{first_passes, not_refused}
+use Rattle.guild_model.proofs.Tests.{first_passes, not_refused, passed}
 use Rattle.thread_edit.specs.Threads.{takes_thread, takes_there, unknown_thread, not_active, wrong_kind, too_many_active, thread_create_verdict, new_thread_member, new_thread, thread_created, thread_changed, with_thread_name, stands_elsewhere, thread_deleted}
 use Rattle.thread_edit.specs.Archives.{with_archived}
 use Rattle.thread_edit.specs.ThreadMembers.{is_in_thread, thread_join_verdict, with_joined, thread_joined, with_left, members_with, with_members}
-
-is_true : (b : Bool) → not b ≡ false → b ≡ true
-is_true true e = refl
-is_true false e = absurd (cc)
 
 -- what the tests let through
 record MayCome (g : Record) (thread parent owner : ℕ) : Type 0 where
@@ -54,8 +51,8 @@ may_come g thread parent kind name owner e =
     let there = find_id channel_id parent g.channels in
     record {
       free = not_refused (is_place g thread) IdTaken first.0;
-      fits = takes_parent kind there (is_true (takes_there kind there) (not_refused (not (takes_there kind there)) WrongType third.0));
-      member = is_true (has_id member_id owner g.members) (not_refused (not (has_id member_id owner g.members)) UnknownMember fourth.0);
+      fits = takes_parent kind there (passed (takes_there kind there) WrongType third.0);
+      member = passed (has_id member_id owner g.members) UnknownMember fourth.0;
     }
 
 may_join : (g : Record) (thread user : ℕ) → thread_join_verdict g thread user ≡ None → has_id member_id user g.members ≡ true
@@ -63,7 +60,7 @@ may_join g thread user e =
     let rest = not_active g thread ∷ refused_if (is_in_thread g thread user) InThread ∷ [] in
     let first = first_passes (unknown_thread g thread) (unknown_member g user ∷ rest) e in
     let second = first_passes (unknown_member g user) rest first.1 in
-    is_true (has_id member_id user g.members) (not_refused (not (has_id member_id user g.members)) UnknownMember second.0)
+    passed (has_id member_id user g.members) UnknownMember second.0
 
 -- a thread is given those that are in it and one more
 pub joined_as : (g : Record) (thread : ℕ) (m : ThreadMember) (ms : List ThreadMember) → ms ≡ members_with g thread m → thread_changed g thread (with_members ms) ≡ thread_joined g thread m.user m.joined
@@ -71,10 +68,6 @@ joined_as g thread m ms e =
     let same : changed_id thread_id thread (with_members ms) g.threads ≡ changed_id thread_id thread (with_joined m.user m.joined) g.threads =
     changed_alike thread_id thread _ _ g.threads (λ t found. rw (e, found) refl) in
     ap (λ ts. record g { threads = ts }) same
-
-neither : (b c : Bool) → (b || c) ≡ false → (b ≡ false) × (c ≡ false)
-neither true c e = absurd (cc)
-neither false c e = (refl, e)
 
 module _ (g : Record) (is_open : g.opened ≡ true) (h : IsConsistent g) where
   -- what holds of each thread: its parent has threads, and those in it are members
@@ -131,7 +124,7 @@ module _ (g : Record) (is_open : g.opened ≡ true) (h : IsConsistent g) where
   thread_came thread parent kind name owner at accepted =
       let n : Thread = new_thread thread parent kind name owner at in
       let may = may_come g thread parent kind name owner accepted in
-      let free = neither (has_id channel_id thread g.channels) (has_id thread_id thread g.threads) may.free in
+      let free = or_parts (has_id channel_id thread g.channels) (has_id thread_id thread g.threads) may.free in
       threads_changed (put_id thread_id n g.threads) g.messages
       (λ id t found. fits_put (thread == id) t n (find_id thread_id id g.threads) (fits_new thread parent kind name owner at may) (fits id t) (sym (find-put thread_id n id g.threads) ∙ found))
       (λ id there. has-put thread_id n id g.threads ∙ apart_from thread id free.0 there)
@@ -180,12 +173,8 @@ module _ (g : Record) (is_open : g.opened ≡ true) (h : IsConsistent g) where
   joined_less : (user : ℕ) (t : Thread) → Fits t → Fits (with_left user t)
   joined_less user t old = record {
     parent = old.parent;
-    joined = λ other there. old.joined other (both (user == other) (has_id thread_member_id other t.members) (sym (has-without thread_member_id user other t.members) ∙ there));
+    joined = λ other there. old.joined other (has-left thread_member_id user other t.members there).1;
   }
-    where
-      both : (b c : Bool) → (not b && c) ≡ true → c ≡ true
-      both true c e = absurd (cc)
-      both false c e = e
 
   pub user_left : (thread user : ℕ) → IsConsistent (thread_changed g thread (with_left user))
   user_left thread user = changed thread (with_left user) (λ t. refl) (joined_less user)
@@ -195,31 +184,19 @@ module _ (g : Record) (is_open : g.opened ≡ true) (h : IsConsistent g) where
     abbrev left : List Thread
     left = without_id thread_id thread g.threads
 
-    fits_left : (b : Bool) (t : Thread) (o : Option Thread) → (o ≡ Some t → Fits t) → (if b then None else o) ≡ Some t → Fits t
-    fits_left true t o old e = absurd (cc)
-    fits_left false t o old e = old e
-
-    none_left : (b c : Bool) → c ≡ false → (not b && c) ≡ false
-    none_left true c e = refl
-    none_left false c e = e
-
     place_left : (m : MessageHead) → is_place g m.place ≡ true → stands_elsewhere thread m ≡ true → is_place (thread_deleted g thread) m.place ≡ true
     place_left m there out =
         or_right (has_id channel_id m.place g.channels) (has_id thread_id m.place g.threads) (has_id thread_id m.place left)
-        (λ was. has-without thread_id thread m.place g.threads ∙ other (thread == m.place) (has_id thread_id m.place g.threads) (turned m.place out) was) there
+        (λ was. has-without thread_id thread m.place g.threads ∙ and_from (not (thread == m.place)) (has_id thread_id m.place g.threads) (not_from_false (thread == m.place) (turned m.place out)) was) there
       where
         turned : (place : ℕ) → not (place == thread) ≡ true → (thread == place) ≡ false
         turned place e = grind (arith, nat_tests)
 
-        other : (b c : Bool) → b ≡ false → c ≡ true → (not b && c) ≡ true
-        other true c e f = absurd (cc)
-        other false c e f = f
-
     pub thread_gone : IsConsistent (thread_deleted g thread)
     thread_gone =
         threads_changed left (filter (stands_elsewhere thread) g.messages)
-        (λ id t found. fits_left (thread == id) t (find_id thread_id id g.threads) (fits id t) (sym (find-without thread_id thread id g.threads) ∙ found))
-        (λ id there. has-without thread_id thread id g.threads ∙ none_left (thread == id) (has_id thread_id id g.threads) (h.apart id there))
+        (λ id t found. fits id t (found-without thread_id thread id g.threads t found).1)
+        (λ id there. has-without thread_id thread id g.threads ∙ and_right (not (thread == id)) (has_id thread_id id g.threads) (h.apart id there))
         (λ k d lt.
         place_left (slice_index_or (filter (stands_elsewhere thread) g.messages) k d) (All-filter (stands_elsewhere thread) (λ (m : MessageHead). is_place g m.place ≡ true) g.messages h.places k d lt)
         (filter_passes (stands_elsewhere thread) g.messages k d lt))

@@ -3,7 +3,6 @@
 ghost use Rattle.std.specs.Prelude.{◌≡◌, ◌∷◌, [], None, true, OnOk, OnErr, IfOk};
 ghost use Rattle.guild_model.specs.Tests.{outcome};
 ghost use Rattle.guild_model.specs.Record.{channel_id};
-ghost use Rattle.guild_model.specs.Consistent.{is_place};
 ghost use Rattle.collections.specs.ById.{find_id};
 ghost use Rattle.thread_edit.specs.Threads.{thread_create_verdict, thread_created, takes_thread, takes_there, wrong_kind, new_thread_member};
 
@@ -14,12 +13,6 @@ use guild_model::{
 };
 use snowflake_id::Snowflake;
 use std::alloc::{AllocError, Global};
-
-fn has_place(guild: &Guild, id: Snowflake) -> bool
-    ensures { result ≡ is_place guild.now id }
-{
-    guild.channels.contains(id.0) || guild.threads.contains(id.0)
-}
 
 /// Whether a channel of a type has threads of another (Threads, Thread Types).
 pub fn takes(parent: ChannelKind, kind: ThreadKind) -> bool
@@ -64,7 +57,7 @@ pub fn check(
 ) -> Result<(), Verdict>
     ensures { result ≡ outcome (thread_create_verdict guild.now thread parent kind name.now owner) }
 {
-    if has_place(guild, thread) {
+    if guild.has_place(thread) {
         return Err(Verdict::IdTaken);
     }
     rules::knows_channel(guild, parent)?;
