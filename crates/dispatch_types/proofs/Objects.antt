@@ -13,7 +13,7 @@ use Rattle.guild_model.specs.declared.member.Member.{Member}
 use Rattle.guild_model.specs.declared.voice.Voice.{Voice}
 use Rattle.guild_model.specs.declared.presence.Presence.{Presence}
 use Rattle.guild_model.specs.Record.{own_id, overwrite_id}
-use Rattle.guild_model.specs.Ascending.{HasOrderedOverwrites}
+use Rattle.guild_model.specs.Ascending.{HasOrderedOverwrites, HoldsInOrder}
 use Rattle.guild_model.specs.declared.channel.OverwriteKind.TheVariants as overwrite
 use Rattle.dispatch_types.specs.Objects.{overwrite_object, overwrite_objects, role_overwrite, member_overwrite, overwrites_of, channel_object, channel_of, member_object, member_of, voice_object, voice_of, presence_object, presence_of}
 
@@ -47,8 +47,8 @@ channels-back guild cs h = map-undone (channel_object guild) channel_of cs (All-
 pub member-back : (m : Member) → IsById own_id m.roles → member_of (member_object m) ≡ m
 member-back m h = ap (λ (roles : List ℕ). record m { roles = roles }) (put_all-nil own_id m.roles h)
 
-pub members-back : (ms : List Member) → All (λ (m : Member). IsById own_id m.roles) ms → map member_of (map member_object ms) ≡ ms
-members-back ms h = map-undone member_object member_of ms (All-weaker (λ (m : Member). IsById own_id m.roles) (λ m. member_of (member_object m) ≡ m) member-back ms h)
+pub members-back : (ms : List Member) → All HoldsInOrder ms → map member_of (map member_object ms) ≡ ms
+members-back ms h = map-undone member_object member_of ms (All-weaker HoldsInOrder (λ m. member_of (member_object m) ≡ m) member-back ms h)
 
 -- voice states and presences
 pub voices-back : (vs : List Voice) → filter_map voice_of (map voice_object vs) ≡ vs

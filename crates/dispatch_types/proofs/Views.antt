@@ -1,6 +1,7 @@
 -- The view of a record is left as it is by the purge.
 use Rattle.std.proofs.Common.{◌≡◌, ℕ, Bool, true, false, List, Option, Some, None, if◌then◌else◌, refl, sym, ap, ◌∙◌}
 use Rattle.std.specs.Prelude.{◌&&◌}
+use Rattle.std.proofs.lemmas.Bool.{and_parts}
 use Rattle.collections.proofs.Mapped.{filter-mapped}
 use Rattle.perm_bits.specs.Bits.{has_bit}
 use Rattle.intent_set.specs.Intents.{guilds}
@@ -17,17 +18,13 @@ use Rattle.dispatch_types.specs.Serves.{served}
 use Rattle.dispatch_types.specs.Projection.{is_active, thread_view, open_view, view_as, projection}
 use Rattle.dispatch_types.specs.Fold.{Held, on_open, view_sees, purged, purge}
 
-second_true : (a b : Bool) → (a && b) ≡ true → b ≡ true
-second_true true b e = e
-second_true false b e = absurd (cc)
-
 pub purged-open : (s : Record) (intents : ℕ) (known : List ℕ) (me : Member) → purged intents s.id (open_view s intents known me) ≡ open_view s intents known me
 purged-open s intents known me =
     let view : OpenView = open_view s intents known me in
     ap (λ (threads : List ThreadView). record view { threads = threads }) (filter-mapped (thread_view intents me.user.id) (λ t. is_active t && member_sees s me t) (view_sees intents s.id view) seen s.threads)
   where
     seen : (t : Thread) → (is_active t && member_sees s me t) ≡ true → view_sees intents s.id (open_view s intents known me) (thread_view intents me.user.id t) ≡ true
-    seen t e = second_true (is_active t) (member_sees s me t) e
+    seen t e = (and_parts (is_active t) (member_sees s me t) e).1
 
 pub purged-projection : (s : Record) (v : Viewer) (known : List ℕ) → on_open (purged v.intents s.id) (projection s v known) ≡ projection s v known
 unfolding projection

@@ -1,7 +1,7 @@
 ghost use Rattle.std.specs.Prelude.{◌≡◌, ◌↔◌, ◌≤◌, min, IfOk, IsErr};
 
 use collections::Text;
-use guild_model::{Moment, Thread, ThreadKind};
+use guild_model::{Moment, Thread, ThreadKind, ThreadMember};
 use snowflake_id::Snowflake;
 use std::alloc::{AllocError, Global};
 use std::marker::Model;
@@ -63,6 +63,21 @@ pub struct ThreadMemberObject {
     pub thread: Snowflake,
     pub user: Snowflake,
     pub joined: Moment,
+}
+
+impl ThreadMemberObject {
+    ghost use Rattle.dispatch_types.specs.Objects.{thread_member_object};
+
+    /// A user in a thread of an id as it is sent.
+    pub fn of(thread: Snowflake, member: &ThreadMember) -> ThreadMemberObject
+        ensures { result ≡ thread_member_object thread member.now }
+    {
+        ThreadMemberObject {
+            thread,
+            user: member.user,
+            joined: member.joined,
+        }
+    }
 }
 
 /// A thread as it is sent (Threads, Thread Fields).
