@@ -25,21 +25,12 @@ fn may_manage_threads(mask: Perms) -> bool
     mask.has(Perms::MANAGE_THREADS)
 }
 
-fn is_private(kind: ThreadKind) -> bool
-    ensures { result ≡ is_private kind }
-{
-    match kind {
-        ThreadKind::Private => true,
-        ThreadKind::Announcement | ThreadKind::Public => false,
-    }
-}
-
 // Whether a thread is seen by one that has this mask in its parent, and is in it or not.
 pub(crate) fn shows_thread(mask: Perms, kind: ThreadKind, joined: bool) -> bool
     ensures { result ≡ (has_bit mask view_channel
         && (not (is_private kind) || joined || has_bit mask manage_threads)) }
 {
-    may_view(mask) && (!is_private(kind) || joined || may_manage_threads(mask))
+    may_view(mask) && (!kind.is_private() || joined || may_manage_threads(mask))
 }
 
 /// Whether a user sees a channel (Permissions, VIEW_CHANNEL). A stranger sees none, and nobody one that
