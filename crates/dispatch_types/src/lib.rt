@@ -14,7 +14,7 @@ pub mod viewer;
 pub use channels::{ChannelObject, OverwriteObject};
 pub use dispatch::{Dispatch, GuildCreate, MembersChunk, Ready};
 pub use members::MemberObject;
-pub use messages::{MessageObject, PartCount, Reaction, TooManyParts};
+pub use messages::{MessageObject, Reaction};
 pub use presences::{PresenceObject, VoiceObject};
 pub use serving::{served, serves};
 pub use threads::{BadCount, JoinedThread, ThreadCount, ThreadMemberObject, ThreadObject};

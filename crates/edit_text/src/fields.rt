@@ -14,7 +14,7 @@ ghost use Rattle.edit_text.specs.Fields.{text_at, id_at, flag_at, number_below, 
 
 use crate::LineFault;
 use collections::{Seq, Text};
-use guild_model::{ChannelKind, Moment, OverwriteKind, Status, ThreadKind, limits};
+use guild_model::{ChannelKind, Moment, OverwriteKind, PartCount, Status, ThreadKind, limits};
 use intent_set::Intents;
 use json_view::{ViewFault, field_of, flag_of, id_from, id_of, number_of, text_of};
 use perm_bits::Perms;
@@ -170,18 +170,15 @@ pub fn status_at(object: &Value, name: &str) -> Result<Status, LineFault>
 }
 
 /// How many embeds, attachments or components a message has: at most [`limits::PARTS`].
-pub fn parts_at(object: &Value, name: &str) -> Result<u8, LineFault>
+pub fn parts_at(object: &Value, name: &str) -> Result<PartCount, LineFault>
     ensures { result ≡ parts_at name.now (view object.now) }
 {
     match number_of(object, name) {
         Err(fault) => Err(fault_of(fault)),
-        Ok(number) => {
-            if number <= limits::PARTS as u64 {
-                Ok(number as u8)
-            } else {
-                Err(LineFault::WrongType)
-            }
-        }
+        Ok(number) => match PartCount::new(number as usize) {
+            Err(_) => Err(LineFault::WrongType),
+            Ok(count) => Ok(count),
+        },
     }
 }
 

@@ -1,6 +1,7 @@
 ghost use Rattle.std.specs.Prelude.{◌≡◌, IfOk};
 
 use collections::{Seq, Text};
+use guild_model::PartCount;
 use snowflake_id::Snowflake;
 use std::alloc::{AllocError, Global};
 
@@ -11,9 +12,9 @@ pub struct MessageBody {
     pub content: Text,
     /// The mentioned users, in the order of the message; one may stand twice.
     pub mentions: Seq<Snowflake>,
-    pub embeds: u8,
-    pub attachments: u8,
-    pub components: u8,
+    pub embeds: PartCount,
+    pub attachments: PartCount,
+    pub components: PartCount,
 }
 
 impl MessageBody {

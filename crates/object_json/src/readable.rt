@@ -5,7 +5,7 @@ ghost use Rattle.object_json.specs.Reading.{UnlessMemory, value_at, optional_at,
 use crate::fault::ReadFault;
 use crate::reading::{field_at, id_from};
 use collections::Seq;
-use dispatch_types::PartCount;
+use guild_model::PartCount;
 use serde_json::Value;
 use snowflake_id::Snowflake;
 use std::alloc::Global;

@@ -6,7 +6,7 @@ ghost use Rattle.object_json.specs.Kinds.{list, list_if, blanks};
 
 use crate::field::{close, key, open};
 use collections::Seq;
-use dispatch_types::PartCount;
+use guild_model::PartCount;
 use json::Writer;
 use snowflake_id::Snowflake;
 use std::alloc::{AllocError, Global};

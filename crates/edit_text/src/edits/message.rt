@@ -140,9 +140,19 @@ fn put_body(
 {
     put_text(alloc, members, "content", &body.content)?;
     put_ids(alloc, members, "mentions", body.mentions.as_slice())?;
-    put_number(alloc, members, "embeds", u64::from(body.embeds))?;
-    put_number(alloc, members, "attachments", u64::from(body.attachments))?;
-    put_number(alloc, members, "components", u64::from(body.components))?;
+    put_number(alloc, members, "embeds", u64::from(body.embeds.get()))?;
+    put_number(
+        alloc,
+        members,
+        "attachments",
+        u64::from(body.attachments.get()),
+    )?;
+    put_number(
+        alloc,
+        members,
+        "components",
+        u64::from(body.components.get()),
+    )?;
     Ok(())
 }
 
