@@ -2,6 +2,7 @@
 use Rattle.std.proofs.Common.{◌≡◌, ℕ, Bool, true, false, not, ◌&&◌, ◌||◌, List, [], ◌∷◌, map, Option, Some, None, if◌then◌else◌, refl, sym, ap, ◌∙◌, arith, eq-eqb}
 use Rattle.std.specs.Prelude.{◌==◌, filter, cond, is_some}
 use Rattle.std.specs.List.{list_any}
+use Rattle.std.proofs.lemmas.Bool.{and_parts}
 use Rattle.collections.specs.ById.{find_id, IsById, keep_if}
 use Rattle.collections.proofs.Finds.{key-found, find-filter}
 use Rattle.guild_model.specs.declared.member.Member.{Member}
@@ -13,7 +14,7 @@ use Rattle.guild_model.specs.Sight.{Standing, standing, sees}
 use Rattle.thread_sync.specs.declared.seen.Seen.{Seen}
 use Rattle.thread_sync.specs.Seen.{is_among, shows_channel, shows}
 use Rattle.thread_sync.specs.Sync.{is_new, uncovers, is_gained, sync_if_any, sync}
-use Rattle.thread_sync.proofs.Lists.{none-passes, any-alike, any-filter, any-less, any-none}
+use Rattle.thread_sync.proofs.Lists.{unless, none-passes, any-alike, any-filter, any-less, any-none}
 
 -- there is a sync exactly where some parent is gained
 is_some-sync_if_any : (s : Record) (me : Member) (p : Channel → Bool) (channels : List Channel) → is_some (sync_if_any s me (map channel_id (filter p channels))) ≡ list_any p channels
@@ -53,25 +54,13 @@ module _ (was : Seen) (s : Standing) (threads : List Thread) (ascends : IsById t
   none-gained none id x found = unless (is_uncovered x) (λ is.
       let parent = found-parent (find_id channel_id x.parent s.channels) (parents id x found) in
       let at : parent.0.id ≡ x.parent = key-found channel_id x.parent s.channels parent.0 parent.1 in
-      let shown : shows s x ≡ true = left (shows s x) (is_new was x) is in
-      let views : shows_channel s parent.0 ≡ true = ap (sees s) at ∙ left _ _ (right _ _ shown) in
+      let shown : shows s x ≡ true = (and_parts (shows s x) (is_new was x) is).0 in
+      let views : shows_channel s parent.0 ≡ true = ap (sees s) at ∙ (and_parts _ _ (and_parts _ _ shown).1).0 in
       let hides : uncovers was s threads parent.0.id ≡ false = hidden (has_threads parent.0.kind) (shows_channel s parent.0) (is_among was.channels parent.0.id) (uncovers was s threads parent.0.id) parent.2 views (none-passes channel_id gains x.parent parent.0 s.channels none parent.1) in
       let seen : find_id thread_id id (filter (shows s) threads) ≡ Some x = find-filter thread_id (shows s) id threads ascends ∙ (ap (keep_if (shows s)) found ∙ ap (λ b. if b then Some x else None) shown) in
       let not_new : (x.parent == parent.0.id && is_new was x) ≡ false = none-passes thread_id (λ (x : Thread). x.parent == parent.0.id && is_new was x) id x (filter (shows s) threads) hides seen in
       ends (x.parent == parent.0.id) (shows s x) (is_new was x) (eq-eqb x.parent parent.0.id (sym at)) not_new)
     where
-      unless : (b : Bool) → (b ≡ true → b ≡ false) → b ≡ false
-      unless true h = h refl
-      unless false h = refl
-
-      left : (a b : Bool) → (a && b) ≡ true → a ≡ true
-      left true b h = refl
-      left false b h = h
-
-      right : (a b : Bool) → (a && b) ≡ true → b ≡ true
-      right true b h = h
-      right false b h = absurd (cc)
-
       hidden : (threads sees saw uncovers : Bool) → threads ≡ true → sees ≡ true → (threads && (sees && (not saw || uncovers))) ≡ false → uncovers ≡ false
       hidden threads sees saw uncovers e k none = grind arith
 

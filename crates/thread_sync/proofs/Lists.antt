@@ -17,17 +17,9 @@ filter-map f p (x ∷ xs) = by_test (p (f x)) (filter-map f p xs)
     by_test true rest = ap (λ ys. f x ∷ ys) rest
     by_test false rest = rest
 
--- what a filter let through passes, and was there
-kept-passes : {T : Type 0} (p : T → Bool) (o : Option T) (x : T) → keep_if p o ≡ Some x → (p x ≡ true) × (o ≡ Some x)
-kept-passes p None x e = absurd (cc)
-kept-passes p (Some y) x e = by_test (p y) refl e
-  where
-    by_test : (b : Bool) → p y ≡ b → (if b then Some y else None) ≡ Some x → (p x ≡ true) × (Some y ≡ Some x)
-    by_test true passes e = let same : y ≡ x = cc in (ap p (sym same) ∙ passes, e)
-    by_test false passes e = absurd (cc)
-
-pub passes : {T : Type 0} (key : T → ℕ) (p : T → Bool) (id : ℕ) (x : T) (xs : List T) → IsById key xs → find_id key id (filter p xs) ≡ Some x → (p x ≡ true) × (find_id key id xs ≡ Some x)
-passes key p id x xs h found = kept-passes p (find_id key id xs) x (sym (find-filter key p id xs h) ∙ found)
+pub unless : (b : Bool) → (b ≡ true → b ≡ false) → b ≡ false
+unless true h = h refl
+unless false h = refl
 
 -- where no item passes, none that is found does
 pub none-passes : {T : Type 0} (key : T → ℕ) (p : T → Bool) (id : ℕ) (x : T) (xs : List T) → list_any p xs ≡ false → find_id key id xs ≡ Some x → p x ≡ false

@@ -1,6 +1,7 @@
 -- What was seen, by the lists of what was seen; and that what is seen now was seen before, but under a gained parent.
 use Rattle.std.proofs.Common.{◌≡◌, ℕ, Bool, true, false, not, ◌&&◌, ◌||◌, Option, Some, None, if◌then◌else◌, refl, sym, ap, subst, ◌∙◌, arith, eq-eqb}
 use Rattle.std.specs.Prelude.{map, ◌==◌, filter, is_some, option_map}
+use Rattle.std.proofs.lemmas.Bool.{and_parts}
 use Rattle.collections.specs.ById.{find_id, IsById, keep_if}
 use Rattle.collections.proofs.Finds.{key-found, find-map, find-filter}
 use Rattle.perm_bits.specs.Permissions.{view_channel, manage_threads}
@@ -17,7 +18,7 @@ use Rattle.thread_sync.specs.declared.seen.Seen.{Seen}
 use Rattle.thread_sync.specs.Seen.{is_among, shows_channel, sees_channel, visible_to}
 use Rattle.thread_sync.specs.Sync.{is_new, uncovers, is_gained, gained_parents}
 use Rattle.thread_sync.specs.Law.{kind_in, ChangesRights}
-use Rattle.thread_sync.proofs.Lists.{none-passes, has-passed}
+use Rattle.thread_sync.proofs.Lists.{unless, none-passes, has-passed}
 
 -- a channel is among those that are seen exactly where it is seen
 pub among-seen : (s : Standing) (channel : ℕ) → IsById channel_id s.channels → is_among (map channel_id (filter (shows_channel s) s.channels)) channel ≡ sees s channel
@@ -59,29 +60,17 @@ saw-before s t me me' well changes user id x found now not_listed =
     let parent = parent-stays (find_id channel_id x.parent s.channels) (find_id channel_id x.parent t.channels) (changes.channels x.parent) (well.consistent.parents id x found) in
     let is : parent.0.id ≡ x.parent = key-found channel_id x.parent t.channels parent.0 parent.1 in
     let not_gained : is_gained was hides (standing t me') parent.0 ≡ false = unless _ (λ gained. absurd (cc (has-passed channel_id (is_gained was hides (standing t me')) x.parent parent.0 t.channels parent.1 gained))) in
-    let views : sees_channel t me' parent.0 ≡ true = ap (sees (standing t me')) is ∙ left _ _ (right _ _ now) in
+    let views : sees_channel t me' parent.0 ≡ true = ap (sees (standing t me')) is ∙ (and_parts _ _ (and_parts _ _ now).1).0 in
     let parts = missed (has_threads parent.0.kind) (sees_channel t me' parent.0) (is_among was.channels parent.0.id) (hides parent.0.id) parent.2 views not_gained in
     let viewed : sees (standing s me) x.parent ≡ true = sym (among-seen (standing s me) x.parent well.ascending.channels) ∙ (sym (ap (is_among was.channels) is) ∙ parts.0) in
     let seen : find_id thread_id id (seen_threads t me') ≡ Some x = subst (λ ts. find_id thread_id id (filter sees_now ts) ≡ Some x) (sym changes.threads) (find-filter thread_id sees_now id s.threads well.ascending.threads ∙ (ap (keep_if sees_now) found ∙ ap (λ b. if b then Some x else None) now)) in
     let none = none-passes thread_id (λ (x : Thread). x.parent == parent.0.id && is_new was x) id x (seen_threads t me') parts.1 seen in
     let saw : is_among was.threads x.id ≡ (is_active x && member_sees s me x) = ap (is_among was.threads) (key-found thread_id id s.threads x found) ∙ saw-thread s me id x well.ascending.threads found in
     conclude (x.parent == parent.0.id) (is_active x) (is_private x.kind) (is_among was.threads x.id) (sees (standing s me) x.parent) (is_in me.user.id x) (granted (standing s me) x.parent manage_threads)
-    (eq-eqb x.parent parent.0.id (sym is)) (left _ _ now) viewed saw none
+    (eq-eqb x.parent parent.0.id (sym is)) (and_parts _ _ now).0 viewed saw none
   where
     sees_now : Thread → Bool
     sees_now x = is_active x && member_sees t me' x
-
-    unless : (b : Bool) → (b ≡ true → b ≡ false) → b ≡ false
-    unless true h = h refl
-    unless false h = refl
-
-    left : (a b : Bool) → (a && b) ≡ true → a ≡ true
-    left true b h = refl
-    left false b h = h
-
-    right : (a b : Bool) → (a && b) ≡ true → b ≡ true
-    right true b h = h
-    right false b h = absurd (cc)
 
     missed : (threads sees saw uncovers : Bool) → threads ≡ true → sees ≡ true → (threads && (sees && (not saw || uncovers))) ≡ false → (saw ≡ true) × (uncovers ≡ false)
     missed true true true uncovers e k none = (refl, none)

@@ -1,10 +1,10 @@
 -- A member that is granted what it was, wherever threads stand, sees the threads that it saw.
-use Rattle.std.proofs.Common.{◌≡◌, ℕ, Bool, true, false, not, ◌&&◌, ◌||◌, List, map, Option, Some, None, refl, sym, ap, ◌∙◌, arith}
-use Rattle.std.specs.Prelude.{◌==◌, filter, is_some}
-use Rattle.std.proofs.lemmas.Bool.{eqb-true}
+use Rattle.std.proofs.Common.{◌≡◌, ℕ, Bool, true, false, not, ◌&&◌, ◌||◌, List, map, Some, refl, sym, ap, ◌∙◌, arith}
+use Rattle.std.specs.Prelude.{◌==◌, filter}
+use Rattle.std.proofs.lemmas.Bool.{eqb-true, false_from_ne_true}
 use Rattle.std.proofs.lemmas.Bool.Decides.{nat_tests}
 use Rattle.collections.specs.ById.{find_id, has_id, put_id, changed_id, without_id, IsById}
-use Rattle.collections.proofs.Finds.{IsById-filter}
+use Rattle.collections.proofs.Finds.{found-filter, IsById-filter}
 use Rattle.collections.proofs.Filters.{filter-swap}
 use Rattle.collections.proofs.Mapped.{filter-same}
 use Rattle.perm_bits.specs.Permissions.{view_channel, manage_threads}
@@ -16,13 +16,14 @@ use Rattle.guild_model.specs.declared.thread.ThreadKind.{ThreadKind}
 use Rattle.guild_model.specs.declared.voice.Voice.{Voice}
 use Rattle.guild_model.specs.declared.message.MessageHead.{MessageHead}
 use Rattle.guild_model.specs.Record.{Record, own_id, role_id, member_id, channel_id, thread_id}
-use Rattle.guild_model.specs.Consistent.{IsConsistent, is_parent}
+use Rattle.guild_model.specs.Consistent.{IsConsistent}
+use Rattle.guild_model.proofs.Tests.{parent-there}
 use Rattle.guild_model.specs.Sight.{Standing, standing, granted, is_private, is_in, sees_in, member_sees}
 use Rattle.dispatch_types.specs.declared.view.ThreadView.{ThreadView}
 use Rattle.dispatch_types.specs.Projection.{is_active, thread_view, seen_threads}
 use Rattle.thread_sync.specs.Sight.{KeepsGrants}
 use Rattle.thread_sync.specs.Law.{ThreadsStay}
-use Rattle.thread_sync.proofs.Lists.{filter-map, passes}
+use Rattle.thread_sync.proofs.Lists.{filter-map}
 use Rattle.thread_sync.proofs.Grants.{granted-member, granted-role, granted-put, granted-without, granted-mapped, granted-changed}
 
 -- the same grants show the same
@@ -50,12 +51,8 @@ module _ (s : Record) (me : Member) where
       → KeepsGrants s me (record s { roles = put_id role_id r s.roles }) me
   role-created-keeps r user consistent opened found new id b thread there =
       granted-role (standing s me) r thread.parent b
-      (unless (r.id == s.id) (λ is. let here : r.id ≡ s.id = eqb-true r.id s.id is in let all = consistent.everyone opened in absurd (cc)))
-      (unless (has_id own_id r.id me.roles) (λ held. let has = (consistent.held user r.id me found held).0 in absurd (cc)))
-    where
-      unless : (c : Bool) → (c ≡ true → ⊥) → c ≡ false
-      unless true h = absurd (h refl)
-      unless false h = refl
+      (false_from_ne_true (r.id == s.id) (λ is. let here : r.id ≡ s.id = eqb-true r.id s.id is in let all = consistent.everyone opened in absurd (cc)))
+      (false_from_ne_true (has_id own_id r.id me.roles) (λ held. let has = (consistent.held user r.id me found held).0 in absurd (cc)))
 
   -- members that change, of whom the own one keeps its roles
   pub members-changed-keep : (ms : List Member) (me' : Member) → me'.user.id ≡ me.user.id → me'.roles ≡ me.roles → KeepsGrants s me (record s { members = ms }) me'
@@ -65,14 +62,10 @@ module _ (s : Record) (me : Member) where
   pub channel-created-keeps : (c : Channel) → IsConsistent s → has_id channel_id c.id s.channels ≡ false → KeepsGrants s me (record s { channels = put_id channel_id c s.channels }) me
   channel-created-keeps c consistent new id b thread there = granted-put (standing s me) c thread.parent b (apart (c.id == thread.parent) refl)
     where
-      is_there : (o : Option Channel) → is_parent o ≡ true → is_some o ≡ true
-      is_there None e = absurd (cc)
-      is_there (Some c) e = refl
-
       apart : (here : Bool) → (c.id == thread.parent) ≡ here → here ≡ false
       apart true is =
           let at : c.id ≡ thread.parent = eqb-true c.id thread.parent is in
-          let has : has_id channel_id thread.parent s.channels ≡ true = is_there (find_id channel_id thread.parent s.channels) (consistent.parents id thread there) in
+          let has : has_id channel_id thread.parent s.channels ≡ true = parent-there (find_id channel_id thread.parent s.channels) (consistent.parents id thread there) in
           absurd (cc)
       apart false is = refl
 
@@ -109,4 +102,4 @@ module _ (s : Record) (me : Member) where
       agree id t found =
           ap (λ sees. is_active t && sees)
           (same-sees_in (standing s me) (record (standing s me) { channels = map f (without_id channel_id gone s.channels) }) t.parent
-          (λ b. elsewhere t.parent b (passes thread_id stays id t s.threads ascends found).0) t.kind (is_in me.user.id t))
+          (λ b. elsewhere t.parent b (found-filter thread_id stays id s.threads t ascends found).0) t.kind (is_in me.user.id t))

@@ -6,4 +6,4 @@ pub mod seen;
 pub mod sync;
 
 pub use seen::{Seen, visible};
-pub use sync::{gained, uncovered};
+pub use sync::{gained, own_membership, uncovered};

@@ -2,12 +2,12 @@
 
 ghost use Rattle.std.specs.Prelude.{◌≡◌, ℕ, true, IfOk, map, filter};
 ghost use Rattle.guild_model.specs.Record.{channel_id, thread_id};
-ghost use Rattle.guild_model.specs.Sight.{is_private, sees};
+ghost use Rattle.guild_model.specs.Sight.{sees};
 ghost use Rattle.thread_sync.specs.Seen.{is_among, shows_channel, shows_in, visible_to, visible};
 
 use collections::ById;
 use dispatch_types::Viewer;
-use guild_model::{Channel, Guild, Member, Thread, ThreadKind};
+use guild_model::{Channel, Guild, Member, Thread};
 use overwrite_eval::StandingRef;
 use snowflake_id::Snowflake;
 use std::alloc::{AllocError, Global};
@@ -19,15 +19,6 @@ pub struct Seen {
     pub threads: ById<Snowflake>,
 }
 
-pub(crate) fn is_private(kind: ThreadKind) -> bool
-    ensures { result ≡ is_private kind }
-{
-    match kind {
-        ThreadKind::Private => true,
-        ThreadKind::Announcement | ThreadKind::Public => false,
-    }
-}
-
 // Whether a thread is active, seen, and in one of these channels, which are seen. A public one is seen
 // with its channel.
 pub(crate) fn shows_in(standing: &StandingRef, channels: &ById<Snowflake>, thread: &Thread) -> bool
@@ -36,7 +27,7 @@ pub(crate) fn shows_in(standing: &StandingRef, channels: &ById<Snowflake>, threa
 {
     !thread.archived
         && channels.contains(thread.parent.0)
-        && (!is_private(thread.kind) || standing.sees_thread(thread))
+        && (!thread.kind.is_private() || standing.sees_thread(thread))
 }
 
 fn seen_channels(

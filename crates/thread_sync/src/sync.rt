@@ -9,29 +9,20 @@ ghost use Rattle.dispatch_types.specs.Objects.{thread_object};
 ghost use Rattle.thread_sync.specs.Seen.{is_among, shows_channel, shows, shows_in};
 ghost use Rattle.thread_sync.specs.Sync.{is_new, uncovers, is_gained, own_membership, sync, uncovered};
 
-use crate::seen::{Seen, is_private, shows_in};
+use crate::seen::{Seen, shows_in};
 use collections::{ById, Seq};
 use dispatch_types::{Dispatch, ThreadMemberObject, ThreadObject, Viewer};
-use guild_model::{Channel, ChannelKind, Guild, Member, Thread};
+use guild_model::{Channel, Guild, Member, Thread};
 use overwrite_eval::StandingRef;
 use snowflake_id::Snowflake;
 use std::alloc::{AllocError, Global};
-
-fn has_threads(kind: ChannelKind) -> bool
-    ensures { result ≡ has_threads kind }
-{
-    match kind {
-        ChannelKind::Text | ChannelKind::Announcement | ChannelKind::Forum => true,
-        ChannelKind::Voice | ChannelKind::Category | ChannelKind::Stage => false,
-    }
-}
 
 // Whether a thread is an active private one that is seen, and was not seen before.
 fn is_uncovered(was: &Seen, standing: &StandingRef, thread: &Thread) -> bool
     ensures { result ≡ (shows standing.now thread.now && is_new was.now thread.now) }
 {
     !thread.archived
-        && is_private(thread.kind)
+        && thread.kind.is_private()
         && !was.threads.contains(thread.id.0)
         && standing.sees_thread(thread)
 }
@@ -62,7 +53,7 @@ fn is_gained(
 ) -> bool
     ensures { result ≡ is_gained was.now (is_among uncovered.now) standing.now channel.now }
 {
-    has_threads(channel.kind)
+    channel.kind.has_threads()
         && (!was.channels.contains(channel.id.0) || uncovered.contains(channel.id.0))
         && standing.sees(channel.id)
 }
@@ -113,15 +104,13 @@ fn objects(
     Ok(objects)
 }
 
-fn own_membership(user: Snowflake, thread: &Thread) -> Option<ThreadMemberObject>
+/// A user's membership in a thread as it is sent, and nothing exactly where the user is not in it
+/// (Channels Resource, Thread Member Object).
+pub fn own_membership(user: Snowflake, thread: &Thread) -> Option<ThreadMemberObject>
     ensures { result ≡ own_membership user thread.now }
 {
     match thread.members.get(user.0) {
-        Some(member) => Some(ThreadMemberObject {
-            thread: thread.id,
-            user: member.user,
-            joined: member.joined,
-        }),
+        Some(member) => Some(ThreadMemberObject::of(thread.id, member)),
         None => None,
     }
 }
@@ -194,7 +183,7 @@ pub fn uncovered(
 fn is_new_parent(was: &Seen, standing: &StandingRef, channel: &Channel) -> bool
     ensures { result ≡ (has_threads channel.now.kind && (shows_channel standing.now channel.now && not (is_among was.now.channels channel.now.id))) }
 {
-    has_threads(channel.kind) && !was.channels.contains(channel.id.0) && standing.sees(channel.id)
+    channel.kind.has_threads() && !was.channels.contains(channel.id.0) && standing.sees(channel.id)
 }
 
 fn is_any_parent_new(was: &Seen, standing: &StandingRef, channels: &[Channel]) -> bool
