@@ -1,5 +1,5 @@
 -- A client without GUILDS holds no view, whatever it is told of the guild.
-use Rattle.std.proofs.Common.{◌≡◌, ℕ, Bool, true, false, List, [], ◌∷◌, map, Option, Some, None, if◌then◌else◌, refl, ap, ◌∙◌}
+use Rattle.std.proofs.Common.{◌≡◌, ℕ, Bool, true, false, List, [], ◌∷◌, map, Option, Some, None, if◌then◌else◌, refl, ap}
 use Rattle.std.specs.Prelude.{◌==◌, All, option_and_then}
 use Rattle.std.proofs.lemmas.List.Elements.{All-head, All-tail}
 use Rattle.collections.specs.ById.{put_id, put_all, without_id}

@@ -1,5 +1,5 @@
 -- A change of permissions: the plain event, and the sync where one is due.
-use Rattle.std.proofs.Common.{◌≡◌, ℕ, Bool, true, false, List, [], ◌∷◌, Option, Some, None, if◌then◌else◌, refl, sym, ap, subst, ◌∙◌}
+use Rattle.std.proofs.Common.{◌≡◌, ℕ, true, false, List, [], ◌∷◌, Option, Some, None, if◌then◌else◌, refl, sym, ap, subst, ◌∙◌}
 use Rattle.std.specs.Prelude.{All, option_to_list}
 use Rattle.std.proofs.lemmas.List.Elements.{All-nil}
 use Rattle.perm_bits.specs.Bits.{has_bit}
@@ -20,6 +20,7 @@ use Rattle.thread_sync.specs.Sync.{sync_of, sync_if_any, sync, gained_parents}
 use Rattle.thread_sync.specs.Law.{ChangesRights, told_plainly}
 use Rattle.thread_sync.proofs.Synced.{sync_restores}
 use Rattle.event_views.specs.Asked.{told_if}
+use Rattle.event_views.specs.Synced.{synced}
 use Rattle.event_views.specs.Has.{Has}
 use Rattle.event_views.proofs.Steps.{turned, IsOf, asked-of}
 
@@ -38,11 +39,15 @@ sync-of was t v me = by_parents (gained_parents was t me)
     by_parents [] = All-nil (IsOf t.id)
     by_parents (p ∷ ps) = asked-of t.id v false (sync_of t me (p ∷ ps)) refl
 
+pub synced-of : (was : Option Seen) (t : Record) (v : Viewer) (me : Member) → All (IsOf t.id) (synced was t v me)
+synced-of None t v me = All-nil (IsOf t.id)
+synced-of (Some was) t v me = sync-of was t v me
+
 module _ (s t : Record) (v : Viewer) (h : Held) (me me' : Member) (well : IsWell s) (rights : ChangesRights s t) (user : me'.user.id ≡ me.user.id) (asks : has_bit v.intents guilds ≡ true) where
   -- what is held after the plain event, whatever told it
-  synced : (k : Held) → k.bot ≡ v.user → k.view ≡ Some (Open (purged v.intents s.id (told_plainly s me t me' v.intents k.known)))
+  after_sync : (k : Held) → k.bot ≡ v.user → k.view ≡ Some (Open (purged v.intents s.id (told_plainly s me t me' v.intents k.known)))
       → Has t v me' (fold_from v.intents s.id k (told_if v (sync (visible_to s me) t me')))
-  synced k bot view =
+  after_sync k bot view =
       let plain : k.view ≡ Some (Open (purged v.intents t.id (told_plainly s me t me' v.intents k.known))) = view ∙ ap (λ g. Some (Open (purged v.intents g (told_plainly s me t me' v.intents k.known)))) (sym rights.id) in
       let all : fold_from v.intents s.id k (told_if v (sync (visible_to s me) t me')) ≡ record k { view = Some (Open (open_view t v.intents k.known me')) } =
       ap (fold_from v.intents s.id k) (told-sync_if (visible_to s me) t v me' asks)
@@ -56,12 +61,12 @@ module _ (s t : Record) (v : Viewer) (h : Held) (me me' : Member) (well : IsWell
       → Has s v me h → Has t v me' (fold_from v.intents s.id (folded v.intents s.id h d) (told_if v (sync (visible_to s me) t me')))
   follows-rights d f k makes turns has =
       subst (λ (held : Held). Has t v me' (fold_from v.intents s.id held (told_if v (sync (visible_to s me) t me')))) (sym makes)
-      (synced (turned v.intents s.id f k h) has.bot
+      (after_sync (turned v.intents s.id f k h) has.bot
       (ap (λ o. on_open (purged v.intents s.id) (on_open f o)) has.view ∙ ap (λ (w : OpenView). Some (Open (purged v.intents s.id w))) turns))
 
   -- it is not told, and changes nothing of what is held but the threads
   pub follows-unsaid : open_view s v.intents h.known me ≡ told_plainly s me t me' v.intents h.known
       → Has s v me h → Has t v me' (fold_from v.intents s.id h (told_if v (sync (visible_to s me) t me')))
   follows-unsaid turns has =
-      synced h has.bot
+      after_sync h has.bot
       (has.view ∙ (ap (λ (w : OpenView). Some (Open w)) (sym (purged-open s v.intents h.known me)) ∙ ap (λ (w : OpenView). Some (Open (purged v.intents s.id w))) turns))

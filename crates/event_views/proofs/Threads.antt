@@ -1,6 +1,7 @@
 -- What a client holds of a thread that comes, changes or goes, and of a user that joins or leaves it.
 use Rattle.std.proofs.Common.{◌≡◌, ℕ, Bool, true, false, not, ◌&&◌, ◌||◌, List, [], ◌∷◌, map, Option, Some, None, if◌then◌else◌, refl, sym, ap, subst, ◌∙◌, eq-eqb, arith}
 use Rattle.std.specs.Prelude.{◌==◌, filter, is_some, min, length, option_map}
+use Rattle.std.proofs.lemmas.Bool.{and_parts, not-true, or_parts}
 use Rattle.std.specs.Option.{option_or}
 use Rattle.collections.specs.ById.{find_id, put_id, without_id, IsById, keep_if}
 use Rattle.collections.proofs.Finds.{find-put, find-without}
@@ -48,10 +49,6 @@ abbrev pub without_member : ℕ → Thread → Thread
 without_member user x = record x { members = without_id thread_member_id user x.members }
 
 -- both of what is tested
-both_false : (a b : Bool) → (a || b) ≡ false → (a ≡ false) × (b ≡ false)
-both_false true b e = absurd (cc)
-both_false false b e = (refl, e)
-
 second_false : (a b : Bool) → a ≡ true → (a && b) ≡ false → b ≡ false
 second_false true b is e = e
 second_false false b is e = absurd (cc)
@@ -97,11 +94,7 @@ module _ (s : Record) (v : Viewer) (h : Held) (me : Member) where
     as_view t = thread_view v.intents me.user.id t
 
     passes_client : (t : Thread) → shows t ≡ true → client_sees (as_view t) ≡ true
-    passes_client t e = second_true (is_active t) (member_sees s me t) e
-      where
-        second_true : (a b : Bool) → (a && b) ≡ true → b ≡ true
-        second_true true b e = e
-        second_true false b e = absurd (cc)
+    passes_client t e = (and_parts (is_active t) (member_sees s me t) e).1
 
     pub tested : (x : Thread) → is_active x ≡ true → filter client_sees (put_id thread_view_id (as_view x) (views s.threads)) ≡ views (put_id thread_id x s.threads)
     tested x active = shown-tested thread_id thread_view_id as_view (λ t. refl) shows client_sees x s.threads ascends passes_client (ap (λ b. b && member_sees s me x) active)
@@ -180,11 +173,7 @@ module _ (s : Record) (v : Viewer) (h : Held) (me : Member) where
         ∙ ap (λ (m : Option ThreadMember). viewing (put_id thread_view_id (thread_of v.intents m o) (views s.threads))) has_mine
 
     not_archived : (x : Thread) → is_active x ≡ true → x.archived ≡ false
-    not_archived x active = by_flag x.archived active
-      where
-        by_flag : (b : Bool) → not b ≡ true → b ≡ false
-        by_flag true e = absurd (cc)
-        by_flag false e = refl
+    not_archived x active = not-true x.archived active
 
     pub follows-thread_renamed : (x : Thread) (name : List ℕ) → find_id thread_id x.id s.threads ≡ Some x → is_active x ≡ true
         → Has s v me h → Has (with_threads (put_id thread_id (record x { name = name }) s.threads)) v me (fold_from v.intents s.id h (thread_updates s.id v (keep_if (member_sees s me) (Some (record x { name = name })))))
@@ -267,7 +256,7 @@ module _ (s : Record) (v : Viewer) (h : Held) (me : Member) where
 
         keeps_silent : (has_bit v.intents guilds && (is_own || has_bit v.intents guild_members)) ≡ false → Has after v me h
         keeps_silent e =
-            let neither = both_false is_own (has_bit v.intents guild_members) (second_false (has_bit v.intents guilds) _ asks e) in
+            let neither = or_parts is_own (has_bit v.intents guild_members) (second_false (has_bit v.intents guilds) _ asks e) in
             let same_view = alike neither.0 neither.1 in
             stays_silent _ (shown-alike thread_id thread_view_id as_view (λ t. refl) shows y x s.threads ascends (subst (λ (k : ℕ). find_id thread_id k s.threads ≡ Some x) (sym at) found) same_view.0 same_view.1) has
 

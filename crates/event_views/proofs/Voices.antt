@@ -1,5 +1,5 @@
 -- A voice state that ends, and what a client then holds.
-use Rattle.std.proofs.Common.{◌≡◌, ℕ, Bool, true, false, List, [], None, if◌then◌else◌, refl, ap}
+use Rattle.std.proofs.Common.{◌≡◌, Bool, true, false, List, [], None, if◌then◌else◌, refl, ap}
 use Rattle.collections.specs.ById.{without_id}
 use Rattle.perm_bits.specs.Bits.{has_bit}
 use Rattle.intent_set.specs.Intents.{guild_voice_states}
@@ -9,7 +9,7 @@ use Rattle.guild_model.specs.Record.{Record, voice_id}
 use Rattle.dispatch_types.specs.declared.viewer.Viewer.{Viewer}
 use Rattle.dispatch_types.specs.declared.view.OpenView.{OpenView}
 use Rattle.dispatch_types.specs.declared.dispatch.Dispatch.TheVariants.{VoiceStateUpdate}
-use Rattle.dispatch_types.specs.Projection.{listed, open_view}
+use Rattle.dispatch_types.specs.Projection.{open_view}
 use Rattle.dispatch_types.specs.Fold.{Held, set_voice, folded, fold_from}
 use Rattle.event_views.specs.Asked.{asked}
 use Rattle.event_views.specs.Has.{Has}

@@ -1,5 +1,5 @@
 -- What is told of one thread (Gateway Events, Thread Create to Thread Members Update).
-use Rattle.std.specs.Prelude.{ℕ, ◌==◌, min, length, List, [], ◌∷◌, map, filter, flat_map, Bool, false, Option, Some, None, option_map}
+use Rattle.std.specs.Prelude.{ℕ, ◌==◌, min, length, List, [], ◌∷◌, map, filter, flat_map, Bool, false, Option, Some, None}
 use Rattle.collections.specs.ById.{find_id, keep_if}
 use Rattle.guild_model.specs.declared.member.Member.{Member}
 use Rattle.guild_model.specs.declared.thread.Thread.{Thread}
@@ -11,6 +11,7 @@ use Rattle.dispatch_types.specs.declared.dispatch.Dispatch.{Dispatch}
 use Rattle.dispatch_types.specs.declared.dispatch.Dispatch.TheVariants.{ThreadCreate, ThreadUpdate, ThreadMembersUpdate}
 use Rattle.dispatch_types.specs.Objects.{thread_object, thread_member_object}
 use Rattle.dispatch_types.specs.Projection.{seen_threads}
+use Rattle.thread_sync.specs.Sync.{own_membership}
 use Rattle.event_views.specs.Asked.{asked}
 
 -- how many users are in a thread, cut at 50
@@ -34,7 +35,7 @@ module _ (guild : ℕ) (v : Viewer) where
   -- a thread that comes into sight, with the viewer's own membership
   abbrev pub thread_creates : Bool → Option Thread → List Dispatch
   thread_creates newly None = []
-  thread_creates newly (Some t) = asked v false (ThreadCreate (thread_object guild t) newly (option_map (thread_member_object t.id) (membership v.user t)))
+  thread_creates newly (Some t) = asked v false (ThreadCreate (thread_object guild t) newly (own_membership v.user t))
 
   abbrev pub thread_updates : Option Thread → List Dispatch
   thread_updates None = []

@@ -1,8 +1,7 @@
 //! What is told of one thread (Gateway Events, Thread Create to Thread Members Update).
 
-ghost use Rattle.std.specs.Prelude.{◌≡◌, ◌++◌, OnOk, Some, option_map};
-ghost use Rattle.dispatch_types.specs.Objects.{thread_member_object};
-ghost use Rattle.event_views.specs.Threads.{thread_count, membership, member_comes, thread_creates, thread_updates, thread_joins, thread_leaves};
+ghost use Rattle.std.specs.Prelude.{◌≡◌, ◌++◌, OnOk, Some};
+ghost use Rattle.event_views.specs.Threads.{thread_count, member_comes, thread_creates, thread_updates, thread_joins, thread_leaves};
 
 use collections::Seq;
 use dispatch_types::{Dispatch, ThreadCount, ThreadMemberObject, ThreadObject, Viewer};
@@ -10,26 +9,7 @@ use guild_model::{Thread, ThreadMember};
 use intent_set::Kind;
 use snowflake_id::Snowflake;
 use std::alloc::{AllocError, Global};
-
-fn member_object(thread: Snowflake, member: &ThreadMember) -> ThreadMemberObject
-    ensures { result ≡ thread_member_object thread member.now }
-{
-    ThreadMemberObject {
-        thread,
-        user: member.user,
-        joined: member.joined,
-    }
-}
-
-// A user's membership as it is sent, where the user is in the thread.
-fn own_object(thread: &Thread, user: Snowflake) -> Option<ThreadMemberObject>
-    ensures { result ≡ option_map (thread_member_object thread.now.id) (membership user thread.now) }
-{
-    match thread.members.get(user.0) {
-        Some(member) => Some(member_object(thread.id, member)),
-        None => None,
-    }
-}
+use thread_sync::own_membership;
 
 /// Adds THREAD_CREATE of a thread that comes into a viewer's sight, with the viewer's own membership
 /// where it is in the thread. `newly` where the thread itself is new.
@@ -49,7 +29,7 @@ pub fn add_created(
     list.push(Dispatch::ThreadCreate {
         thread: ThreadObject::of(alloc, guild, thread)?,
         newly_created: newly,
-        member: own_object(thread, viewer.user),
+        member: own_membership(viewer.user, thread),
     })?;
     Ok(())
 }
@@ -105,7 +85,7 @@ fn add_member(
         return Ok(());
     }
     let mut added = Seq::new(alloc);
-    added.push(member_object(thread.id, member))?;
+    added.push(ThreadMemberObject::of(thread.id, member))?;
     list.push(members_update(guild, thread, added, Seq::new(alloc)))?;
     Ok(())
 }
