@@ -1,0 +1,61 @@
+-- What an edit of messages owes is of the guild, and about messages, reactions or typing.
+use Rattle.std.proofs.Common.{◌≡◌, ℕ, Bool, true, false, List, [], ◌∷◌, Option, Some, None, if◌then◌else◌, refl, ap}
+use Rattle.std.specs.Prelude.{◌/◌, All, option_map}
+use Rattle.std.proofs.lemmas.List.Elements.{All-nil, All-cons, All-weaker}
+use Rattle.guild_model.specs.declared.message.MessageHead.{MessageHead}
+use Rattle.guild_model.specs.declared.user.User.{User}
+use Rattle.guild_model.specs.Record.{Record}
+use Rattle.guild_model.specs.Heads.{find_head}
+use Rattle.message_edit.specs.declared.body.MessageBody.{MessageBody}
+use Rattle.message_edit.specs.declared.MessageEdit.{MessageEdit}
+use Rattle.message_edit.specs.declared.MessageEdit.TheVariants as edit
+use Rattle.dispatch_types.specs.declared.viewer.Viewer.{Viewer}
+use Rattle.dispatch_types.specs.declared.messages.MessageObject.{MessageObject}
+use Rattle.dispatch_types.specs.declared.dispatch.Dispatch.{Dispatch}
+use Rattle.dispatch_types.specs.declared.dispatch.Dispatch.TheVariants.{MessageCreate, MessageUpdate, MessageDelete, MessageReactionAdd, MessageReactionRemove, TypingStart}
+use Rattle.dispatch_types.specs.Kinds.{kind_of}
+use Rattle.dispatch_types.proofs.Folds.{guild_of}
+use Rattle.event_views.proofs.Steps.{IsOf}
+use Rattle.message_gate.specs.Redacted.{is_for, emptied, redacted}
+use Rattle.message_gate.specs.Shows.{shows}
+use Rattle.message_events.specs.declared.notes.MessageNote.{MessageNote}
+use Rattle.message_events.specs.declared.notes.MessageNote.TheVariants.{Nothing, Stood}
+use Rattle.message_events.specs.Messages.{is_message}
+use Rattle.message_events.specs.Rows.{About, user_of, message_of, created, updated, reacted, unreacted, message_told, shown, message_row}
+
+pub record IsMessageOf (guild : ℕ) (d : Dispatch) : Type 0 where
+  pub message : is_message d ≡ true
+  pub of : guild_of d ≡ Some guild
+
+redacted-guild : (m : MessageObject) (v : Viewer) → (redacted m v).guild ≡ m.guild
+redacted-guild m v = by_test (is_for m v)
+  where
+    by_test : (b : Bool) → (if b then m else emptied m).guild ≡ m.guild
+    by_test true = refl
+    by_test false = refl
+
+module _ (s : Record) (v : Viewer) where
+  shown-of : (about : About) → IsMessageOf s.id about.dispatch → All (IsMessageOf s.id) (shown s v (Some about))
+  shown-of about of = by_test (shows s v about.place (kind_of about.dispatch))
+    where
+      by_test : (b : Bool) → All (IsMessageOf s.id) (if b then about.dispatch ∷ [] else [])
+      by_test true = All-cons (IsMessageOf s.id) about.dispatch [] of (All-nil (IsMessageOf s.id))
+      by_test false = All-nil (IsMessageOf s.id)
+
+  shown-if : {T : Type 0} (f : T → About) (o : Option T) → ((x : T) → IsMessageOf s.id (f x).dispatch) → All (IsMessageOf s.id) (shown s v (option_map f o))
+  shown-if f None of = All-nil (IsMessageOf s.id)
+  shown-if f (Some x) of = shown-of (f x) (of x)
+
+  pub row-messages : (note : MessageNote) (e : MessageEdit) → All (IsMessageOf s.id) (message_row s v note e)
+  row-messages note (edit.MessageCreate message place author body) =
+      shown-if (created s v message place body) (user_of s author) (λ user. record { message = refl; of = ap (λ guild. Some guild) (redacted-guild (message_of s message place body user) v) })
+  row-messages note (edit.MessageUpdate message body) =
+      shown-if (updated s v body) (find_head message s.messages) (λ head. record { message = refl; of = ap (λ guild. Some guild) (redacted-guild (message_of s head.id head.place body head.author) v) })
+  row-messages (Stood place) (edit.MessageDelete message) = shown-of (record { place = place; dispatch = MessageDelete s.id place message }) (record { message = refl; of = refl })
+  row-messages Nothing (edit.MessageDelete message) = All-nil (IsMessageOf s.id)
+  row-messages note (edit.ReactionAdd message user emoji) = shown-if (reacted s v user emoji) (find_head message s.messages) (λ head. record { message = refl; of = refl })
+  row-messages note (edit.ReactionRemove message user emoji) = shown-if (unreacted s v user emoji) (find_head message s.messages) (λ head. record { message = refl; of = refl })
+  row-messages note (edit.Typing place user at) = shown-of (record { place = place; dispatch = TypingStart s.id place user (at / 1000) }) (record { message = refl; of = refl })
+
+  pub row-of : (note : MessageNote) (e : MessageEdit) → All (IsOf s.id) (message_row s v note e)
+  row-of note e = All-weaker (IsMessageOf s.id) (IsOf s.id) (λ d told. told.of) (message_row s v note e) (row-messages note e)

@@ -1,0 +1,15 @@
+-- What a client holds after it was told what an edit of messages owes.
+use Rattle.guild_model.specs.declared.member.Member.{Member}
+use Rattle.guild_model.specs.Record.{Record}
+use Rattle.dispatch_types.specs.declared.viewer.Viewer.{Viewer}
+use Rattle.dispatch_types.specs.Fold.{Held, fold_from}
+use Rattle.message_edit.specs.declared.MessageEdit.{MessageEdit}
+use Rattle.message_edit.specs.MessageEdits.{message_applied}
+use Rattle.event_views.specs.Has.{Has}
+use Rattle.message_events.specs.Notes.{message_note}
+use Rattle.message_events.specs.Rows.{message_row}
+
+-- a client that holds a member's view holds its view of the record after the edit
+abbrev pub MessageEditKeeps : Type 0
+MessageEditKeeps = (s : Record) (v : Viewer) (h : Held) (me : Member) (e : MessageEdit)
+    → Has s v me h → Has (message_applied s e) v me (fold_from v.intents s.id h (message_row (message_applied s e) v (message_note s e) e))

@@ -1,0 +1,4 @@
+pub mod Messages
+pub mod Notes
+pub mod Rows
+pub mod Law

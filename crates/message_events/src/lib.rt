@@ -1,0 +1,11 @@
+//! What the edits of messages, reactions and typing owe to a viewer that is served before and after
+//! them (Gateway Events, Message Create to Message Reaction Remove, Typing Start).
+#![tactic(auto)]
+
+pub mod law;
+pub mod notes;
+pub mod objects;
+pub mod rows;
+
+pub use notes::{MessageNote, note};
+pub use rows::row;

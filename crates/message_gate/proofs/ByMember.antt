@@ -1,0 +1,30 @@
+-- What a viewer is shown, by its own member.
+use Rattle.std.proofs.Common.{◌≡◌, ℕ, Bool, true, false, Some, None, if◌then◌else◌, refl}
+use Rattle.std.specs.Prelude.{◌&&◌, ◌||◌}
+use Rattle.collections.specs.ById.{find_id}
+use Rattle.intent_set.specs.declared.kind.Kind.{Kind}
+use Rattle.intent_set.specs.Asks.{asks}
+use Rattle.guild_model.specs.declared.member.Member.{Member}
+use Rattle.guild_model.specs.Record.{Record, member_id, thread_id}
+use Rattle.guild_model.specs.Sight.{sees, standing, sees_thread_of}
+use Rattle.dispatch_types.specs.declared.viewer.Viewer.{Viewer}
+use Rattle.dispatch_types.specs.Serves.{in_shard, served}
+use Rattle.message_gate.specs.Shows.{shows}
+
+served-member : (v : Viewer) (s : Record) (me : Member) → served v s ≡ Some me → find_id member_id v.user s.members ≡ Some me
+served-member v s me is = by_test (s.opened && in_shard v.shard s.id) is
+  where
+    by_test : (b : Bool) → (if b then find_id member_id v.user s.members else None) ≡ Some me → find_id member_id v.user s.members ≡ Some me
+    by_test true e = e
+    by_test false e = absurd (cc)
+
+pub shown_to : (s : Record) (v : Viewer) (place : ℕ) (kind : Kind) (me : Member) → served v s ≡ Some me
+    → shows s v place kind ≡ (asks v.intents kind false && (sees (standing s me) place || sees_thread_of s (Some me) (find_id thread_id place s.threads)))
+unfolding shows
+shown_to s v place kind me is =
+    let found : find_id member_id v.user s.members ≡ Some me = served-member v s me is in
+    rw (is, found) refl
+
+pub unshown : (s : Record) (v : Viewer) (place : ℕ) (kind : Kind) → served v s ≡ None → shows s v place kind ≡ false
+unfolding shows
+unshown s v place kind is = rw is refl

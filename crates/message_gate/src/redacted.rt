@@ -1,0 +1,63 @@
+//! Whom the content of a message is for (Gateway, Message Content Intent).
+
+ghost use Rattle.std.specs.Prelude.{◌≡◌, []};
+ghost use Rattle.message_gate.specs.Redacted.{mentions, is_for, emptied, redacted};
+
+use collections::Text;
+use dispatch_types::{MessageObject, Viewer};
+use guild_model::{PartCount, User};
+use intent_set::Intents;
+use snowflake_id::Snowflake;
+
+fn mentions(users: &[User], user: Snowflake) -> bool
+    ensures { result ≡ mentions users.now user }
+{
+    users.iter().any(|mentioned| mentioned.id == user)
+}
+
+// Whether a viewer is told what a message says.
+fn is_for(message: &MessageObject, viewer: &Viewer) -> bool
+    ensures { result ≡ is_for message.now viewer.now }
+{
+    viewer.intents.has(Intents::MESSAGE_CONTENT)
+        || message.author.id == viewer.user
+        || mentions(message.mentions.as_slice(), viewer.user)
+}
+
+// The empty text, without memory.
+fn cleared(text: Text) -> Text
+    ensures { result ≡ [] }
+{
+    let mut text = text.into_string();
+    text.clear();
+    Text::from_string(text)
+}
+
+fn emptied(message: MessageObject) -> MessageObject
+    ensures { result ≡ emptied message }
+{
+    MessageObject {
+        guild: message.guild,
+        channel: message.channel,
+        id: message.id,
+        author: message.author,
+        content: cleared(message.content),
+        mentions: message.mentions,
+        embeds: PartCount::NONE,
+        attachments: PartCount::NONE,
+        components: PartCount::NONE,
+    }
+}
+
+/// The message as it is sent to a viewer: its content, embeds, attachments and components are empty,
+/// unless the viewer has MESSAGE_CONTENT, is the author or is mentioned (Gateway, Message Content
+/// Intent). Takes no memory.
+pub fn redact(message: MessageObject, viewer: &Viewer) -> MessageObject
+    ensures { result ≡ redacted message viewer.now }
+{
+    if is_for(&message, viewer) {
+        message
+    } else {
+        emptied(message)
+    }
+}
