@@ -1,0 +1,5 @@
+use Rattle.client_cache.proofs.Entries.{unavailable-viewed}
+use Rattle.client_cache.proofs.guilds.Guilds.begin.Goals as goal
+
+pub invariant_of-self : goal.invariant_of-self
+invariant_of-self c = rw (c.in_ok-viewed.ensures, c.in_ok-entries.ensures, c.in_ok-unavailable_entries.ensures) (unavailable-viewed c.args.intents c.args.ids.now)

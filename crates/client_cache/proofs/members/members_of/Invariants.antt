@@ -1,0 +1,9 @@
+use Rattle.std.proofs.Common.{◌≡◌, ◌++◌, map, length}
+use Rattle.std.specs.Vec.Iter.{into_iter_items, into_iter_len}
+use Rattle.dispatch_types.specs.Objects.{member_of}
+use Rattle.client_cache.proofs.members.members_of.Given as goal
+
+-- what is made, and what is still to be made of the rest, is what was to be made from the start
+abbrev pub invariant-loop-object : goal.invariant-loop-object
+invariant-loop-object l = (l.members.items ++ map member_of (into_iter_items l.object-iterator) ≡ map member_of (into_iter_items l.initial.object-iterator))
+    × (into_iter_len l.object-iterator ≡ length (into_iter_items l.object-iterator))

@@ -1,0 +1,193 @@
+//! GUILD_CREATE, GUILD_UPDATE and GUILD_DELETE.
+
+ghost use Rattle.std.specs.Prelude.{◌≡◌, ◌==◌, [], map, IfOk};
+ghost use Rattle.std.specs.Option.{option_copied};
+ghost use Rattle.std.specs.List.{find, filter_map};
+ghost use Rattle.collections.specs.ById.{put_all};
+ghost use Rattle.intent_set.specs.Intents.{guild_members, guild_presences};
+ghost use Rattle.guild_model.specs.Record.{member_id, presence_id};
+ghost use Rattle.guild_model.specs.declared.member.Member.{Member};
+ghost use Rattle.dispatch_types.specs.Objects.{channel_of, member_of, voice_of, presence_of};
+ghost use Rattle.dispatch_types.specs.Projection.{told, listed};
+ghost use Rattle.dispatch_types.specs.Fold.{own_member, joined_thread, created_view, if_unavailable};
+
+use crate::members::members_of;
+use crate::objects::{channel_of, presence_of, voice_of};
+use crate::threads::joined_thread;
+use collections::{ById, Duplicate, Seq, Text};
+use dispatch_types::{
+    ChannelObject, GuildCreate, GuildView, JoinedThread, MemberObject, OpenView, PresenceObject,
+    ThreadView, VoiceObject,
+};
+use guild_model::{Channel, Member, Presence, Voice};
+use intent_set::Intents;
+use snowflake_id::Snowflake;
+use std::alloc::{AllocError, Global};
+
+/// The name and the owner are set (Gateway Events, Guild Update).
+pub(crate) fn update(view: &mut OpenView, name: Text, owner: Snowflake)
+    ensures { view.new ≡ record view.old { name = name; owner = owner } }
+{
+    view.name = name;
+    view.owner = owner;
+}
+
+/// The view of a guild in an outage, and none of one that the bot has left (Gateway Events, Guild
+/// Delete).
+pub(crate) fn unavailable_view(intents: Intents, unavailable: bool) -> Option<GuildView>
+    ensures { result ≡ if_unavailable intents unavailable }
+{
+    if unavailable && intents.has(Intents::GUILDS) {
+        Some(GuildView::Unavailable)
+    } else {
+        None
+    }
+}
+
+fn channels_of(alloc: Global, objects: Vec<ChannelObject>) -> Result<Vec<Channel>, AllocError>
+    ensures { IfOk result (λ channels. channels.items ≡ map channel_of objects.items) }
+{
+    let mut channels = Vec::with_capacity(alloc, objects.len())?;
+    for object in objects {
+        channels.push(channel_of(alloc, object)?)?;
+    }
+    Ok(channels)
+}
+
+fn threads_of(
+    alloc: Global,
+    intents: Intents,
+    bot: Snowflake,
+    objects: Vec<JoinedThread>,
+) -> Result<Vec<ThreadView>, AllocError>
+    ensures { IfOk result (λ threads. threads.items ≡ map (joined_thread intents bot) objects.items) }
+{
+    let mut threads = Vec::with_capacity(alloc, objects.len())?;
+    for object in objects {
+        threads.push(joined_thread(intents, bot, object))?;
+    }
+    Ok(threads)
+}
+
+fn voices_of(alloc: Global, objects: &[VoiceObject]) -> Result<Vec<Voice>, AllocError>
+    ensures { IfOk result (λ voices. voices.items ≡ filter_map voice_of objects.now) }
+{
+    objects.iter().filter_map(voice_of).collect(alloc)
+}
+
+fn presences_of(alloc: Global, objects: &[PresenceObject]) -> Result<Vec<Presence>, AllocError>
+    ensures { IfOk result (λ presences. presences.items ≡ filter_map presence_of objects.now) }
+{
+    objects.iter().filter_map(presence_of).collect(alloc)
+}
+
+// The members, where GUILD_MEMBERS tells of them.
+fn listed_members(
+    alloc: Global,
+    intents: Intents,
+    members: Vec<Member>,
+) -> Result<ById<Member>, AllocError>
+    ensures { IfOk result (λ list. list
+        ≡ listed intents guild_members (put_all member_id [] members.items)) }
+{
+    if intents.has(Intents::GUILD_MEMBERS) {
+        ById::of(alloc, members)
+    } else {
+        Ok(ById::new(alloc))
+    }
+}
+
+// The presences, where GUILD_PRESENCES tells of them.
+fn listed_presences(
+    alloc: Global,
+    intents: Intents,
+    objects: &[PresenceObject],
+) -> Result<ById<Presence>, AllocError>
+    ensures { IfOk result (λ list. list ≡ listed intents guild_presences
+        (put_all presence_id [] (filter_map presence_of objects.now))) }
+{
+    if intents.has(Intents::GUILD_PRESENCES) {
+        ById::of(alloc, presences_of(alloc, objects)?)
+    } else {
+        Ok(ById::new(alloc))
+    }
+}
+
+// The first member of a user.
+fn member_among(members: &[Member], user: Snowflake) -> Option<&Member>
+    ensures { option_copied result ≡ find (λ (m : Member). m.user.id == user) members.now }
+{
+    members.iter().find(|member| member.user.id == user)
+}
+
+// A copy of the own member.
+fn own_member(
+    alloc: Global,
+    members: &[Member],
+    bot: Snowflake,
+) -> Result<Option<Member>, AllocError>
+    ensures { IfOk result (λ me. me ≡ find (λ (m : Member). m.user.id == bot) members.now) }
+{
+    match member_among(members, bot) {
+        Some(me) => Ok(Some(me.duplicate(alloc)?)),
+        None => Ok(None),
+    }
+}
+
+fn member_count(intents: Intents, count: u32) -> Option<u32>
+    ensures { result ≡ told intents guild_members count }
+{
+    if intents.has(Intents::GUILD_MEMBERS) {
+        Some(count)
+    } else {
+        None
+    }
+}
+
+// The members, and a copy of the own one.
+fn told_members(
+    alloc: Global,
+    bot: Snowflake,
+    objects: Seq<MemberObject>,
+) -> Result<(Vec<Member>, Option<Member>), AllocError>
+    ensures all { IfOk result (λ told. told.0.items ≡ map member_of objects) }
+    ensures own { IfOk result (λ told. told.1 ≡ own_member bot objects) }
+{
+    let members = members_of(alloc, objects.into_vec())?;
+    let me = own_member(alloc, members.as_slice(), bot)?;
+    Ok((members, me))
+}
+
+/// The view that GUILD_CREATE gives: none without GUILDS, or where the own member is not told
+/// (Gateway Events, Guild Create).
+pub(crate) fn created_view(
+    alloc: Global,
+    intents: Intents,
+    bot: Snowflake,
+    create: GuildCreate,
+) -> Result<Option<GuildView>, AllocError>
+    ensures { IfOk result (λ view. view ≡ created_view intents bot create) }
+{
+    if !intents.has(Intents::GUILDS) {
+        return Ok(None);
+    }
+    let (members, me) = told_members(alloc, bot, create.members)?;
+    let Some(me) = me else {
+        return Ok(None);
+    };
+    Ok(Some(GuildView::Open(OpenView {
+        name: create.name,
+        owner: create.owner,
+        me,
+        roles: ById::of(alloc, create.roles.into_vec())?,
+        channels: ById::of(alloc, channels_of(alloc, create.channels.into_vec())?)?,
+        members: listed_members(alloc, intents, members)?,
+        member_count: member_count(intents, create.member_count),
+        threads: ById::of(
+            alloc,
+            threads_of(alloc, intents, bot, create.threads.into_vec())?,
+        )?,
+        voices: ById::of(alloc, voices_of(alloc, create.voices.as_slice())?)?,
+        presences: listed_presences(alloc, intents, create.presences.as_slice())?,
+    })))
+}

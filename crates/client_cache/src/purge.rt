@@ -1,0 +1,44 @@
+//! A client drops each thread that its bot does not see, by its own view alone (Threads, Private
+//! Threads).
+
+ghost use Rattle.std.specs.Prelude.{◌≡◌, filter, is_some, refl};
+ghost use Rattle.guild_model.specs.Sight.{Standing, sees_in};
+ghost use Rattle.dispatch_types.specs.declared.view.ThreadView.{ThreadView};
+ghost use Rattle.dispatch_types.specs.Fold.{purged};
+ghost use Rattle.client_cache.specs.Cached.{entry_purged};
+
+use crate::held::HeldGuild;
+use collections::{ById, Change};
+use dispatch_types::{GuildView, OpenView, ThreadView};
+use overwrite_eval::StandingRef;
+use snowflake_id::Snowflake;
+
+fn keep_seen(threads: &mut ById<ThreadView>, standing: &StandingRef<'_>)
+    ensures { threads.new ≡ filter (λ (t : ThreadView). sees_in standing.now t.parent t.kind (is_some t.mine)) threads.old }
+{
+    threads.retain(|thread| standing.sees_in(thread.parent, thread.kind, thread.mine.is_some()));
+}
+
+fn drop_unseen(guild: Snowflake, view: &mut OpenView)
+    ensures { view.new ≡ purged 0 guild view.old }
+{
+    let standing = StandingRef::new(guild, view.owner, &view.roles, &view.channels, &view.me);
+    keep_seen(&mut view.threads, &standing);
+}
+
+/// The threads that the bot does not see go.
+#[derive(Clone, Copy)]
+pub(crate) struct Purge;
+
+impl Change<HeldGuild> for Purge {
+    ghost changed = { λ change h. entry_purged h };
+
+    fn change(self, held: &mut HeldGuild) {
+        let guild = held.id;
+        if let Some(GuildView::Open(view)) = &mut held.view {
+            drop_unseen(guild, view);
+        }
+    }
+
+    ghost keeps_key = { λ change h. refl };
+}
