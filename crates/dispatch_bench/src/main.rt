@@ -1,9 +1,11 @@
-//! How fast dispatches are written and read: `dispatch_bench write|read TURNS FILE`, where each line
-//! of the file is the text of a dispatch. It prints how many bytes were written or read.
+//! Dispatches from texts: `dispatch_bench write|read TURNS FILE` tells how fast they are written and
+//! read, where each line of the file is the text of a dispatch, and prints how many bytes that were.
+//! `dispatch_bench show FILE` prints each line as it is read: the text of the same dispatch as it is
+//! written, or why it is none.
 #![tactic(auto)]
 
 use dispatch_types::Dispatch;
-use event_json::{Body, append_framed, read};
+use event_json::{Body, append_framed, read, write};
 use std::alloc::{AllocError, Global};
 use std::{env, fs};
 
@@ -66,17 +68,30 @@ fn lines_of(alloc: Global, text: &str) -> Result<Vec<String>, AllocError> {
     Ok(lines)
 }
 
-fn main(rt: HostRuntime) -> anyhow::Result<()> {
+fn show(rt: &HostRuntime, line: &str) -> anyhow::Result<()> {
+    match read(rt.alloc(), line) {
+        Ok((dispatch, number)) => {
+            let text = write(rt.alloc(), &dispatch, number)?;
+            println!(rt; "{text}")?;
+        }
+        Err(fault) => println!(rt; "{fault}")?,
+    }
+    Ok(())
+}
+
+fn show_all(rt: &HostRuntime, path: &str) -> anyhow::Result<()> {
+    let text = fs::read_to_string(rt, path)?;
+    for line in text.as_str().lines() {
+        show(rt, line)?;
+    }
+    Ok(())
+}
+
+fn time(rt: &HostRuntime, way: &str, turns: u64, path: &str) -> anyhow::Result<()> {
     let alloc = rt.alloc();
-    let mut words = env::args(&rt)?.skip(1);
-    let (Some(way), Some(turns), Some(path)) = (words.next(), words.next(), words.next()) else {
-        eprintln!(rt; "usage: dispatch_bench write|read TURNS FILE")?;
-        return Ok(());
-    };
-    let turns = turns.as_str().parse::<u64>()?;
-    let text = fs::read_to_string(&rt, path.as_str())?;
+    let text = fs::read_to_string(rt, path)?;
     let lines = lines_of(alloc, text.as_str())?;
-    let size = if way.as_str() == "read" {
+    let size = if way == "read" {
         read_often(alloc, turns, lines.as_slice())?
     } else {
         let dispatches = read_all(alloc, lines.as_slice())?;
@@ -84,4 +99,19 @@ fn main(rt: HostRuntime) -> anyhow::Result<()> {
     };
     println!(rt; "{size}")?;
     Ok(())
+}
+
+fn main(rt: HostRuntime) -> anyhow::Result<()> {
+    let mut words = env::args(&rt)?.skip(1);
+    match (words.next(), words.next(), words.next()) {
+        (Some(way), Some(path), None) if way.as_str() == "show" => show_all(&rt, path.as_str()),
+        (Some(way), Some(turns), Some(path)) => {
+            let turns = turns.as_str().parse::<u64>()?;
+            time(&rt, way.as_str(), turns, path.as_str())
+        }
+        _ => {
+            eprintln!(rt; "usage: dispatch_bench write|read TURNS FILE | show FILE")?;
+            Ok(())
+        }
+    }
 }
