@@ -1,11 +1,5 @@
-mod changes;
-mod channels;
 mod edits;
-mod guilds;
 mod limits;
-mod members;
-mod roles;
-mod threads;
 
 use crate::{Edit, apply, judge};
 use edits::{
@@ -16,8 +10,6 @@ use snowflake_id::Snowflake;
 use std::alloc::Global;
 use std::process::Abort;
 use std::test::Fail;
-
-const LONG: Verdict = Verdict::TooLong { limit: 100 };
 
 // A guild to which nothing has happened.
 fn closed(alloc: Global) -> Guild {
@@ -63,17 +55,4 @@ fn makes(alloc: Global, guild: &mut Guild, edit: Edit) -> Result<(), Fail> {
 
 fn refuses(rt: &impl Abort, guild: &Guild, edit: Edit, verdict: Verdict) {
     assert_eq!(rt; judge(guild, &edit), Err(verdict));
-}
-
-// The den makes the edit.
-fn accepted(alloc: Global, edit: Edit) -> Result<(), Fail> {
-    let mut guild = den(alloc)?;
-    makes(alloc, &mut guild, edit)
-}
-
-// The den refuses the edit with this verdict.
-fn refused(rt: &impl Abort, alloc: Global, edit: Edit, verdict: Verdict) -> Result<(), Fail> {
-    let guild = den(alloc)?;
-    refuses(rt, &guild, edit, verdict);
-    Ok(())
 }

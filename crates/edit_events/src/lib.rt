@@ -7,6 +7,3 @@ pub mod law;
 
 pub use create::greeting;
 pub use due::{Before, Was, events, note};
-
-#[cfg(test)]
-mod tests;
