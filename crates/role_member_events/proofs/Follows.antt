@@ -1,12 +1,11 @@
 -- A client that is told what an edit of roles or members owes holds the view of the record after it.
 use Rattle.std.proofs.Common.{◌≡◌, ℕ, ◌<◌, ◌-◌, ◌^◌, Bool, true, false, not, List, [], ◌∷◌, ◌++◌, Option, Some, None, if◌then◌else◌, refl, sym, ap, subst, ◌∙◌, eq-eqb, arith}
-use Rattle.std.specs.Prelude.{◌==◌, nat_lt, length, is_some, option_map, All}
+use Rattle.std.specs.Prelude.{◌==◌, nat_lt, length, is_some, option_map}
 use Rattle.std.proofs.lemmas.Bool.{eqb-true}
 use Rattle.std.proofs.lemmas.Bool.Decides.{nat_tests}
-use Rattle.std.proofs.lemmas.List.Elements.{All-nil}
-use Rattle.collections.specs.ById.{find_id, has_id, put_id, changed_id, IsById}
+use Rattle.collections.specs.ById.{find_id, has_id, IsById}
 use Rattle.collections.proofs.Finds.{key-found, find-put, find-map, find-changed, find-without}
-use Rattle.collections.proofs.Mapped.{all-found}
+use Rattle.collections.proofs.Has.{All-found}
 use Rattle.perm_bits.specs.Bits.{has_bit}
 use Rattle.intent_set.specs.Intents.{guilds}
 use Rattle.guild_model.specs.declared.member.Member.{Member}
@@ -14,11 +13,10 @@ use Rattle.guild_model.specs.declared.verdict.Verdict.TheVariants.{IdTaken, Unkn
 use Rattle.guild_model.specs.Record.{Record, own_id, role_id, member_id}
 use Rattle.guild_model.specs.Changes.{without_role}
 use Rattle.guild_model.specs.Tests.{refused_if, first_of, too_long, too_many, unknown_role, unknown_member}
-use Rattle.guild_model.specs.Ascending.{IsAscending, IsWell}
+use Rattle.guild_model.specs.Ascending.{IsAscending, IsWell, HoldsInOrder}
 use Rattle.guild_model.proofs.Tests.{first_passes, not_refused}
 use Rattle.dispatch_types.specs.declared.viewer.Viewer.{Viewer}
-use Rattle.dispatch_types.specs.declared.dispatch.Dispatch.{Dispatch}
-use Rattle.dispatch_types.specs.declared.dispatch.Dispatch.TheVariants.{GuildRoleCreate, GuildRoleUpdate, GuildRoleDelete, GuildMemberAdd, GuildMemberUpdate}
+use Rattle.dispatch_types.specs.declared.dispatch.Dispatch.TheVariants.{GuildRoleCreate, GuildMemberAdd}
 use Rattle.dispatch_types.specs.Objects.{member_object}
 use Rattle.dispatch_types.specs.Fold.{Held, fold_from}
 use Rattle.thread_sync.specs.Seen.{visible_to}
@@ -77,7 +75,7 @@ module _ (s : Record) (v : Viewer) (h : Held) (me : Member) (well : IsWell s) (o
 
   -- with the roles that it holds in order
   roles-ordered : (user : ℕ) (f : Member → Member) (x : Member) → ((m : Member) → (f m).user.id ≡ m.user.id) → IsAscending (with_member_changed s user f) → find_id member_id user s.members ≡ Some x → IsById own_id (f x).roles
-  roles-ordered user f x same ascends found = all-found member_id (λ (m : Member). IsById own_id m.roles) user (with_member_changed s user f).members (f x) ascends.held (told-changed user f x same found)
+  roles-ordered user f x same ascends found = All-found member_id HoldsInOrder user (with_member_changed s user f).members (f x) ascends.held (told-changed user f x same found)
 
   module _ (user : ℕ) (f : Member → Member) (same : (m : Member) → (f m).user.id ≡ m.user.id) (after : IsAscending (with_member_changed s user f)) (me' : Member) (own' : find_id member_id v.user (with_member_changed s user f).members ≡ Some me') (known : unknown_member s user ≡ None) where
     pub follows-change : ((m : Member) → (f m).roles ≡ m.roles)

@@ -2,14 +2,14 @@
 use Rattle.std.proofs.Common.{◌≡◌, ℕ, Bool, true, false, not, List, [], ◌∷◌, ◌++◌, map, Option, Some, None, if◌then◌else◌, refl, sym, ap, subst, ◌∙◌}
 use Rattle.std.specs.Prelude.{◌==◌, is_some, cond}
 use Rattle.collections.specs.ById.{find_id, has_id, without_id}
-use Rattle.collections.proofs.Finds.{key-found, IsById-filter}
+use Rattle.collections.proofs.Finds.{key-found}
 use Rattle.perm_bits.specs.Bits.{has_bit}
 use Rattle.intent_set.specs.Intents.{guilds}
 use Rattle.guild_model.specs.declared.member.Member.{Member}
 use Rattle.guild_model.specs.declared.voice.Voice.{Voice}
 use Rattle.guild_model.specs.declared.presence.Presence.{Presence}
 use Rattle.guild_model.specs.Record.{Record, member_id, voice_id, presence_id}
-use Rattle.guild_model.specs.Ascending.{IsAscending, IsWell}
+use Rattle.guild_model.specs.Ascending.{IsAscending}
 use Rattle.dispatch_types.specs.declared.viewer.Viewer.{Viewer}
 use Rattle.dispatch_types.specs.declared.dispatch.Dispatch.{Dispatch}
 use Rattle.dispatch_types.specs.declared.dispatch.Dispatch.TheVariants.{GuildMemberRemove}
@@ -22,7 +22,6 @@ use Rattle.event_views.proofs.Steps.{fold-append}
 use Rattle.event_views.proofs.Voices.{follows-voice_gone}
 use Rattle.event_views.proofs.Left.{follows-user_left}
 use Rattle.voice_presence_events.proofs.Follows.{follows-presence}
-use Rattle.role_member_events.specs.declared.ends.MemberEnd.{MemberEnd}
 use Rattle.role_member_events.specs.Ends.{end_of}
 use Rattle.role_member_events.specs.Rows.{presence_ended, voice_ended, member_ended}
 use Rattle.role_member_events.proofs.Membership.{follows-member_gone}

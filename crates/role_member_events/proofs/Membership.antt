@@ -1,19 +1,18 @@
 -- Members that come, change and go, and what a client then holds of them.
-use Rattle.std.proofs.Common.{◌≡◌, ℕ, ◌<◌, ◌-◌, ◌^◌, Bool, true, false, List, [], ◌∷◌, Option, Some, None, if◌then◌else◌, refl, sym, ap, subst, ◌∙◌, eq-eqb, arith}
-use Rattle.std.specs.Prelude.{◌==◌, ◌||◌, filter, length, min, option_map}
+use Rattle.std.proofs.Common.{◌≡◌, ℕ, ◌<◌, ◌-◌, ◌^◌, Bool, true, false, List, [], Some, None, if◌then◌else◌, refl, sym, ap, subst, ◌∙◌, arith}
+use Rattle.std.specs.Prelude.{◌==◌, ◌||◌, filter, length, option_map}
+use Rattle.std.proofs.lemmas.Bool.{or_parts}
 use Rattle.std.proofs.lemmas.Bool.{eqb-true}
-use Rattle.collections.specs.ById.{find_id, put_id, changed_id, without_id, IsById}
+use Rattle.collections.specs.ById.{find_id, put_id, without_id, IsById}
 use Rattle.collections.proofs.Finds.{key-found, find-changed}
 use Rattle.collections.proofs.Filters.{changed-put}
 use Rattle.perm_bits.specs.Bits.{has_bit}
 use Rattle.intent_set.specs.Intents.{guild_members}
-use Rattle.intent_set.specs.Asks.{asks}
 use Rattle.guild_model.specs.declared.member.Member.{Member}
 use Rattle.guild_model.specs.declared.user.User.{User}
 use Rattle.guild_model.specs.Record.{Record, own_id, member_id}
 use Rattle.guild_model.specs.Ascending.{IsAscending}
 use Rattle.dispatch_types.specs.declared.viewer.Viewer.{Viewer}
-use Rattle.dispatch_types.specs.declared.members.MemberObject.{MemberObject}
 use Rattle.dispatch_types.specs.declared.view.OpenView.{OpenView}
 use Rattle.dispatch_types.specs.declared.view.ThreadView.{ThreadView}
 use Rattle.dispatch_types.specs.declared.dispatch.Dispatch.TheVariants.{GuildMemberAdd, GuildMemberUpdate, GuildMemberRemove}
@@ -32,10 +31,6 @@ use Rattle.event_views.proofs.Lists.{known-put, known-without, length-changed, l
 -- the same view with other threads
 abbrev pub showing : OpenView → List ThreadView → OpenView
 showing w threads = record w { threads = threads }
-
-pub neither : (a b : Bool) → (a || b) ≡ false → (a ≡ false) × (b ≡ false)
-neither true b e = absurd (cc)
-neither false b e = (refl, e)
 
 -- ---- a member that changes
 
@@ -137,7 +132,7 @@ module _ (s : Record) (v : Viewer) (user : ℕ) (f : Member → Member) (x me me
 
       keeps_silent : (((f x).user.id == v.user) || has_bit v.intents guild_members) ≡ false → Has after v me' h
       keeps_silent blind =
-          let parts = neither ((f x).user.id == v.user) (has_bit v.intents guild_members) blind in
+          let parts = or_parts ((f x).user.id == v.user) (has_bit v.intents guild_members) blind in
           untold s after v h me me' (silent h.known (other-user parts.0) parts.1 ∙ ap (showing (open_view after v.intents h.known me')) (sym (threads h.known))) has
 
 -- ---- a member that comes

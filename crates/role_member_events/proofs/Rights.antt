@@ -1,6 +1,7 @@
 -- Roles that come, change and go, and members that are given and lose them.
 use Rattle.std.proofs.Common.{◌≡◌, ℕ, Bool, true, false, List, [], ◌∷◌, ◌++◌, map, Option, Some, None, if◌then◌else◌, refl, sym, ap, ◌∙◌}
-use Rattle.std.specs.Prelude.{◌==◌, ◌||◌, filter, length, option_map}
+use Rattle.std.specs.Prelude.{◌==◌, filter, length, option_map}
+use Rattle.std.proofs.lemmas.Bool.{or_parts}
 use Rattle.collections.specs.ById.{find_id, has_id, put_id, IsById}
 use Rattle.collections.proofs.Finds.{find-map}
 use Rattle.perm_bits.specs.Bits.{has_bit}
@@ -12,12 +13,11 @@ use Rattle.guild_model.specs.Record.{Record, own_id, role_id, member_id, channel
 use Rattle.guild_model.specs.Changes.{without_role, without_role_overwrite}
 use Rattle.guild_model.specs.Ascending.{IsWell}
 use Rattle.dispatch_types.specs.declared.viewer.Viewer.{Viewer}
-use Rattle.dispatch_types.specs.declared.view.OpenView.{OpenView}
 use Rattle.dispatch_types.specs.declared.view.ThreadView.{ThreadView}
 use Rattle.dispatch_types.specs.declared.dispatch.Dispatch.TheVariants.{GuildRoleCreate, GuildRoleUpdate, GuildRoleDelete, GuildMemberUpdate}
 use Rattle.dispatch_types.specs.Objects.{member_object, member_of}
 use Rattle.dispatch_types.specs.Projection.{told, listed, is_known, open_view}
-use Rattle.dispatch_types.specs.Fold.{Held, set_role, drop_role, update_member, folded, fold_from}
+use Rattle.dispatch_types.specs.Fold.{Held, set_role, drop_role, update_member, fold_from}
 use Rattle.dispatch_types.proofs.Objects.{member-back}
 use Rattle.role_member_edit.specs.Roles.{with_role_set, role_deleted}
 use Rattle.role_member_edit.specs.Members.{with_member_changed}
@@ -32,7 +32,7 @@ use Rattle.event_views.proofs.Steps.{whole, by_guilds, by_asked_then}
 use Rattle.event_views.proofs.Told.{same, told-role_create, told-role_update, told-role_delete, told-member_update}
 use Rattle.event_views.proofs.Lists.{same-parts}
 use Rattle.event_views.proofs.Rights.{follows-rights, follows-unsaid}
-use Rattle.role_member_events.proofs.Membership.{updates, silent, own-user, other-user, neither}
+use Rattle.role_member_events.proofs.Membership.{updates, silent, own-user, other-user}
 
 -- a role that comes changes nothing of what is seen
 pub follows-role_create : (s : Record) (v : Viewer) (h : Held) (me : Member) (r : Role) → IsWell s → s.opened ≡ true
@@ -101,6 +101,6 @@ follows-member_roles s v user f x me me' same_user well found own own' h ordered
     (ap (λ (m : Member). update_member v.intents h.bot m (open_view s v.intents h.known me)) (member-back (f x) ordered)
     ∙ (ap (λ bot. update_member v.intents bot (f x) (open_view s v.intents h.known me)) has.bot
     ∙ updates s v user f x me me' same_user well.ascending found own own' h.known)) has)
-    (λ blind. let parts = neither ((f x).user.id == v.user) (has_bit v.intents guild_members) blind in
+    (λ blind. let parts = or_parts ((f x).user.id == v.user) (has_bit v.intents guild_members) blind in
     follows-unsaid s t v h me me' well rights mine asks
     (silent s v user f x me me' same_user well.ascending found own own' h.known (other-user s v user f x me me' same_user well.ascending found own own' parts.0) parts.1) has)

@@ -1,9 +1,8 @@
 -- What has to be known of the record before an edit of roles or members.
-use Rattle.std.specs.Prelude.{ℕ, Option, Some, None}
+use Rattle.std.specs.Prelude.{Option, Some, None}
 use Rattle.collections.specs.ById.{find_id, has_id}
 use Rattle.guild_model.specs.declared.member.Member.{Member}
 use Rattle.guild_model.specs.Record.{Record, member_id, voice_id, presence_id}
-use Rattle.thread_sync.specs.declared.seen.Seen.{Seen}
 use Rattle.thread_sync.specs.Seen.{visible_to}
 use Rattle.event_views.specs.Threads.{threads_left}
 use Rattle.role_member_edit.specs.declared.RoleMemberEdit.{RoleMemberEdit}

@@ -8,15 +8,14 @@ use Rattle.guild_model.specs.declared.voice.Voice.{Voice}
 use Rattle.guild_model.specs.Record.{Record, member_id}
 use Rattle.dispatch_types.specs.declared.viewer.Viewer.{Viewer}
 use Rattle.dispatch_types.specs.declared.dispatch.Dispatch.{Dispatch}
-use Rattle.dispatch_types.specs.declared.dispatch.Dispatch.TheVariants.{GuildRoleCreate, GuildRoleUpdate, GuildRoleDelete, GuildMemberAdd, GuildMemberUpdate, GuildMemberRemove, VoiceStateUpdate, PresenceUpdate}
+use Rattle.dispatch_types.specs.declared.dispatch.Dispatch.TheVariants.{GuildRoleCreate, GuildRoleUpdate, GuildRoleDelete, GuildMemberAdd, GuildMemberUpdate, GuildMemberRemove, PresenceUpdate}
 use Rattle.dispatch_types.specs.Objects.{member_object}
-use Rattle.thread_sync.specs.declared.seen.Seen.{Seen}
-use Rattle.thread_sync.specs.Sync.{sync}
 use Rattle.role_member_edit.specs.declared.RoleMemberEdit.{RoleMemberEdit}
 use Rattle.role_member_edit.specs.declared.RoleMemberEdit.TheVariants.{RoleCreate, RoleUpdate, RoleDelete, MemberAdd, MemberRemove, MemberNick, MemberTimeout, MemberRoleAdd, MemberRoleRemove}
 use Rattle.role_member_edit.specs.Members.{new_member}
-use Rattle.event_views.specs.Asked.{asked, told_if}
-use Rattle.event_views.specs.Ended.{voice_end}
+use Rattle.event_views.specs.Asked.{asked}
+use Rattle.event_views.specs.Ended.{voice_ends}
+use Rattle.event_views.specs.Synced.{synced}
 use Rattle.event_views.specs.Threads.{user_leaves}
 use Rattle.voice_presence_events.specs.Rows.{presence_told}
 use Rattle.role_member_events.specs.declared.ends.MemberEnd.{MemberEnd}
@@ -33,11 +32,6 @@ member_told after v (Some m) = asked v (m.user.id == v.user) (GuildMemberUpdate 
 abbrev pub member_updated : Record → Viewer → ℕ → List Dispatch
 member_updated after v user = member_told after v (find_id member_id user after.members)
 
--- the gains, by what the viewer saw before
-abbrev pub synced : Option Seen → Record → Viewer → Member → List Dispatch
-synced None after v me = []
-synced (Some was) after v me = told_if v (sync was after me)
-
 -- a member that goes is offline, in voice no longer, and in none of the threads that the viewer sees
 abbrev pub presence_ended : Record → Viewer → ℕ → Bool → List Dispatch
 presence_ended after v user true = asked v false (PresenceUpdate (presence_told after.id user None))
@@ -45,7 +39,7 @@ presence_ended after v user false = []
 
 abbrev pub voice_ended : Record → Viewer → Option Voice → List Dispatch
 voice_ended after v None = []
-voice_ended after v (Some voice) = asked v false (VoiceStateUpdate after.id (voice_end voice))
+voice_ended after v (Some voice) = voice_ends after.id v voice
 
 abbrev pub member_ended : Record → Viewer → Option MemberEnd → List Dispatch
 member_ended after v None = []

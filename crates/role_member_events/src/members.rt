@@ -10,8 +10,8 @@ ghost use Rattle.role_member_events.specs.Rows.{member_updated, presence_ended, 
 use crate::ends::MemberEnd;
 use collections::{Duplicate, Seq, Text};
 use dispatch_types::{Dispatch, MemberObject, PresenceObject, Viewer};
+use event_views::add_voice_end;
 use event_views::thread_told::add_left;
-use event_views::voice_end;
 use guild_model::{Guild, Moment, User, Voice};
 use intent_set::Kind;
 use snowflake_id::Snowflake;
@@ -119,17 +119,10 @@ fn add_voice_ended(
 ) -> Result<(), AllocError>
     ensures { OnOk result (list.new.items ≡ list.old.items ++ voice_ended after.now viewer.now voice.now) }
 {
-    let Some(voice) = voice else {
-        return Ok(());
-    };
-    if !viewer.intents.asks(Kind::VoiceStateUpdate, false) {
-        return Ok(());
+    match voice {
+        Some(voice) => add_voice_end(after.id, viewer, voice, list),
+        None => Ok(()),
     }
-    list.push(Dispatch::VoiceStateUpdate {
-        guild: after.id,
-        voice: voice_end(voice),
-    })?;
-    Ok(())
 }
 
 // It is in these threads no longer.

@@ -1,40 +1,15 @@
 //! The dispatches of an edit of roles or members, in their order.
 
 ghost use Rattle.std.specs.Prelude.{◌≡◌, ◌++◌, OnOk, IfOk};
-ghost use Rattle.role_member_events.specs.Rows.{synced, role_member_row};
+ghost use Rattle.role_member_events.specs.Rows.{role_member_row};
 
 use crate::ends::RoleMemberNote;
 use crate::{members, roles};
 use dispatch_types::{Dispatch, Viewer};
+use event_views::add_synced;
 use guild_model::{Guild, Member};
-use intent_set::Kind;
 use role_member_edit::RoleMemberEdit;
 use std::alloc::{AllocError, Global};
-use thread_sync::Seen;
-use thread_sync::sync::sync;
-
-// What the viewer gained, by what it saw before.
-fn add_synced(
-    alloc: Global,
-    seen: &Option<Seen>,
-    after: &Guild,
-    viewer: &Viewer,
-    me: &Member,
-    list: &mut Vec<Dispatch>,
-) -> Result<(), AllocError>
-    ensures { OnOk result (list.new.items ≡ list.old.items ++ synced seen.now after.now viewer.now me.now) }
-{
-    let Some(was) = seen else {
-        return Ok(());
-    };
-    if !viewer.intents.asks(Kind::ThreadListSync, false) {
-        return Ok(());
-    }
-    if let Some(gains) = sync(alloc, was, after, me)? {
-        list.push(gains)?;
-    }
-    Ok(())
-}
 
 fn add_row(
     alloc: Global,
