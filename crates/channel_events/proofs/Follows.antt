@@ -35,15 +35,16 @@ use Rattle.thread_sync.specs.Law.{kind_in, ChangesRights}
 use Rattle.thread_sync.proofs.Sights.{channel-created-keeps, channel-changed-keeps}
 use Rattle.event_views.specs.Has.{Has}
 use Rattle.event_views.specs.Asked.{told_if}
-use Rattle.event_views.proofs.Rights.{follows-rights, sync-of}
+use Rattle.event_views.proofs.Rights.{follows-rights, synced-of}
 use Rattle.event_views.proofs.Steps.{IsOf, asked-of, append-of}
 use Rattle.event_views.proofs.Told.{same, told-channel_update}
-use Rattle.event_views.specs.Ended.{voice_end}
+use Rattle.event_views.specs.Ended.{voice_end, voice_ends}
+use Rattle.event_views.specs.Synced.{synced}
 use Rattle.channel_events.specs.declared.ends.ChannelEnd.{ChannelEnd}
 use Rattle.channel_events.specs.declared.ends.ChannelNote.{ChannelNote}
 use Rattle.channel_events.specs.Ends.{channel_end, end_of}
 use Rattle.channel_events.specs.Law.{ChannelEditKeeps}
-use Rattle.channel_events.specs.Rows.{told_of, created, updated, left, gone, deleted, rights_changed, channel_row}
+use Rattle.channel_events.specs.Rows.{told_of, created, updated, gone, deleted, rights_changed, channel_row}
 use Rattle.channel_events.proofs.Puts.{puts-channel, follows-channel_put, follows-channel_changed}
 use Rattle.channel_events.proofs.Gone.{follows-gone}
 
@@ -108,7 +109,7 @@ module _ (s : Record) (v : Viewer) (h : Held) (me : Member) (well : IsWell s) (a
         (follows-channel_changed s v h me (f c) t.channels put ordered well.ascending.threads (channel-changed-keeps s me f channel same_id overwrites) asks has)
 
     -- with other overwrites: the sync brings the threads that the update does not
-    pub follows-overwrites : ((c : Channel) → (f c).kind ≡ c.kind) → Has s v me h → Has t v me (fold_from v.intents s.id h (rights_changed t v (visible_to s me) me channel))
+    pub follows-overwrites : ((c : Channel) → (f c).kind ≡ c.kind) → Has s v me h → Has t v me (fold_from v.intents s.id h (rights_changed t v (Some (visible_to s me)) me channel))
     follows-overwrites kinds has =
         subst (λ (ds : List Dispatch). Has t v me (fold_from v.intents s.id h (ds ++ told_if v (sync (visible_to s me) t me)))) (sym update)
         (follows-rights s t v h me me well rights refl asks (ChannelUpdate o) (set_channel o) same (told-channel_update v.intents s.id h o refl) (puts-channel s v h me (f c) t.channels put ordered h.known) has)
@@ -170,13 +171,13 @@ module _ (s : Record) (v : Viewer) where
   deleted-of : (o : Option ChannelEnd) → All (IsOf s.id) (deleted s v o)
   deleted-of None = All-nil (IsOf s.id)
   deleted-of (Some end) =
-      append-of s.id (flat_map (left s v) end.voices) (flat_map (updated s v) end.children ++ gone s v end.channel)
-      (each-of (left s v) (λ x. asked-of s.id v false (VoiceStateUpdate s.id (voice_end x)) refl) end.voices)
+      append-of s.id (flat_map (voice_ends s.id v) end.voices) (flat_map (updated s v) end.children ++ gone s v end.channel)
+      (each-of (voice_ends s.id v) (λ x. asked-of s.id v false (VoiceStateUpdate s.id (voice_end x)) refl) end.voices)
       (append-of s.id (flat_map (updated s v) end.children) (gone s v end.channel) (each-of (updated s v) updated-of end.children) (asked-of s.id v false (ChannelDelete (channel_object s.id end.channel)) refl))
 
   pub row-of : (note : ChannelNote) (me : Member) (e : ChannelEdit) → All (IsOf s.id) (channel_row note s v me e)
   row-of note me (edit.ChannelCreate channel kind name parent position sync) = told-of ChannelCreate (λ c. refl) (find_id channel_id channel s.channels)
   row-of note me (edit.ChannelUpdate channel name parent position) = updated-of channel
   row-of note me (edit.ChannelDelete channel) = deleted-of note.end
-  row-of note me (edit.OverwriteSet channel id kind allow deny) = append-of s.id (updated s v channel) (told_if v (sync note.seen s me)) (updated-of channel) (sync-of note.seen s v me)
-  row-of note me (edit.OverwriteDelete channel id kind) = append-of s.id (updated s v channel) (told_if v (sync note.seen s me)) (updated-of channel) (sync-of note.seen s v me)
+  row-of note me (edit.OverwriteSet channel id kind allow deny) = append-of s.id (updated s v channel) (synced note.seen s v me) (updated-of channel) (synced-of note.seen s v me)
+  row-of note me (edit.OverwriteDelete channel id kind) = append-of s.id (updated s v channel) (synced note.seen s v me) (updated-of channel) (synced-of note.seen s v me)

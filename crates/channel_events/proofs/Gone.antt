@@ -6,7 +6,7 @@ use Rattle.std.proofs.lemmas.Bool.{eqb-true}
 use Rattle.std.proofs.lemmas.Bool.Decides.{nat_tests}
 use Rattle.collections.specs.ById.{find_id, has_id, put_id, without_id, keep_if, or_else, IsById}
 use Rattle.collections.proofs.Ids.{IsById-put}
-use Rattle.collections.proofs.Finds.{key-found, same_by_id, find-put, find-without, find-filter, find-map, IsById-filter, IsById-map}
+use Rattle.collections.proofs.Finds.{key-found, same_by_id, find-put, find-without, find-filter, find-map, IsById-filter, IsById-map, IsById-without}
 use Rattle.collections.proofs.Has.{All-found}
 use Rattle.perm_bits.specs.Bits.{has_bit}
 use Rattle.intent_set.specs.Intents.{guilds}
@@ -34,7 +34,8 @@ use Rattle.event_views.proofs.Steps.{whole, by_guilds, fold-append}
 use Rattle.event_views.proofs.Told.{same, told-channel_delete}
 use Rattle.event_views.proofs.Voices.{follows-voice_gone}
 use Rattle.channel_events.specs.Ends.{speaks_in, is_child, voices_in, children_of, end_of}
-use Rattle.channel_events.specs.Rows.{told_of, updated, left, gone, deleted}
+use Rattle.channel_events.specs.Rows.{told_of, updated, gone, deleted}
+use Rattle.event_views.specs.Ended.{voice_ends}
 use Rattle.channel_events.proofs.Puts.{with_channels, follows-channel_changed}
 
 -- ---- the voice states in it, one after another
@@ -48,7 +49,7 @@ without_voices (x ∷ xs) vs = without_voices xs (without_id voice_id x.user vs)
 
 without_voices-ascend : (xs vs : List Voice) → IsById voice_id vs → IsById voice_id (without_voices xs vs)
 without_voices-ascend [] vs h = h
-without_voices-ascend (x ∷ xs) vs h = without_voices-ascend xs (without_id voice_id x.user vs) (IsById-filter voice_id (λ (y : Voice). not (y.user == x.user)) vs h)
+without_voices-ascend (x ∷ xs) vs h = without_voices-ascend xs (without_id voice_id x.user vs) (IsById-without voice_id x.user vs h)
 
 find-without_voices : (id : ℕ) (xs vs : List Voice) → find_id voice_id id (without_voices xs vs) ≡ (if has_id voice_id id xs then None else find_id voice_id id vs)
 find-without_voices id [] vs = refl
@@ -67,12 +68,12 @@ voices-left channel vs h =
     at (Some x) = grind arith
 
 follows-voices : (s : Record) (v : Viewer) (h : Held) (me : Member) (xs vs : List Voice) → Has (with_voices s vs) v me h
-    → Has (with_voices s (without_voices xs vs)) v me (fold_from v.intents s.id h (flat_map (left s v) xs))
+    → Has (with_voices s (without_voices xs vs)) v me (fold_from v.intents s.id h (flat_map (voice_ends s.id v) xs))
 follows-voices s v h me [] vs has = has
 follows-voices s v h me (x ∷ xs) vs has =
-    let one : Has (with_voices s (without_id voice_id x.user vs)) v me (fold_from v.intents s.id h (left s v x)) = follows-voice_gone (with_voices s vs) v h me x false has in
-    subst (λ (k : Held). Has (with_voices s (without_voices (x ∷ xs) vs)) v me k) (sym (fold-append v.intents s.id h (left s v x) (flat_map (left s v) xs)))
-    (follows-voices s v (fold_from v.intents s.id h (left s v x)) me xs (without_id voice_id x.user vs) one)
+    let one : Has (with_voices s (without_id voice_id x.user vs)) v me (fold_from v.intents s.id h (voice_ends s.id v x)) = follows-voice_gone (with_voices s vs) v h me x false has in
+    subst (λ (k : Held). Has (with_voices s (without_voices (x ∷ xs) vs)) v me k) (sym (fold-append v.intents s.id h (voice_ends s.id v x) (flat_map (voice_ends s.id v) xs)))
+    (follows-voices s v (fold_from v.intents s.id h (voice_ends s.id v x)) me xs (without_id voice_id x.user vs) one)
 
 -- ---- its children, one after another: each is put as it is after the edit
 
@@ -220,7 +221,7 @@ follows-gone s v h me c ascends asks has =
     quiet_now = quiet s c.id ascends
 
     silenced : List Dispatch
-    silenced = flat_map (left t v) (voices_in s c.id)
+    silenced = flat_map (voice_ends t.id v) (voices_in s c.id)
 
     orphans : List Dispatch
     orphans = flat_map (updated t v) (children_of s c.id)

@@ -1,5 +1,5 @@
 -- What has to be known of the record before an edit of channels or overwrites, to say what it owes.
-use Rattle.std.specs.Prelude.{ℕ, List, [], map, filter, Bool, false, ◌==◌, Option, None, option_map}
+use Rattle.std.specs.Prelude.{ℕ, List, map, filter, Bool, false, ◌==◌, Option, Some, None, option_map}
 use Rattle.std.specs.Option.{option_map_or}
 use Rattle.collections.specs.ById.{find_id}
 use Rattle.guild_model.specs.declared.member.Member.{Member}
@@ -8,7 +8,6 @@ use Rattle.guild_model.specs.declared.voice.Voice.{Voice}
 use Rattle.guild_model.specs.Record.{Record, channel_id}
 use Rattle.channel_edit.specs.declared.ChannelEdit.{ChannelEdit}
 use Rattle.channel_edit.specs.declared.ChannelEdit.TheVariants.{ChannelCreate, ChannelUpdate, ChannelDelete, OverwriteSet, OverwriteDelete}
-use Rattle.thread_sync.specs.declared.seen.Seen.{Seen}
 use Rattle.thread_sync.specs.Seen.{visible_to}
 use Rattle.channel_events.specs.declared.ends.ChannelEnd.{ChannelEnd}
 use Rattle.channel_events.specs.declared.ends.ChannelNote.{ChannelNote}
@@ -33,13 +32,10 @@ end_of s c = record { channel = c; voices = voices_in s c.id; children = childre
 abbrev pub channel_end : Record → ℕ → Option ChannelEnd
 channel_end s channel = option_map (end_of s) (find_id channel_id channel s.channels)
 
-abbrev pub nothing_seen : Seen
-nothing_seen = record { channels = []; threads = [] }
-
 -- of a change of overwrites: what the viewer saw
 abbrev pub channel_note : Record → Member → ChannelEdit → ChannelNote
-channel_note s me (ChannelCreate channel kind name parent position sync) = record { seen = nothing_seen; end = None }
-channel_note s me (ChannelUpdate channel name parent position) = record { seen = nothing_seen; end = None }
-channel_note s me (ChannelDelete channel) = record { seen = nothing_seen; end = channel_end s channel }
-channel_note s me (OverwriteSet channel id kind allow deny) = record { seen = visible_to s me; end = None }
-channel_note s me (OverwriteDelete channel id kind) = record { seen = visible_to s me; end = None }
+channel_note s me (ChannelCreate channel kind name parent position sync) = record { seen = None; end = None }
+channel_note s me (ChannelUpdate channel name parent position) = record { seen = None; end = None }
+channel_note s me (ChannelDelete channel) = record { seen = None; end = channel_end s channel }
+channel_note s me (OverwriteSet channel id kind allow deny) = record { seen = Some (visible_to s me); end = None }
+channel_note s me (OverwriteDelete channel id kind) = record { seen = Some (visible_to s me); end = None }

@@ -6,19 +6,18 @@ use Rattle.std.specs.Prelude.{ℕ, List, [], ◌++◌, flat_map, false, Option, 
 use Rattle.collections.specs.ById.{find_id}
 use Rattle.guild_model.specs.declared.member.Member.{Member}
 use Rattle.guild_model.specs.declared.channel.Channel.{Channel}
-use Rattle.guild_model.specs.declared.voice.Voice.{Voice}
 use Rattle.guild_model.specs.Record.{Record, channel_id}
 use Rattle.channel_edit.specs.declared.ChannelEdit.{ChannelEdit}
 use Rattle.channel_edit.specs.declared.ChannelEdit.TheVariants as edit
 use Rattle.dispatch_types.specs.declared.viewer.Viewer.{Viewer}
 use Rattle.dispatch_types.specs.declared.channels.ChannelObject.{ChannelObject}
 use Rattle.dispatch_types.specs.declared.dispatch.Dispatch.{Dispatch}
-use Rattle.dispatch_types.specs.declared.dispatch.Dispatch.TheVariants.{ChannelCreate, ChannelUpdate, ChannelDelete, VoiceStateUpdate}
+use Rattle.dispatch_types.specs.declared.dispatch.Dispatch.TheVariants.{ChannelCreate, ChannelUpdate, ChannelDelete}
 use Rattle.dispatch_types.specs.Objects.{channel_object}
 use Rattle.thread_sync.specs.declared.seen.Seen.{Seen}
-use Rattle.thread_sync.specs.Sync.{sync}
-use Rattle.event_views.specs.Asked.{asked, told_if}
-use Rattle.event_views.specs.Ended.{voice_end}
+use Rattle.event_views.specs.Asked.{asked}
+use Rattle.event_views.specs.Ended.{voice_ends}
+use Rattle.event_views.specs.Synced.{synced}
 use Rattle.channel_events.specs.declared.ends.ChannelEnd.{ChannelEnd}
 use Rattle.channel_events.specs.declared.ends.ChannelNote.{ChannelNote}
 
@@ -35,10 +34,6 @@ module _ (s : Record) (v : Viewer) where
   abbrev pub updated : ℕ → List Dispatch
   updated channel = told_of ChannelUpdate (find_id channel_id channel s.channels)
 
-  -- VOICE_STATE_UPDATE of a user that is in voice no longer
-  abbrev pub left : Voice → List Dispatch
-  left voice = asked v false (VoiceStateUpdate s.id (voice_end voice))
-
   -- CHANNEL_DELETE of a channel as it was
   abbrev pub gone : Channel → List Dispatch
   gone c = asked v false (ChannelDelete (channel_object s.id c))
@@ -46,11 +41,11 @@ module _ (s : Record) (v : Viewer) where
   -- before it of the users that were in the channel, and of its children, which have no parent now
   abbrev pub deleted : Option ChannelEnd → List Dispatch
   deleted None = []
-  deleted (Some end) = flat_map left end.voices ++ (flat_map updated end.children ++ gone end.channel)
+  deleted (Some end) = flat_map (voice_ends s.id v) end.voices ++ (flat_map updated end.children ++ gone end.channel)
 
   -- after a change of overwrites: the channel, then THREAD_LIST_SYNC where one is due
-  abbrev pub rights_changed : Seen → Member → ℕ → List Dispatch
-  rights_changed was me channel = updated channel ++ told_if v (sync was s me)
+  abbrev pub rights_changed : Option Seen → Member → ℕ → List Dispatch
+  rights_changed seen me channel = updated channel ++ synced seen s v me
 
 -- `me` is the viewer's own member after the edit
 abbrev pub channel_row : ChannelNote → Record → Viewer → Member → ChannelEdit → List Dispatch

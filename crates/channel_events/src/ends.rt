@@ -3,10 +3,10 @@
 ghost use Rattle.std.specs.Prelude.{◌≡◌, IfOk, map, filter};
 ghost use Rattle.guild_model.specs.Record.{channel_id};
 ghost use Rattle.thread_sync.specs.Seen.{visible_to};
-ghost use Rattle.channel_events.specs.Ends.{speaks_in, is_child, end_of, channel_end, nothing_seen, channel_note};
+ghost use Rattle.channel_events.specs.Ends.{speaks_in, is_child, end_of, channel_end, channel_note};
 
 use channel_edit::ChannelEdit;
-use collections::{ById, Duplicate, Seq};
+use collections::{Duplicate, Seq};
 use guild_model::{Channel, Guild, Member, Voice};
 use snowflake_id::Snowflake;
 use std::alloc::{AllocError, Global};
@@ -27,8 +27,8 @@ pub struct ChannelEnd {
 /// What [`row`](crate::row) has to know of the record before an edit.
 #[derive(Drop)]
 pub struct ChannelNote {
-    /// What the viewer saw, for the edits of overwrites; nothing for the others.
-    pub seen: Seen,
+    /// What the viewer saw, for the edits of overwrites alone.
+    pub seen: Option<Seen>,
     /// The channel that goes, for `channel_delete` alone.
     pub end: Option<ChannelEnd>,
 }
@@ -82,15 +82,6 @@ fn channel_end(
     }
 }
 
-fn nothing_seen(alloc: Global) -> Seen
-    ensures { result ≡ nothing_seen }
-{
-    Seen {
-        channels: ById::new(alloc),
-        threads: ById::new(alloc),
-    }
-}
-
 /// Keeps what [`row`](crate::row) has to know of the record before an edit, where the viewer's own
 /// member is `me`.
 pub fn note(
@@ -103,15 +94,15 @@ pub fn note(
 {
     match edit {
         ChannelEdit::ChannelCreate { .. } | ChannelEdit::ChannelUpdate { .. } => Ok(ChannelNote {
-            seen: nothing_seen(alloc),
+            seen: None,
             end: None,
         }),
         ChannelEdit::ChannelDelete { channel } => Ok(ChannelNote {
-            seen: nothing_seen(alloc),
+            seen: None,
             end: channel_end(alloc, before, *channel)?,
         }),
         ChannelEdit::OverwriteSet { .. } | ChannelEdit::OverwriteDelete { .. } => Ok(ChannelNote {
-            seen: visible_to(alloc, before, me)?,
+            seen: Some(visible_to(alloc, before, me)?),
             end: None,
         }),
     }

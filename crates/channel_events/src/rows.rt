@@ -2,20 +2,18 @@
 //! Events, Channels; Voice).
 
 ghost use Rattle.std.specs.Prelude.{◌≡◌, ◌++◌, OnOk, IfOk, flat_map};
-ghost use Rattle.thread_sync.specs.Sync.{sync};
-ghost use Rattle.event_views.specs.Asked.{told_if};
-ghost use Rattle.channel_events.specs.Rows.{created, updated, left, gone, deleted, rights_changed, channel_row};
+ghost use Rattle.event_views.specs.Ended.{voice_ends};
+ghost use Rattle.channel_events.specs.Rows.{created, updated, gone, deleted, rights_changed, channel_row};
 
 use crate::ends::{ChannelEnd, ChannelNote};
 use channel_edit::ChannelEdit;
 use dispatch_types::{ChannelObject, Dispatch, Viewer};
-use event_views::voice_end;
+use event_views::{add_synced, add_voice_end};
 use guild_model::{Channel, Guild, Member, Voice};
 use intent_set::Kind;
 use snowflake_id::Snowflake;
 use std::alloc::{AllocError, Global};
 use thread_sync::Seen;
-use thread_sync::sync::sync;
 
 // CHANNEL_CREATE of a channel.
 fn add_created(
@@ -57,35 +55,17 @@ fn add_updated(
     Ok(())
 }
 
-// VOICE_STATE_UPDATE of a user that is in voice no longer.
-fn add_left(
-    after: &Guild,
-    viewer: &Viewer,
-    voice: &Voice,
-    list: &mut Vec<Dispatch>,
-) -> Result<(), AllocError>
-    ensures { OnOk result (list.new.items ≡ list.old.items ++ left after.now viewer.now voice.now) }
-{
-    if !viewer.intents.asks(Kind::VoiceStateUpdate, false) {
-        return Ok(());
-    }
-    list.push(Dispatch::VoiceStateUpdate {
-        guild: after.id,
-        voice: voice_end(voice),
-    })?;
-    Ok(())
-}
-
+// VOICE_STATE_UPDATE of each user that is in voice no longer.
 fn add_each_left(
     after: &Guild,
     viewer: &Viewer,
     voices: &[Voice],
     list: &mut Vec<Dispatch>,
 ) -> Result<(), AllocError>
-    ensures { OnOk result (list.new.items ≡ list.old.items ++ flat_map (left after.now viewer.now) voices.now) }
+    ensures { OnOk result (list.new.items ≡ list.old.items ++ flat_map (voice_ends after.now.id viewer.now) voices.now) }
 {
     for voice in voices {
-        add_left(after, viewer, voice, list)?;
+        add_voice_end(after.id, viewer, voice, list)?;
     }
     Ok(())
 }
@@ -141,30 +121,10 @@ fn add_deleted(
     Ok(())
 }
 
-// THREAD_LIST_SYNC of what the viewer sees now and did not see before.
-fn add_synced(
-    alloc: Global,
-    seen: &Seen,
-    after: &Guild,
-    viewer: &Viewer,
-    me: &Member,
-    list: &mut Vec<Dispatch>,
-) -> Result<(), AllocError>
-    ensures { OnOk result (list.new.items ≡ list.old.items ++ told_if viewer.now (sync seen.now after.now me.now)) }
-{
-    if !viewer.intents.asks(Kind::ThreadListSync, false) {
-        return Ok(());
-    }
-    if let Some(dispatch) = sync(alloc, seen, after, me)? {
-        list.push(dispatch)?;
-    }
-    Ok(())
-}
-
 // A change of overwrites: the channel, then what it uncovers.
 fn add_rights(
     alloc: Global,
-    seen: &Seen,
+    seen: &Option<Seen>,
     after: &Guild,
     viewer: &Viewer,
     me: &Member,
