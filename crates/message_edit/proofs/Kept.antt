@@ -11,15 +11,11 @@ use Rattle.guild_model.specs.Record.{Record}
 use Rattle.guild_model.specs.Heads.{head_id, find_head, has_head, arrived, with_mentions}
 use Rattle.guild_model.specs.Consistent.{IsConsistent, is_place}
 use Rattle.guild_model.specs.Tests.{outcome, unknown_member, too_long}
-use Rattle.guild_model.proofs.Tests.{first_passes, not_refused}
+use Rattle.guild_model.proofs.Tests.{first_passes, not_refused, passed}
 use Rattle.guild_model.proofs.Kept.{messages_changed}
 use Rattle.message_edit.specs.declared.body.MessageBody.{MessageBody}
 use Rattle.message_edit.specs.Places.{unknown_place, wrong_place, archived_place, no_place, unknown_mention}
 use Rattle.message_edit.specs.Messages.{taken, message_create_verdict, with_head, message_updated, message_deleted}
-
-is_true : (b : Bool) → not b ≡ false → b ≡ true
-is_true true e = refl
-is_true false e = absurd (cc)
 
 is_none : {T : Type 0} (o : Option T) → is_some o ≡ false → o ≡ None
 is_none None e = refl
@@ -33,7 +29,7 @@ stopped (Some w) later v e = e
 -- what the tests let through
 place_there : (g : Record) (place : ℕ) → no_place g place ≡ None → is_place g place ≡ true
 place_there g place e =
-    is_true (is_place g place) (not_refused (not (is_place g place)) UnknownChannel (first_passes (unknown_place g place) (wrong_place g place ∷ archived_place g place ∷ []) e).0)
+    passed (is_place g place) UnknownChannel (first_passes (unknown_place g place) (wrong_place g place ∷ archived_place g place ∷ []) e).0
 
 pub may_come : (g : Record) (message place author : ℕ) (body : MessageBody) → message_create_verdict g message place author body ≡ None
     → (find_head message g.messages ≡ None) × (is_place g place ≡ true)

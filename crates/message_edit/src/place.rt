@@ -4,7 +4,6 @@ ghost use Rattle.std.specs.Prelude.{◌≡◌};
 ghost use Rattle.std.specs.List.{list_all};
 ghost use Rattle.collections.specs.ById.{find_id, has_id};
 ghost use Rattle.guild_model.specs.Tests.{outcome};
-ghost use Rattle.guild_model.specs.Consistent.{is_place};
 ghost use Rattle.guild_model.specs.Record.{member_id, channel_id, thread_id};
 ghost use Rattle.message_edit.specs.Places.{takes_messages, is_wordless, is_archived, unknown_place, wrong_place, archived_place, no_place, unknown_mention};
 
@@ -39,18 +38,12 @@ fn archived(guild: &Guild, place: Snowflake) -> bool
     }
 }
 
-fn has_place(guild: &Guild, place: Snowflake) -> bool
-    ensures { result ≡ is_place guild.now place }
-{
-    guild.channels.contains(place.0) || guild.threads.contains(place.0)
-}
-
 /// Refused in this order: `UnknownChannel` where the place is neither a channel nor a thread,
 /// `WrongType` where it is a category or a forum, `Archived` where it is an archived thread.
 pub fn takes_words(guild: &Guild, place: Snowflake) -> Result<(), Verdict>
     ensures { result ≡ outcome (no_place guild.now place) }
 {
-    if !has_place(guild, place) {
+    if !guild.has_place(place) {
         return Err(Verdict::UnknownChannel);
     }
     if wordless(guild, place) {
