@@ -55,6 +55,10 @@ use Rattle.voice_presence.specs.Presences.{with_activity}
 use Rattle.voice_presence.specs.VoicePresence.{voice_presence_verdict, voice_presence_applied}
 use Rattle.voice_presence_events.specs.Rows.{voice_presence_row}
 use Rattle.voice_presence_events.proofs.Follows.{follows-voice_presence}
+use Rattle.message_edit.specs.MessageEdits.{message_verdict, message_applied}
+use Rattle.message_events.specs.Notes.{message_note}
+use Rattle.message_events.specs.Rows.{message_row}
+use Rattle.message_events.proofs.Follows.{message-here, message-served, follows-message}
 use Rattle.edit_apply.specs.declared.guild.GuildEdit.{GuildEdit}
 use Rattle.edit_apply.specs.declared.guild.GuildEdit.TheVariants.{GuildOpen, GuildRename, GuildOwner, GuildOutage, GuildBack}
 use Rattle.edit_apply.specs.declared.Edit.{Edit}
@@ -65,7 +69,7 @@ use Rattle.edit_apply.proofs.Well.{keeps}
 use Rattle.edit_events.specs.Greeting.{greeting}
 use Rattle.edit_events.specs.Was.{note_of, was_of}
 use Rattle.edit_events.specs.Due.{guild_updated, row, due_to, due_between, due, owed}
-use Rattle.edit_events.specs.Law.{Agrees, is_built, EditKeeps}
+use Rattle.edit_events.specs.Law.{Agrees, EditKeeps}
 use Rattle.edit_events.proofs.Greets.{greets, served-found}
 use Rattle.edit_events.proofs.Others.{id-kept, row-of}
 
@@ -271,22 +275,22 @@ thread-served s (ThreadDelete thread) v = refl
 thread-served s (ThreadJoin thread user at) v = refl
 thread-served s (ThreadLeave thread user) v = refl
 
-keeps-applied : (s : Record) (e : Edit) (v : Viewer) (h : Held) → IsWell s → IsWell (applied s e) → verdict s e ≡ None → is_built e ≡ true → Agrees s v h → Agrees (applied s e) v (fold_from v.intents s.id h (due s e v))
-keeps-applied s (edit.Guild (GuildOpen name owner owner_name perms at)) v h well after ok built agrees = keeps-opened s v h name owner owner_name perms at well after ok agrees
-keeps-applied s (edit.Guild (GuildRename name)) v h well after ok built agrees =
+keeps-applied : (s : Record) (e : Edit) (v : Viewer) (h : Held) → IsWell s → IsWell (applied s e) → verdict s e ≡ None → Agrees s v h → Agrees (applied s e) v (fold_from v.intents s.id h (due s e v))
+keeps-applied s (edit.Guild (GuildOpen name owner owner_name perms at)) v h well after ok agrees = keeps-opened s v h name owner owner_name perms at well after ok agrees
+keeps-applied s (edit.Guild (GuildRename name)) v h well after ok agrees =
     let here = in_service s (first_passes (out_of_service s) (too_long 100 name ∷ []) ok).0 in
     in_view s v h (edit.Guild (GuildRename name)) after here.1 here.1 (follows-renamed s v h name) agrees
-keeps-applied s (edit.Guild (GuildOwner user)) v h well after ok built agrees =
+keeps-applied s (edit.Guild (GuildOwner user)) v h well after ok agrees =
     let here = in_service s (first_passes (out_of_service s) (unknown_member s user ∷ []) ok).0 in
     in_view s v h (edit.Guild (GuildOwner user)) after here.1 here.1 (follows-owner s v h user well) agrees
-keeps-applied s (edit.Guild GuildOutage) v h well after ok built agrees = keeps-outage s v h agrees
-keeps-applied s (edit.Guild GuildBack) v h well after ok built agrees = keeps-back s v h after agrees
-keeps-applied s (edit.RoleMember e) v h well after ok built agrees =
+keeps-applied s (edit.Guild GuildOutage) v h well after ok agrees = keeps-outage s v h agrees
+keeps-applied s (edit.Guild GuildBack) v h well after ok agrees = keeps-back s v h after agrees
+keeps-applied s (edit.RoleMember e) v h well after ok agrees =
     let tests = first_passes (out_of_service s) (role_member_verdict s e ∷ []) ok in
     let here = in_service s tests.0 in
     in_view s v h (edit.RoleMember e) after here.1 (role_member-here s e ∙ here.1)
     (λ me me' is is' asks has. follows-role_member s v h me me' e well after here.0 (first_passes (role_member_verdict s e) [] tests.1).0 (served-found v s me is) (served-found v (role_member_applied s e) me' is') asks has) agrees
-keeps-applied s (edit.Channel e) v h well after ok built agrees =
+keeps-applied s (edit.Channel e) v h well after ok agrees =
     let tests = first_passes (out_of_service s) (channel_verdict s e ∷ []) ok in
     let here = in_service s tests.0 in
     in_view s v h (edit.Channel e) after here.1 (channel-here s e ∙ here.1)
@@ -295,7 +299,7 @@ keeps-applied s (edit.Channel e) v h well after ok built agrees =
     let mine : me ≡ me' = cc in
     subst (λ (m : Member). Has (channel_applied s e) v m (fold_from v.intents s.id h (channel_row (channel_note s me e) (channel_applied s e) v m e))) mine
     (follows-channel s v h me e well after here.0 (first_passes (channel_verdict s e) [] tests.1).0 (served-found v s me is) asks has)) agrees
-keeps-applied s (edit.Thread e) v h well after ok built agrees =
+keeps-applied s (edit.Thread e) v h well after ok agrees =
     let tests = first_passes (out_of_service s) (thread_verdict s e ∷ []) ok in
     let here = in_service s tests.0 in
     in_view s v h (edit.Thread e) after here.1 (thread-here s e ∙ here.1)
@@ -304,7 +308,7 @@ keeps-applied s (edit.Thread e) v h well after ok built agrees =
     let mine : me ≡ me' = cc in
     subst (λ (m : Member). Has (thread_applied s e) v m (fold_from v.intents s.id h (thread_row (thread_note s me e) (thread_applied s e) v m e))) mine
     (follows-thread s v h me e well after here.0 (first_passes (thread_verdict s e) [] tests.1).0 (served-found v s me is) asks has)) agrees
-keeps-applied s (edit.VoicePresence e) v h well after ok built agrees =
+keeps-applied s (edit.VoicePresence e) v h well after ok agrees =
     let tests = first_passes (out_of_service s) (voice_presence_verdict s e ∷ []) ok in
     let here = in_service s tests.0 in
     in_view s v h (edit.VoicePresence e) after here.1 (voice_presence-here s e ∙ here.1)
@@ -313,12 +317,20 @@ keeps-applied s (edit.VoicePresence e) v h well after ok built agrees =
     let mine : me ≡ me' = cc in
     subst (λ (m : Member). Has (voice_presence_applied s e) v m (fold_from v.intents s.id h (voice_presence_row (voice_presence_applied s e) v e))) mine
     (follows-voice_presence s v h me e has)) agrees
-keeps-applied s (edit.Message e) v h well after ok built agrees = absurd (cc)
+keeps-applied s (edit.Message e) v h well after ok agrees =
+    let tests = first_passes (out_of_service s) (message_verdict s e ∷ []) ok in
+    let here = in_service s tests.0 in
+    in_view s v h (edit.Message e) after here.1 (message-here s e ∙ here.1)
+    (λ me me' is is' asks has.
+    let same_me : Some me ≡ Some me' = sym is ∙ (sym (message-served s e v) ∙ is') in
+    let mine : me ≡ me' = cc in
+    subst (λ (m : Member). Has (message_applied s e) v m (fold_from v.intents s.id h (message_row (message_applied s e) v (message_note s e) e))) mine
+    (follows-message s v h me e has)) agrees
 
 pub edit_keeps : EditKeeps
 unfolding owed
-edit_keeps s e v h well built agrees = by_verdict (verdict s e) refl (keeps s e well)
+edit_keeps s e v h well agrees = by_verdict (verdict s e) refl (keeps s e well)
   where
     by_verdict : (o : Option Verdict) → verdict s e ≡ o → IsWell (after_verdict o s e) → Agrees (after_verdict o s e) v (fold_from v.intents s.id h (if is_none o then due s e v else []))
-    by_verdict None ok after = keeps-applied s e v h well after ok built agrees
+    by_verdict None ok after = keeps-applied s e v h well after ok agrees
     by_verdict (Some x) ok after = agrees

@@ -2,3 +2,4 @@ pub mod Greets
 pub mod Out
 pub mod Keeps
 pub mod Others
+pub mod Messages

@@ -1,12 +1,10 @@
 -- The laws of what an edit owes.
 use Rattle.std.proofs.Common.{◌≡◌, ℕ, Bool, true, false, List, [], ◌∷◌, Option, Some, None, if◌then◌else◌, refl, sym, ap, subst, ◌∙◌}
-use Rattle.std.specs.Prelude.{◌==◌, All, option_map}
+use Rattle.std.specs.Prelude.{◌==◌, All}
 use Rattle.std.proofs.lemmas.List.Elements.{All-nil, All-cons}
-use Rattle.collections.specs.ById.{find_id}
 use Rattle.guild_model.specs.declared.member.Member.{Member}
 use Rattle.guild_model.specs.declared.presence.Activity.{Activity}
-use Rattle.guild_model.specs.declared.user.User.{User}
-use Rattle.guild_model.specs.Record.{Record, member_id}
+use Rattle.guild_model.specs.Record.{Record}
 use Rattle.guild_model.specs.Statuses.{status_activity}
 use Rattle.dispatch_types.specs.declared.viewer.Viewer.{Viewer}
 use Rattle.dispatch_types.specs.declared.dispatch.Dispatch.{Dispatch}
@@ -19,8 +17,6 @@ use Rattle.thread_edit.specs.declared.ThreadEdit.TheVariants.{ThreadCreate, Thre
 use Rattle.voice_presence.specs.declared.VoicePresenceEdit.TheVariants.{VoiceSet, PresenceSet}
 use Rattle.voice_presence.specs.Voices.{voice_was_set}
 use Rattle.voice_presence.specs.Presences.{with_activity}
-use Rattle.message_edit.specs.declared.MessageEdit.TheVariants.{MessageCreate, MessageUpdate, MessageDelete, ReactionAdd, ReactionRemove, Typing}
-use Rattle.message_edit.specs.Messages.{member_user, written_by}
 use Rattle.role_member_edit.specs.declared.RoleMemberEdit.TheVariants.{RoleCreate, RoleUpdate, RoleDelete, MemberAdd, MemberRemove, MemberNick, MemberTimeout, MemberRoleAdd, MemberRoleRemove}
 use Rattle.edit_apply.specs.declared.guild.GuildEdit.TheVariants.{GuildOpen, GuildRename, GuildOwner, GuildOutage, GuildBack}
 use Rattle.edit_apply.specs.declared.Edit.{Edit}
@@ -33,8 +29,10 @@ use Rattle.role_member_events.proofs.Of.{row-of as role_member-of}
 use Rattle.channel_events.proofs.Follows.{row-of as channel-of}
 use Rattle.thread_events.proofs.Follows.{row-of as thread-of}
 use Rattle.voice_presence_events.proofs.Follows.{row-of as voice_presence-of}
+use Rattle.message_events.proofs.Of.{row-of as message-of}
+use Rattle.message_events.proofs.Follows.{id-kept as message-id}
 use Rattle.edit_events.specs.declared.due.Before.{Before}
-use Rattle.edit_events.specs.declared.due.Before.TheVariants.{Nothing, Owner, RoleMember, Channel, Thread}
+use Rattle.edit_events.specs.declared.due.Before.TheVariants.{Nothing, Owner, RoleMember, Channel, Thread, Message}
 use Rattle.edit_events.specs.declared.due.Was.{Was}
 use Rattle.edit_events.specs.Was.{was_of}
 use Rattle.edit_events.specs.Due.{row, due_to, due_between, due, owed}
@@ -52,10 +50,6 @@ voice-id s user (Some channel) mute deaf = refl
 presence-id : (s : Record) (user : ℕ) (activity : Option Activity) → (with_activity s user activity).id ≡ s.id
 presence-id s user None = refl
 presence-id s user (Some activity) = refl
-
-written-id : (s : Record) (author : Option User) (message place : ℕ) (mentions : List ℕ) → (written_by s author message place mentions).id ≡ s.id
-written-id s None message place mentions = refl
-written-id s (Some author) message place mentions = refl
 
 pub id-kept : (s : Record) (e : Edit) → (applied s e).id ≡ s.id
 id-kept s (edit.Guild (GuildOpen name owner owner_name perms at)) = refl
@@ -86,12 +80,7 @@ id-kept s (edit.Thread (ThreadJoin thread user at)) = refl
 id-kept s (edit.Thread (ThreadLeave thread user)) = refl
 id-kept s (edit.VoicePresence (VoiceSet user channel mute deaf)) = voice-id s user channel mute deaf
 id-kept s (edit.VoicePresence (PresenceSet user status)) = presence-id s user (status_activity status)
-id-kept s (edit.Message (MessageCreate message place author body)) = written-id s (option_map member_user (find_id member_id author s.members)) message place body.mentions
-id-kept s (edit.Message (MessageUpdate message body)) = refl
-id-kept s (edit.Message (MessageDelete message)) = refl
-id-kept s (edit.Message (ReactionAdd message user emoji)) = refl
-id-kept s (edit.Message (ReactionRemove message user emoji)) = refl
-id-kept s (edit.Message (Typing place user at)) = refl
+id-kept s (edit.Message e) = message-id s e
 
 -- each dispatch that is owed is of the guild
 pub row-of : (after : Record) (v : Viewer) (note : Before) (me : Member) (e : Edit) → All (IsOf after.id) (row note after v me e)
@@ -103,6 +92,7 @@ row-of after v (RoleMember note) me (edit.RoleMember e) = role_member-of after v
 row-of after v (Channel note) me (edit.Channel e) = channel-of after v note me e
 row-of after v (Thread note) me (edit.Thread e) = thread-of note after v me e
 row-of after v note me (edit.VoicePresence e) = voice_presence-of after v e
+row-of after v (Message note) me (edit.Message e) = message-of after v note e
 row-of after v note me _ = All-nil (IsOf after.id)
 
 due_between-of : (after : Record) (v : Viewer) (was : Was) (me : Option Member) (e : Edit) → All (IsOf after.id) (due_between after v was me e)
@@ -123,7 +113,7 @@ owed-of s e v = by_verdict (accepts s e)
     by_verdict false = All-nil (IsOf s.id)
 
 pub others_stay : OthersStay
-others_stay s e v g h built other stays = fold-elsewhere v.intents g h s.id (owed s e v) (owed-of s e v) other stays
+others_stay s e v g h other stays = fold-elsewhere v.intents g h s.id (owed s e v) (owed-of s e v) other stays
 
 pub greeting_stays : GreetingStays
 greeting_stays s v g h me other stays = folded-elsewhere v.intents g h s.id (GuildCreate (greeting s v me)) (ap (λ id. Some id) (greeting-id s v me)) other stays

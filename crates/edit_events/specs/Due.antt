@@ -12,12 +12,13 @@ use Rattle.role_member_events.specs.Rows.{role_member_row}
 use Rattle.channel_events.specs.Rows.{channel_row}
 use Rattle.thread_events.specs.Rows.{thread_row}
 use Rattle.voice_presence_events.specs.Rows.{voice_presence_row}
+use Rattle.message_events.specs.Rows.{message_row}
 use Rattle.edit_apply.specs.declared.Edit.{Edit}
 use Rattle.edit_apply.specs.declared.Edit.TheVariants as edit
 use Rattle.edit_apply.specs.declared.guild.GuildEdit.TheVariants.{GuildRename, GuildOwner, GuildOutage, GuildBack}
 use Rattle.edit_apply.specs.Edits.{accepts, applied}
 use Rattle.edit_events.specs.declared.due.Before.{Before}
-use Rattle.edit_events.specs.declared.due.Before.TheVariants.{Owner, RoleMember, Channel, Thread}
+use Rattle.edit_events.specs.declared.due.Before.TheVariants.{Owner, RoleMember, Channel, Thread, Message}
 use Rattle.edit_events.specs.declared.due.Was.{Was}
 use Rattle.edit_events.specs.Greeting.{greeting}
 use Rattle.edit_events.specs.Was.{was_of}
@@ -37,6 +38,7 @@ row (RoleMember note) after v me (edit.RoleMember e) = role_member_row note afte
 row (Channel note) after v me (edit.Channel e) = channel_row note after v me e
 row (Thread note) after v me (edit.Thread e) = thread_row note after v me e
 row note after v me (edit.VoicePresence e) = voice_presence_row after v e
+row (Message note) after v me (edit.Message e) = message_row after v note e
 row note after v me _ = []
 
 -- one that is served only after it is told the guild, one that is served only before it that the guild is gone

@@ -1,18 +1,16 @@
 -- A client that was told all that it is owed holds the projection.
-use Rattle.std.specs.Prelude.{◌≡◌, ℕ, List, Bool, true, false, ◌==◌, Option, Some}
+use Rattle.std.specs.Prelude.{◌≡◌, ℕ, true, false, ◌==◌, Some}
 use Rattle.perm_bits.specs.Bits.{has_bit}
 use Rattle.intent_set.specs.Intents.{guilds}
 use Rattle.guild_model.specs.declared.member.Member.{Member}
 use Rattle.guild_model.specs.Record.{Record}
 use Rattle.guild_model.specs.Ascending.{IsWell}
 use Rattle.dispatch_types.specs.declared.viewer.Viewer.{Viewer}
-use Rattle.dispatch_types.specs.declared.dispatch.Dispatch.{Dispatch}
 use Rattle.dispatch_types.specs.declared.dispatch.Dispatch.TheVariants.{GuildCreate}
 use Rattle.dispatch_types.specs.Serves.{served}
 use Rattle.dispatch_types.specs.Projection.{projection}
 use Rattle.dispatch_types.specs.Fold.{Held, purge, folded, fold_from}
 use Rattle.edit_apply.specs.declared.Edit.{Edit}
-use Rattle.edit_apply.specs.declared.Edit.TheVariants as edit
 use Rattle.edit_apply.specs.Edits.{after}
 use Rattle.edit_events.specs.Greeting.{greeting}
 use Rattle.edit_events.specs.Due.{owed}
@@ -22,18 +20,9 @@ pub record Agrees (s : Record) (v : Viewer) (h : Held) : Type 0 where
   pub bot : h.bot ≡ v.user
   pub view : h.view ≡ projection s v h.known
 
--- the edits whose events are built
-abbrev pub is_built : Edit → Bool
-is_built (edit.Guild e) = true
-is_built (edit.RoleMember e) = true
-is_built (edit.Channel e) = true
-is_built (edit.Thread e) = true
-is_built (edit.VoicePresence e) = true
-is_built (edit.Message e) = false
-
 -- after what an edit owes, the client holds the projection of the record after it
 abbrev pub EditKeeps : Type 0
-EditKeeps = (s : Record) (e : Edit) (v : Viewer) (h : Held) → IsWell s → is_built e ≡ true
+EditKeeps = (s : Record) (e : Edit) (v : Viewer) (h : Held) → IsWell s
     → Agrees s v h → Agrees (after s e) v (fold_from v.intents s.id h (owed s e v))
 
 -- a purge leaves a client that holds the projection as it is
@@ -42,7 +31,7 @@ ProjectionStays = (s : Record) (v : Viewer) (h : Held) → IsWell s → Agrees s
 
 -- what is owed for an edit of another guild leaves a client that a purge leaves as it is
 abbrev pub OthersStay : Type 0
-OthersStay = (s : Record) (e : Edit) (v : Viewer) (g : ℕ) (h : Held) → is_built e ≡ true → (s.id == g) ≡ false
+OthersStay = (s : Record) (e : Edit) (v : Viewer) (g : ℕ) (h : Held) → (s.id == g) ≡ false
     → purge v.intents g h ≡ h → fold_from v.intents g h (owed s e v) ≡ h
 
 -- GUILD_CREATE of a served guild that is available brings the projection, whatever was held

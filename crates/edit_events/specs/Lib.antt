@@ -2,3 +2,4 @@ pub mod Greeting
 pub mod Was
 pub mod Due
 pub mod Law
+pub mod Messages

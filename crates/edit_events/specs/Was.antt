@@ -8,11 +8,12 @@ use Rattle.thread_sync.specs.Seen.{visible_to}
 use Rattle.role_member_events.specs.Ends.{role_member_note}
 use Rattle.channel_events.specs.Ends.{channel_note}
 use Rattle.thread_events.specs.Ends.{thread_note}
+use Rattle.message_events.specs.Notes.{message_note}
 use Rattle.edit_apply.specs.declared.Edit.{Edit}
 use Rattle.edit_apply.specs.declared.Edit.TheVariants as edit
 use Rattle.edit_apply.specs.declared.guild.GuildEdit.TheVariants.{GuildOwner}
 use Rattle.edit_events.specs.declared.due.Before.{Before}
-use Rattle.edit_events.specs.declared.due.Before.TheVariants.{Nothing, Owner, RoleMember, Channel, Thread}
+use Rattle.edit_events.specs.declared.due.Before.TheVariants.{Nothing, Owner, RoleMember, Channel, Thread, Message}
 use Rattle.edit_events.specs.declared.due.Was.{Was}
 
 -- by a viewer that was served, and of which edits
@@ -22,6 +23,7 @@ note_of s (Some me) (edit.Guild (GuildOwner user)) = Owner (visible_to s me)
 note_of s (Some me) (edit.RoleMember e) = RoleMember (role_member_note s me e)
 note_of s (Some me) (edit.Channel e) = Channel (channel_note s me e)
 note_of s (Some me) (edit.Thread e) = Thread (thread_note s me e)
+note_of s (Some me) (edit.Message e) = Message (message_note s e)
 note_of s (Some me) _ = Nothing
 
 abbrev pub was_of : Record → Viewer → Edit → Was

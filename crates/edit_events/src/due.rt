@@ -15,6 +15,7 @@ use edit_apply::{Edit, GuildEdit};
 use event_views::one;
 use guild_model::{Guild, Member};
 use intent_set::Kind;
+use message_events::MessageNote;
 use role_member_events::RoleMemberNote;
 use std::alloc::{AllocError, Global};
 use thread_events::ThreadNote;
@@ -32,6 +33,7 @@ pub enum Before {
     RoleMember(RoleMemberNote),
     Channel(ChannelNote),
     Thread(ThreadNote),
+    Message(MessageNote),
 }
 
 /// What has to be known of the record before an edit.
@@ -59,6 +61,7 @@ fn before_edit(
         )?)),
         Edit::Channel(edit) => Ok(Before::Channel(channel_events::note(alloc, before, me, edit)?)),
         Edit::Thread(edit) => Ok(Before::Thread(thread_events::note(before, me, edit))),
+        Edit::Message(edit) => Ok(Before::Message(message_events::note(before, edit))),
         _ => Ok(Before::Nothing),
     }
 }
@@ -178,6 +181,9 @@ fn row(
             thread_events::row(alloc, note, after, viewer, me, edit)
         }
         (_, Edit::VoicePresence(edit)) => voice_presence_events::row(alloc, after, viewer, edit),
+        (Before::Message(note), Edit::Message(edit)) => {
+            message_events::row(alloc, note, after, viewer, edit)
+        }
         _ => Ok(Vec::new(alloc)),
     }
 }

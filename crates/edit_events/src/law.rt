@@ -1,4 +1,5 @@
 ghost use Rattle.edit_events.specs.Law.{EditKeeps, ProjectionStays, OthersStay, GreetingHolds, GreetingStays};
+ghost use Rattle.edit_events.specs.Messages.{MessagesAreShown};
 
 /// After what an edit owes, a client holds the projection of the record after it.
 pub fn edit_keeps()
@@ -23,4 +24,9 @@ pub fn greeting_holds()
 /// Of another guild it leaves what is held.
 pub fn greeting_stays()
     ensures { GreetingStays }
+{}
+
+/// The dispatch of an accepted edit of messages is owed exactly where it is shown after that very edit.
+pub fn messages_are_shown()
+    ensures { MessagesAreShown }
 {}
