@@ -10,10 +10,9 @@ use Rattle.perm_bits.specs.Bits.{has_bit}
 use Rattle.intent_set.specs.Intents.{guilds, guild_members}
 use Rattle.guild_model.specs.declared.member.Member.{Member}
 use Rattle.guild_model.specs.Record.{Record, own_id, member_id}
-use Rattle.guild_model.specs.Ascending.{IsAscending, IsWell}
+use Rattle.guild_model.specs.Ascending.{IsWell}
 use Rattle.gateway_frames.specs.declared.frame.Ask.{Ask}
 use Rattle.dispatch_types.specs.declared.viewer.Viewer.{Viewer}
-use Rattle.dispatch_types.specs.declared.members.MemberObject.{MemberObject}
 use Rattle.dispatch_types.specs.declared.view.OpenView.{OpenView}
 use Rattle.dispatch_types.specs.declared.view.GuildView.{GuildView}
 use Rattle.dispatch_types.specs.declared.view.GuildView.TheVariants.{Open}

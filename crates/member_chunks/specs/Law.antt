@@ -1,5 +1,5 @@
 -- What answers bring to a client, and what their chunks are.
-use Rattle.std.specs.Prelude.{◌≡◌, ℕ, ◌≤◌, List, length, flat_map, Bool, true, false, not, ◌==◌}
+use Rattle.std.specs.Prelude.{◌≡◌, ℕ, ◌≤◌, List, length, flat_map, false, not, ◌==◌}
 use Rattle.std.specs.List.{range_with_len}
 use Rattle.guild_model.specs.declared.member.Member.{Member}
 use Rattle.guild_model.specs.Record.{Record}

@@ -8,8 +8,6 @@ mod chunk;
 mod find;
 pub mod law;
 mod rights;
-#[cfg(test)]
-mod tests;
 
 use chunk::chunks;
 use dispatch_types::{Dispatch, Viewer};

@@ -11,7 +11,7 @@ use Rattle.voice_presence.specs.declared.VoicePresenceEdit.TheVariants.{Presence
 use Rattle.edit_apply.specs.declared.Edit.{Edit}
 use Rattle.edit_apply.specs.declared.Edit.TheVariants.{VoicePresence}
 use Rattle.edit_apply.specs.Edits.{accepts}
-use Rattle.wishes.specs.Wishes.{is_heard, heard, presence_wish}
+use Rattle.wishes.specs.Wishes.{is_heard, heard}
 use Rattle.wishes.specs.Law.{PresenceIsAccepted}
 
 both : (a b : Bool) → (a && b) ≡ true → (a ≡ true) × (b ≡ true)

@@ -11,9 +11,6 @@ use edit_apply::{Edit, VoicePresenceEdit};
 use gateway_frames::VoiceAsk;
 use guild_model::{Guild, Status};
 
-#[cfg(test)]
-mod tests;
-
 // Whether a guild is served and available.
 fn is_heard(guild: &Guild, viewer: &Viewer) -> bool
     ensures { result ≡ is_heard guild.now viewer.now }
