@@ -2,3 +2,4 @@ pub mod Lists
 pub mod Changes
 pub mod Synced
 pub mod Entries
+pub mod Settled

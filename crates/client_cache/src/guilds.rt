@@ -7,10 +7,11 @@ ghost use Rattle.intent_set.specs.Intents.{guilds};
 ghost use Rattle.guild_model.specs.Record.{own_id};
 ghost use Rattle.dispatch_types.specs.Projection.{listed};
 ghost use Rattle.client_cache.specs.Cached.{held_id, held_in, entry_of, entry_after, entry_purged, unavailable_entry, AreViewed};
+ghost use Rattle.client_cache.specs.Settled.{may_hide, purged_at};
 
 use crate::guild::unavailable_view;
 use crate::held::HeldGuild;
-use crate::purge::Purge;
+use crate::purge::{Purge, may_hide};
 use crate::rows::fold_entry;
 use collections::ById;
 use dispatch_types::{Dispatch, GuildView};
@@ -25,18 +26,21 @@ pub(crate) struct Guilds {
     entries: ById<HeldGuild>,
     /// The guilds that have a view.
     viewed: ById<Snowflake>,
+    /// Of other guilds no thread is held that the bot does not see.
+    unsettled: ById<Snowflake>,
 }
 
 impl Model for Guilds {
     ghost use Rattle.std.specs.Prelude.{List};
     ghost use Rattle.client_cache.specs.declared.held.HeldGuild.{HeldGuild};
     ghost use Rattle.client_cache.specs.Cached.{AreViewed};
+    ghost use Rattle.client_cache.specs.Settled.{AreSettled};
 
     ghost Value = { List HeldGuild };
 
     ghost view = { λ g. g.entries };
 
-    ghost invariant = { λ g. AreViewed g.viewed g.entries };
+    ghost invariant = { λ g. AreViewed g.viewed g.entries × AreSettled g.unsettled g.entries };
 }
 
 fn view_in(entries: &ById<HeldGuild>, guild: Snowflake) -> Option<&GuildView>
@@ -123,6 +127,39 @@ fn change_entry(
     }
 }
 
+// A guild is marked where the bot may see less of its threads.
+fn unsettle(
+    unsettled: &mut ById<Snowflake>,
+    guild: Snowflake,
+    may_hide: bool,
+) -> Result<(), AllocError>
+    ensures ok { OnOk result (unsettled.new
+        ≡ (if may_hide then put_id own_id guild unsettled.old else unsettled.old)) }
+    ensures err { OnErr result (unsettled.new ≡ unsettled.old) }
+{
+    if may_hide {
+        unsettled.put(guild)
+    } else {
+        Ok(())
+    }
+}
+
+// Of these guilds the threads go that the bot does not see.
+fn purge_at(entries: &mut ById<HeldGuild>, guilds: &[Snowflake])
+    ensures { entries.new ≡ purged_at guilds.now entries.old }
+{
+    for guild in guilds {
+        entries.change(guild.0, Purge);
+    }
+}
+
+// The list keeps its room.
+fn settle(unsettled: &mut ById<Snowflake>)
+    ensures { unsettled.new ≡ [] }
+{
+    unsettled.retain(|_| false);
+}
+
 // A guild that was listed stays so where it has a view.
 fn relist(viewed: &mut ById<Snowflake>, guild: Snowflake, has_view: bool)
     ensures { viewed.new ≡ (if has_view then viewed.old else without_id own_id guild viewed.old) }
@@ -169,6 +206,7 @@ impl Guilds {
         Guilds {
             entries: ById::new(alloc),
             viewed: ById::new(alloc),
+            unsettled: ById::new(alloc),
         }
     }
 
@@ -194,7 +232,8 @@ impl Guilds {
         self.viewed.as_slice()
     }
 
-    /// The row of a dispatch of a guild. The guild is listed first, so that want of memory leaves all.
+    /// The row of a dispatch of a guild. The guild is listed first, so that want of memory leaves all. A
+    /// guild that is marked and did not change does no harm.
     pub(crate) fn change(
         &mut self,
         alloc: Global,
@@ -207,17 +246,21 @@ impl Guilds {
             (entry_after intents bot dispatch (entry_of guild self.old)) self.old) }
         ensures err { OnErr result (self.new ≡ self.old) }
     {
+        unsettle(&mut self.unsettled, guild, may_hide(&dispatch))?;
         self.viewed.put(guild)?;
         let changed = change_entry(alloc, intents, bot, &mut self.entries, guild, dispatch);
         relist(&mut self.viewed, guild, has_view(&self.entries, guild));
         changed
     }
 
-    /// The threads that the bot does not see go.
+    /// The threads that the bot does not see go, at the cost of the guilds that may have such.
     pub(crate) fn purge(&mut self)
         ensures { self.new ≡ map entry_purged self.old }
     {
-        self.entries.change_all(Purge);
+        // The list ascends.
+        let _entries = self.entries.as_slice();
+        purge_at(&mut self.entries, self.unsettled.as_slice());
+        settle(&mut self.unsettled);
     }
 
     /// The guilds that READY names, each unavailable so far, and no other.

@@ -6,12 +6,33 @@ ghost use Rattle.guild_model.specs.Sight.{Standing, sees_in};
 ghost use Rattle.dispatch_types.specs.declared.view.ThreadView.{ThreadView};
 ghost use Rattle.dispatch_types.specs.Fold.{purged};
 ghost use Rattle.client_cache.specs.Cached.{entry_purged};
+ghost use Rattle.client_cache.specs.Settled.{may_hide};
 
 use crate::held::HeldGuild;
 use collections::{ById, Change};
-use dispatch_types::{GuildView, OpenView, ThreadView};
+use dispatch_types::{Dispatch, GuildView, OpenView, ThreadView};
 use overwrite_eval::StandingRef;
 use snowflake_id::Snowflake;
+
+/// Whether the bot may see less of the threads after a dispatch of their guild.
+pub(crate) fn may_hide(dispatch: &Dispatch) -> bool
+    ensures { result ≡ may_hide dispatch.now }
+{
+    match dispatch {
+        Dispatch::GuildMemberAdd { .. }
+        | Dispatch::GuildMemberRemove { .. }
+        | Dispatch::GuildMembersChunk(_)
+        | Dispatch::VoiceStateUpdate { .. }
+        | Dispatch::PresenceUpdate(_)
+        | Dispatch::MessageCreate(_)
+        | Dispatch::MessageUpdate(_)
+        | Dispatch::MessageDelete { .. }
+        | Dispatch::MessageReactionAdd(_)
+        | Dispatch::MessageReactionRemove(_)
+        | Dispatch::TypingStart { .. } => false,
+        _ => true,
+    }
+}
 
 fn keep_seen(threads: &mut ById<ThreadView>, standing: &StandingRef<'_>)
     ensures { threads.new ≡ filter (λ (t : ThreadView). sees_in standing.now t.parent t.kind (is_some t.mine)) threads.old }
