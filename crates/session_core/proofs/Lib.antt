@@ -5,3 +5,4 @@ pub mod Sides
 pub mod Starts
 pub mod Places
 pub mod Endings
+pub mod Rates

@@ -15,6 +15,7 @@ use Rattle.session_core.specs.declared.reply.Reply.{Reply}
 use Rattle.session_core.specs.declared.reply.Reply.TheVariants.{Send, Close, Begin}
 use Rattle.session_core.specs.State.{State, Detached, has_link, has_session, gone, heard, begun}
 use Rattle.session_core.specs.Identify.{identified, viewer_of}
+use Rattle.session_core.specs.Rate.{is_rated, noted}
 
 -- what a frame does: nothing, an answer to a heartbeat, the end of the connection, or a session's begin
 pub data Move : Type 0 where
@@ -60,9 +61,10 @@ module _ {A : Type 0} where
   read_move s has (Err fault) = Shuts (fault_code fault)
   read_move s has (Ok f) = if has then later_move f else first_move s f
 
-  -- what a text does; nothing where the connection is not open
-  abbrev pub move_of : State A → ℕ → List ℕ → Move
-  move_of s conn text = if has_link conn s then read_move s (has_session conn s) (frame_of text) else Nothing
+  -- what a text does: nothing where the connection is not open, and one too many in a minute is not read
+  abbrev pub move_of : State A → ℕ → ℕ → List ℕ → Move
+  move_of s now conn text =
+      if has_link conn s then (if is_rated conn now s then Shuts 4008 else read_move s (has_session conn s) (frame_of text)) else Nothing
 
   -- what becomes of the connections and sessions; `sent` is what a session of a number begins with
   abbrev pub moved : ℕ → ℕ → (Bot → Viewer → ℕ → A) → Move → State A → State A
@@ -70,6 +72,10 @@ module _ {A : Type 0} where
   moved conn now sent Answers s = heard conn now s
   moved conn now sent (Shuts code) s = gone conn (Detached now) s
   moved conn now sent (Begins bot viewer) s = begun conn bot viewer (sent bot viewer) s
+
+  -- the same, with the moment of the frame, whatever it was answered
+  abbrev pub framed : ℕ → ℕ → (Bot → Viewer → ℕ → A) → Move → State A → State A
+  framed conn now sent move s = noted conn now (moved conn now sent move s)
 
   -- what is to be done then
   abbrev pub move_replies : ℕ → Move → State A → List Reply

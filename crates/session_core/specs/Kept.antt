@@ -22,7 +22,7 @@ conn_of (hold.Detached since) = None
 
 -- the connection, and the session, of an entry
 abbrev pub link_of : ℕ × Line → Link
-link_of e = record { number = e.0; heard = e.1.heard }
+link_of e = record { number = e.0; heard = e.1.heard; times = e.1.times }
 
 abbrev pub session_of : ℕ × Live → Session ℕ
 session_of e = record { number = e.0; token = e.1.token; name = e.1.name; viewer = e.1.viewer; place = place_of e.1.hold; sent = e.1.sent }

@@ -1,5 +1,6 @@
 pub mod State
 pub mod Identify
+pub mod Rate
 pub mod Frames
 pub mod Kept
 pub mod Pushes

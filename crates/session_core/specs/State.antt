@@ -8,10 +8,12 @@ use Rattle.session_core.specs.declared.bot.Bot.{Bot}
 use Rattle.session_core.specs.declared.reply.Reply.{Reply}
 use Rattle.session_core.specs.declared.reply.Reply.TheVariants.{Send, Close}
 
--- an open connection, and the moment of its last heartbeat, at first that of its opening
+-- an open connection, the moment of its last heartbeat, at first that of its opening, and the moments of its
+-- latest frames
 pub record Link : Type 0 where
   pub number : ℕ
   pub heard : ℕ
+  pub times : List ℕ
 
 pub data Place : Type 0 where
   Attached : (conn : ℕ) → Place
@@ -66,7 +68,7 @@ module _ {A : Type 0} where
   gone conn next s = record s { links = filter (λ (l : Link). not (l.number == conn)) s.links; sessions = map (released conn next) s.sessions }
 
   abbrev pub with_link : ℕ → ℕ → State A → State A
-  with_link conn now s = record s { links = s.links ++ record { number = conn; heard = now } ∷ [] }
+  with_link conn now s = record s { links = s.links ++ record { number = conn; heard = now; times = [] } ∷ [] }
 
   -- a worker has at most 64 connections
   abbrev pub opened : ℕ → ℕ → State A → State A

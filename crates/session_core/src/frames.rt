@@ -3,10 +3,13 @@
 ghost use Rattle.std.specs.Prelude.{◌≡◌, true, false, Err, MatchResult, IfOk, OnOk, OnErr};
 ghost use Rattle.session_core.specs.declared.fault.SessionFault.TheVariants.{Spent};
 ghost use Rattle.session_core.specs.State.{has_link, has_session};
-ghost use Rattle.session_core.specs.Frames.{Answers, Shuts, Begins, fault_code, later_move, first_move, move_of, moved, move_replies, is_spent, identify_move, Done, Refused};
+ghost use Rattle.session_core.specs.Frames.{Answers, Shuts, Begins, fault_code, later_move, first_move, move_of, read_move, framed, move_replies, is_spent, identify_move, Done, Refused};
 ghost use Rattle.session_core.specs.Identify.{identified};
+ghost use Rattle.gateway_frames.specs.Read.{frame_of};
 
-use crate::close::{ALREADY_AUTHENTICATED, DECODE_ERROR, NOT_AUTHENTICATED, UNKNOWN_OPCODE};
+use crate::close::{
+    ALREADY_AUTHENTICATED, DECODE_ERROR, NOT_AUTHENTICATED, RATE_LIMITED, UNKNOWN_OPCODE,
+};
 use crate::sessions::{Sessions, one};
 use crate::{Bot, Reply, SessionFault};
 use dispatch_types::Viewer;
@@ -106,23 +109,36 @@ impl Sessions {
     /// Events; Opcodes and Status Codes). On a connection that is not open nothing comes of it. An
     /// `Err` changes nothing.
     pub fn frame(&mut self, conn: u32, text: &str, now: u64) -> Result<Vec<Reply>, SessionFault>
-        ensures replies { IfOk result (λ replies. replies.items ≡ move_replies conn (move_of self.old conn text.now) self.old) }
-        ensures moved { OnOk result (self.new ≡ moved conn now (λ bot viewer n. 0) (move_of self.old conn text.now) self.old) }
-        ensures counted { OnOk result (is_spent (move_of self.old conn text.now) self.old ≡ false) }
-        ensures spent { result ≡ Err Spent → is_spent (move_of self.old conn text.now) self.old ≡ true }
+        ensures replies { IfOk result (λ replies. replies.items ≡ move_replies conn (move_of self.old now conn text.now) self.old) }
+        ensures moved { OnOk result (self.new ≡ framed conn now (λ bot viewer n. 0) (move_of self.old now conn text.now) self.old) }
+        ensures counted { OnOk result (is_spent (move_of self.old now conn text.now) self.old ≡ false) }
+        ensures spent { result ≡ Err Spent → is_spent (move_of self.old now conn text.now) self.old ≡ true }
         ensures err { OnErr result (self.new ≡ self.old) }
     {
         let replies = self.handle(conn, text, now)?;
+        self.note(conn, now);
         Ok(replies)
     }
 
     fn handle(&mut self, conn: u32, text: &str, now: u64) -> Result<Vec<Reply>, SessionFault>
-        ensures { let move = move_of self.old conn text.now in
+        ensures { let move = move_of self.old now conn text.now in
             MatchResult result (λ replies. Done conn now move self.old self.new replies.items) (Refused move self.old self.new) }
     {
         if !self.is_open(conn) {
             return Ok(Vec::new(self.alloc()));
         }
+        if self.is_rated(conn, now) {
+            return self.shut(conn, RATE_LIMITED, now);
+        }
+        self.read(conn, text, now)
+    }
+
+    /// A text on an open connection that has not sent too many.
+    fn read(&mut self, conn: u32, text: &str, now: u64) -> Result<Vec<Reply>, SessionFault>
+        requires { has_link conn self.old ≡ true }
+        ensures { let move = read_move self.old (has_session conn self.old) (frame_of text.now) in
+            MatchResult result (λ replies. Done conn now move self.old self.new replies.items) (Refused move self.old self.new) }
+    {
         match Frame::read(self.alloc(), text) {
             Err(FrameFault::Memory) => Err(SessionFault::Memory),
             Err(fault) => self.shut(conn, code_of(fault), now),

@@ -3,6 +3,7 @@
 ghost use Rattle.std.specs.Prelude.{◌≡◌, ℕ};
 
 use crate::Bot;
+use crate::window::Window;
 use collections::Text;
 use dispatch_types::Viewer;
 
@@ -11,6 +12,8 @@ use dispatch_types::Viewer;
 pub struct Line {
     /// The moment of its last heartbeat, at first that of its opening.
     pub heard: u64,
+    /// The moments of its latest frames.
+    pub times: Window,
     /// The number of its session.
     pub session: Option<u32>,
 }
@@ -43,10 +46,11 @@ const OVERDUE_AFTER: u64 = 180_000;
 
 impl Line {
     ghost use Rattle.session_core.specs.Ends.{is_silent};
+    ghost use Rattle.session_core.specs.Kept.{link_of};
 
     /// Whether there was no heartbeat for too long.
     pub fn is_silent(&self, now: u64) -> bool
-        ensures { (n : ℕ) → result ≡ is_silent now (record { number = n; heard = self.now.heard }) }
+        ensures { (n : ℕ) → result ≡ is_silent now (link_of (n, self.now)) }
     {
         now.saturating_sub(self.heard) >= SILENT_AFTER
     }

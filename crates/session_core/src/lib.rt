@@ -11,6 +11,7 @@ mod judge;
 mod kept;
 mod reply;
 mod sessions;
+mod window;
 
 pub use bot::Bot;
 pub use fault::{SessionFault, Spent};

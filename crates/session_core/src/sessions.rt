@@ -4,12 +4,14 @@ ghost use Rattle.std.specs.Option.{option_copied};
 ghost use Rattle.session_core.specs.Pushes.{pushed_of, counted_at};
 ghost use Rattle.session_core.specs.Identify.{identified, start_as};
 ghost use Rattle.session_core.specs.Kept.{place_of};
+ghost use Rattle.session_core.specs.Rate.{is_rated, noted};
 ghost use Rattle.session_core.specs.Ends.{is_overdue, left, silent_of, expired};
 
 use crate::close::{AUTHENTICATION_FAILED, UNKNOWN_ERROR};
 use crate::conn::Conn;
 use crate::judge::{bot_of, judge};
 use crate::kept::{Hold, Line, Live};
+use crate::window::Window;
 use crate::{Bot, Reply, Spent};
 use collections::ById;
 use dispatch_types::Viewer;
@@ -144,8 +146,10 @@ impl Sessions {
         ensures ok { OnOk result (self.new ≡ with_link conn now self.old) }
         ensures err { OnErr result (self.new ≡ self.old) }
     {
+        let times = Window::new(self.alloc)?;
         let line = Line {
             heard: now,
+            times,
             session: None,
         };
         self.links.insert(conn, line)?;
@@ -179,6 +183,26 @@ impl Sessions {
             return;
         };
         line.heard = now;
+    }
+
+    /// Whether a further frame of a connection is one too many (Gateway, Rate Limiting).
+    pub(crate) fn is_rated(&self, conn: u32, now: u64) -> bool
+        ensures { result ≡ is_rated conn now self.now }
+    {
+        match self.links.get(&conn) {
+            Some(line) => line.times.is_crowded(now),
+            None => false,
+        }
+    }
+
+    /// A frame has come.
+    pub(crate) fn note(&mut self, conn: u32, now: u64)
+        ensures { self.new ≡ noted conn now self.old }
+    {
+        let Some(line) = self.links.get_mut(&conn) else {
+            return;
+        };
+        line.times.note(now);
     }
 
     /// Whether a connection has a session.

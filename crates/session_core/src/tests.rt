@@ -133,3 +133,50 @@ fn room_for_64_connections(rt: HostRuntime) -> Result<(), Fail> {
     assert_eq!(rt; again.pop(), None);
     Ok(())
 }
+
+#[test]
+fn silent_connections_close(rt: HostRuntime) -> Result<(), Fail> {
+    let mut sessions = worker(rt.alloc(), 0)?;
+    sessions.open(2, 0)?;
+    sessions.open(1, 0)?;
+    assert_eq!(rt; sessions.tick(82_499)?.len(), 0);
+    let replies = sessions.tick(82_500)?;
+    assert_eq!(rt;
+        replies.as_slice(),
+        [Reply::Close(1, 4000), Reply::Close(2, 4000)].as_slice()
+    );
+    Ok(())
+}
+
+#[test]
+fn sessions_end(rt: HostRuntime) -> Result<(), Fail> {
+    let mut sessions = worker(rt.alloc(), 0)?;
+    sessions.open(1, 0)?;
+    sessions.frame(1, IDENTIFY, 0)?;
+    sessions.open(2, 0)?;
+    sessions.frame(2, IDENTIFY, 0)?;
+    sessions.closed(1, 1000, 0);
+    assert_eq!(rt; sessions.len(), 1);
+    sessions.lost(2, 5);
+    sessions.tick(180_004)?;
+    assert_eq!(rt; sessions.len(), 1);
+    sessions.tick(180_005)?;
+    assert_eq!(rt; sessions.len(), 0);
+    Ok(())
+}
+
+#[test]
+fn too_many_frames(rt: HostRuntime) -> Result<(), Fail> {
+    let mut sessions = worker(rt.alloc(), 0)?;
+    sessions.open(1, 0)?;
+    sessions.open(2, 0)?;
+    for _ in 0..120 {
+        sessions.frame(1, "{\"op\":1}", 0)?;
+        sessions.frame(2, "{\"op\":1}", 0)?;
+    }
+    let mut early = sessions.frame(1, "{\"op\":1}", 59_999)?;
+    assert_eq!(rt; early.pop(), closed(4008));
+    let mut later = sessions.frame(2, "{\"op\":1}", 60_000)?;
+    assert_eq!(rt; later.pop(), Some(Reply::Send(2, Out::Ack)));
+    Ok(())
+}

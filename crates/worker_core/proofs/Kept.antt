@@ -19,7 +19,8 @@ use Rattle.session_core.specs.declared.reply.Mark.{Mark}
 use Rattle.session_core.specs.declared.reply.Mark.TheVariants.{Entry}
 use Rattle.session_core.specs.State.{State, Session, Place, Attached, Detached, Ended, is_on, is_live, has_link, has_session, released, opened, gone, begun}
 use Rattle.session_core.specs.Identify.{judged_of, identified, bot_of}
-use Rattle.session_core.specs.Frames.{Move, Nothing, Answers, Shuts, Begins, identify_move, first_move, read_move, move_of, moved}
+use Rattle.session_core.specs.Frames.{Move, Nothing, Answers, Shuts, Begins, identify_move, first_move, read_move, move_of, moved, framed}
+use Rattle.session_core.specs.Rate.{is_rated, noted}
 use Rattle.session_core.specs.Ends.{is_final, is_overdue, lost, all_gone, left_of, left, client_closed, kept_for, expired, ticked, silent_of}
 use Rattle.worker_core.specs.World.{ended_at, Seen, Cursors, cursors, seen_with, Told, told, Sent, Worker, sends, after_entry, entry_sends, entered, looked, look_sends, begins_with}
 use Rattle.worker_core.specs.Spent.{is_past, entry_spends, look_spends, told_spends, kept_spends}
@@ -159,8 +160,8 @@ identified_kept : (s : State Sent) (i : Identify) → identified s i ≡ identif
 unfolding identified
 identified_kept s i = ap (λ n. judged_of n i (bot_of i.token s.bots)) (live_kept s.sessions)
 
-pub move_kept : (s : State Sent) (conn : ℕ) (text : List ℕ) → move_of s conn text ≡ move_of (kept s) conn text
-move_kept s conn text = by_link (has_link conn s)
+pub move_kept : (s : State Sent) (now conn : ℕ) (text : List ℕ) → move_of s now conn text ≡ move_of (kept s) now conn text
+move_kept s now conn text = by_link (has_link conn s) (is_rated conn now s)
   where
     by_frame : (f : Frame) → first_move s f ≡ first_move (kept s) f
     by_frame (frame.Heartbeat seq) = refl
@@ -175,9 +176,11 @@ move_kept s conn text = by_link (has_link conn s)
     by_read true (Ok f) = refl
     by_read false (Ok f) = by_frame f
 
-    by_link : (b : Bool) → (if b then read_move s (has_session conn s) (frame_of text) else Nothing) ≡ (if b then read_move (kept s) (has_session conn (kept s)) (frame_of text) else Nothing)
-    by_link true = by_read (has_session conn s) (frame_of text) ∙ ap (λ b. read_move (kept s) b (frame_of text)) (has_kept conn s.sessions)
-    by_link false = refl
+    by_link : (b rated : Bool) → (if b then (if rated then Shuts 4008 else read_move s (has_session conn s) (frame_of text)) else Nothing)
+        ≡ (if b then (if rated then Shuts 4008 else read_move (kept s) (has_session conn (kept s)) (frame_of text)) else Nothing)
+    by_link true false = by_read (has_session conn s) (frame_of text) ∙ ap (λ b. read_move (kept s) b (frame_of text)) (has_kept conn s.sessions)
+    by_link true true = refl
+    by_link false rated = refl
 
 -- a connection that is gone
 released_kept : (conn now : ℕ) (x : Session Sent) → kept_session (released conn (Detached now) x) ≡ map (released conn (Detached now)) (kept_session x)
@@ -210,11 +213,14 @@ moved_kept w conn now (Shuts code) = ap (λ xs. record (gone conn (Detached now)
 moved_kept w conn now (Begins bot v) = ap (λ xs. record (begun conn bot v (begins_count w bot v) (kept w.core)) { sessions = xs })
     (flat_map_join kept_session w.core.sessions (record { number = w.core.made + 1; token = bot.token; name = bot.name; viewer = v; place = Attached conn; sent = begins_with w bot v (w.core.made + 1) } ∷ []))
 
+pub framed_kept : (w : Worker) (conn now : ℕ) (move : Move) → kept (framed conn now (begins_with w) move w.core) ≡ framed conn now (begins_count w) move (kept w.core)
+framed_kept w conn now move = ap (noted conn now) (moved_kept w conn now move)
+
 pub opened_kept : (s : State Sent) (conn now : ℕ) → kept (opened conn now s) ≡ opened conn now (kept s)
 opened_kept s conn now = by_link (has_link conn s) (nat_lt (length s.links) 64)
   where
-    by_link : (b c : Bool) → kept (if b then s else (if c then record s { links = s.links ++ record { number = conn; heard = now } ∷ [] } else s))
-        ≡ (if b then kept s else (if c then record (kept s) { links = s.links ++ record { number = conn; heard = now } ∷ [] } else kept s))
+    by_link : (b c : Bool) → kept (if b then s else (if c then record s { links = s.links ++ record { number = conn; heard = now; times = [] } ∷ [] } else s))
+        ≡ (if b then kept s else (if c then record (kept s) { links = s.links ++ record { number = conn; heard = now; times = [] } ∷ [] } else kept s))
     by_link true c = refl
     by_link false true = refl
     by_link false false = refl

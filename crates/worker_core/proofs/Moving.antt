@@ -16,6 +16,7 @@ use Rattle.session_core.specs.declared.fault.SessionFault.TheVariants as session
 use Rattle.session_core.specs.declared.reply.Reply.{Reply}
 use Rattle.session_core.specs.declared.reply.Reply.TheVariants as reply
 use Rattle.session_core.specs.State.{Session, Attached, has_link, open_replies, begun}
+use Rattle.session_core.specs.Rate.{noted}
 use Rattle.session_core.specs.Ends.{closes, silent_of, tick_replies}
 use Rattle.session_core.specs.Frames.{Move, Nothing, Answers, Shuts, Begins, move_of, move_replies, is_spent}
 use Rattle.worker_core.specs.declared.replica.Replica.{Replica}
@@ -190,7 +191,7 @@ module _ (k : KeptWorker) (conn : ℕ) where
       from_start k1 is greets =
           let here = subst (λ (h : KeptWorker). Greets h (k.core.made + 1) new [] out) is greets in
           let all = here k.core.sessions (begun_with bot v 0) refl in (
-            all.0 ∙ ap (λ n. record k { core = kept_with (k.core.sessions ++ begun_with bot v n ∷ []) (begun conn bot v (none_yet bot v) k.core) }) (none_more (first_count bot v)),
+            all.0 ∙ ap (λ n. record k { core = kept_with (k.core.sessions ++ begun_with bot v n ∷ []) (noted conn k.now (begun conn bot v (none_yet bot v) k.core)) }) (none_more (first_count bot v)),
             (
               all.1.0,
               ap (λ b. b || is_past 0 (first_count bot v)) counted ∙ all.1.1,
@@ -215,7 +216,7 @@ module _ (k : KeptWorker) (conn : ℕ) where
 
   module _ (w : Worker) (stands : Stands k w) (text : List ℕ) where
     abbrev move : Move
-    move = move_of k.core conn text
+    move = move_of k.core k.now conn text
 
     pub frame_made : (k1 new : KeptWorker) (out : List Written) → k1 ≡ after_frame k conn move none_yet → is_spent move k.core ≡ false
         → Replied k k1 new out (move_replies conn move k.core) → Steps w (Frame conn text) new out

@@ -112,7 +112,7 @@ frame_holds w conn (Begins bot v) = start_holds w conn bot v
 open_holds : (w : Worker) (conn : ℕ) → All (OutputHolds (opened conn w.now w.core).sessions) (open_sends conn w.core)
 open_holds w conn = by_link (has_link conn w.core) (nat_lt (length w.core.links) 64)
   where
-    by_link : (b c : Bool) → let s : State Sent = if b then w.core else (if c then record w.core { links = w.core.links ++ record { number = conn; heard = w.now } ∷ [] } else w.core) in
+    by_link : (b c : Bool) → let s : State Sent = if b then w.core else (if c then record w.core { links = w.core.links ++ record { number = conn; heard = w.now; times = [] } ∷ [] } else w.core) in
         All (OutputHolds s.sessions) (if b then [] else (if c then Says conn (Hello 41250) ∷ [] else Closes conn 4000 ∷ []))
     by_link true c = All-nil (OutputHolds w.core.sessions)
     by_link false true = one_holds w.core.sessions (Says conn (Hello 41250)) tt
@@ -130,7 +130,7 @@ each_send_holds w (Look g es) = by_there (contains g w.guilds)
     by_there true = look_holds es w g
     by_there false = All-nil (OutputHolds w.core.sessions)
 each_send_holds w (Open conn) = open_holds w conn
-each_send_holds w (Frame conn text) = frame_holds w conn (move_of w.core conn text)
+each_send_holds w (Frame conn text) = frame_holds w conn (move_of w.core w.now conn text)
 each_send_holds w (Lost conn) = All-nil (OutputHolds (taken w (Lost conn)).core.sessions)
 each_send_holds w (Closed conn code) = All-nil (OutputHolds (taken w (Closed conn code)).core.sessions)
 each_send_holds w (Tick now) = tick_holds (taken w (Tick now)).core.sessions (silent_of (max w.now now) w.core.links)

@@ -17,7 +17,8 @@ use Rattle.edit_apply.specs.Edits.{state}
 use Rattle.edit_apply.specs.declared.Edit.{Edit}
 use Rattle.session_core.specs.declared.bot.Bot.{Bot}
 use Rattle.session_core.specs.State.{State, Attached, opened, begun}
-use Rattle.session_core.specs.Frames.{Move, Nothing, Answers, Shuts, Begins, move_of, moved, is_spent}
+use Rattle.session_core.specs.Frames.{Move, Nothing, Answers, Shuts, Begins, move_of, moved, framed as with_frame, is_spent}
+use Rattle.session_core.specs.Rate.{noted}
 use Rattle.session_core.specs.Ends.{lost, client_closed, ticked}
 use Rattle.worker_core.specs.declared.replica.Replica.{Replica}
 use Rattle.worker_core.specs.World.{Seen, Worker, Input, cursors, tick_sends, entered, looked, look_sends, Look, Open, Frame, Lost, Closed, Tick, framed, frame_sends, open_sends, first_dispatches, listed_guilds, greeting_of, ready, sends, Output}
@@ -28,7 +29,7 @@ use Rattle.worker_core.specs.declared.io.Output.{Output as Written}
 use Rattle.worker_core.specs.Spent.{is_past, look_spends, frame_spends, kept_spends}
 use Rattle.worker_core.proofs.Folds.{state_join, same_id}
 use Rattle.worker_core.proofs.Worlds.{looked_seen}
-use Rattle.worker_core.proofs.Kept.{look_kept, look_sent, look_spent, move_kept, moved_kept, opened_kept, begins_count, lost_kept, closed_kept, ticked_kept}
+use Rattle.worker_core.proofs.Kept.{look_kept, look_sent, look_spent, move_kept, framed_kept, opened_kept, begins_count, lost_kept, closed_kept, ticked_kept}
 
 -- a list of ids contains what it finds
 contains_found : (id : ℕ) (gs : List ℕ) → contains id gs ≡ has_id own_id id gs
@@ -203,14 +204,16 @@ module _ (k : KeptWorker) (w : Worker) (stands : Stands k w) where
       let same : kept_ready k v bot.name n ≡ ready w v bot n = cc (listed v, stands.url, ap (λ (c : State ℕ). c.worker) stands.core) in
       cc (creates, same)
 
-  frames_move : (conn : ℕ) (text : List ℕ) → move_of k.core conn text ≡ move_of w.core conn text
-  frames_move conn text = ap (λ (c : State ℕ). move_of c conn text) stands.core ∙ sym (move_kept w.core conn text)
+  frames_move : (conn : ℕ) (text : List ℕ) → move_of k.core k.now conn text ≡ move_of w.core w.now conn text
+  frames_move conn text =
+      ap (λ (c : State ℕ). move_of c k.now conn text) stands.core
+      ∙ (ap (λ n. move_of (kept w.core) n conn text) stands.now ∙ sym (move_kept w.core w.now conn text))
 
-  moved_by : (conn : ℕ) (move : Move) → moved conn k.now (kept_count k) move k.core ≡ kept (framed w conn move).core
+  moved_by : (conn : ℕ) (move : Move) → with_frame conn k.now (kept_count k) move k.core ≡ kept (framed w conn move).core
   moved_by conn move =
-      ap (λ c. moved conn k.now (kept_count k) move c) stands.core
-      ∙ (ap (λ n. moved conn n (kept_count k) move (kept w.core)) stands.now
-      ∙ (by_move move ∙ sym (moved_kept w conn w.now move)))
+      ap (λ c. with_frame conn k.now (kept_count k) move c) stands.core
+      ∙ (ap (λ n. with_frame conn n (kept_count k) move (kept w.core)) stands.now
+      ∙ (ap (noted conn w.now) (by_move move) ∙ sym (framed_kept w conn w.now move)))
     where
       same_count : (bot : Bot) (v : Viewer) (n : ℕ) → kept_count k bot v n ≡ begins_count w bot v n
       same_count bot v n = ap (λ ds. length ds) (first_kept v bot n) ∙ sym (length-map (first_dispatches w v bot n) _)
@@ -239,7 +242,7 @@ module _ (k : KeptWorker) (w : Worker) (stands : Stands k w) where
       ap (λ (c : State ℕ). is_spent (Begins bot v) c || is_past 0 (length (first_dispatches w v bot (c.made + 1)))) (sym stands.core)
       ∙ ap (λ ds. is_spent (Begins bot v) k.core || is_past 0 (length ds)) (sym (first_kept v bot (k.core.made + 1)))
 
-  pub frames : (conn : ℕ) (text : List ℕ) → let move = move_of k.core conn text in
+  pub frames : (conn : ℕ) (text : List ℕ) → let move = move_of k.core k.now conn text in
       IsStep w (Frame conn text) (after_frame k conn move (kept_count k)) (kept_frame_sends k conn move) (kept_frame_spends k move)
   frames conn text = (
     record {
@@ -248,11 +251,11 @@ module _ (k : KeptWorker) (w : Worker) (stands : Stands k w) where
       now = stands.now;
       guilds = stands.guilds;
       replicas = stands.replicas;
-      core = ap (λ m. moved conn k.now (kept_count k) m k.core) (frames_move conn text) ∙ moved_by conn (move_of w.core conn text);
+      core = ap (λ m. with_frame conn k.now (kept_count k) m k.core) (frames_move conn text) ∙ moved_by conn (move_of w.core w.now conn text);
     },
     (
-      ap (λ m. frame_sends w conn m) (sym (frames_move conn text)) ∙ sent_by conn (move_of k.core conn text),
-      ap (λ m. frame_spends w m) (sym (frames_move conn text)) ∙ spent_by (move_of k.core conn text),
+      ap (λ m. frame_sends w conn m) (sym (frames_move conn text)) ∙ sent_by conn (move_of k.core k.now conn text),
+      ap (λ m. frame_spends w m) (sym (frames_move conn text)) ∙ spent_by (move_of k.core k.now conn text),
     ),
   )
 

@@ -182,15 +182,15 @@ begun_follows w conn bot v old = record {
     none (x ∷ earlier) t later e = cc
 
 framed_follows : (w : Worker) (conn : ℕ) (move : Move) → Follows w → Follows (framed w conn move)
-framed_follows w conn Nothing old = old
+framed_follows w conn Nothing old = record { sessions = old.sessions; strangers = old.strangers }
 framed_follows w conn Answers old = record { sessions = old.sessions; strangers = old.strangers }
-framed_follows w conn (Shuts code) old = gone_follows w conn old
-framed_follows w conn (Begins bot viewer) old = begun_follows w conn bot viewer old
+framed_follows w conn (Shuts code) old = let after = gone_follows w conn old in record { sessions = after.sessions; strangers = after.strangers }
+framed_follows w conn (Begins bot viewer) old = let after = begun_follows w conn bot viewer old in record { sessions = after.sessions; strangers = after.strangers }
 
 opened_follows : (w : Worker) (conn : ℕ) → Follows w → Follows (record w { core = opened conn w.now w.core })
 opened_follows w conn old = by_link (has_link conn w.core) (nat_lt (length w.core.links) 64)
   where
-    by_link : (b c : Bool) → Follows (record w { core = if b then w.core else (if c then record w.core { links = w.core.links ++ record { number = conn; heard = w.now } ∷ [] } else w.core) })
+    by_link : (b c : Bool) → Follows (record w { core = if b then w.core else (if c then record w.core { links = w.core.links ++ record { number = conn; heard = w.now; times = [] } ∷ [] } else w.core) })
     by_link true c = old
     by_link false true = record { sessions = old.sessions; strangers = old.strangers }
     by_link false false = old
@@ -290,7 +290,7 @@ taken_follows (Look g es) w built old = by_there (contains g w.guilds) refl
     by_there true there = looked_follows es w g built there old
     by_there false none = old
 taken_follows (Open conn) w built old = opened_follows w conn old
-taken_follows (Frame conn text) w built old = framed_follows w conn (move_of w.core conn text) old
+taken_follows (Frame conn text) w built old = framed_follows w conn (move_of w.core w.now conn text) old
 taken_follows (Lost conn) w built old = lost_follows w conn old
 taken_follows (Closed conn code) w built old = closed_follows w conn code old
 taken_follows (Tick now) w built old = ticked_follows w (max w.now now) old

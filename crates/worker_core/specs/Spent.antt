@@ -32,7 +32,7 @@ frame_spends w (Begins bot v) = is_spent (Begins bot v) w.core || is_past 0 (len
 abbrev pub spends : Worker → Input → Bool
 spends w (Look g es) = contains g w.guilds && look_spends w g es
 spends w (Open conn) = false
-spends w (Frame conn text) = frame_spends w (move_of w.core conn text)
+spends w (Frame conn text) = frame_spends w (move_of w.core w.now conn text)
 spends w (Lost conn) = false
 spends w (Closed conn code) = false
 spends w (Tick now) = false

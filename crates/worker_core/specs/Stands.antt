@@ -9,7 +9,7 @@ use Rattle.session_core.specs.declared.bot.Bot.{Bot}
 use Rattle.session_core.specs.declared.reply.Reply.{Reply}
 use Rattle.session_core.specs.declared.reply.Reply.TheVariants as reply
 use Rattle.session_core.specs.State.{State, Session, Attached, opened}
-use Rattle.session_core.specs.Frames.{Move, Nothing, Answers, Shuts, Begins, move_of, moved, is_spent}
+use Rattle.session_core.specs.Frames.{Move, Nothing, Answers, Shuts, Begins, move_of, framed, is_spent}
 use Rattle.session_core.specs.Ends.{lost, client_closed, ticked}
 use Rattle.worker_core.specs.declared.io.StepFault.{StepFault}
 use Rattle.worker_core.specs.declared.replica.Replica.{Replica}
@@ -71,7 +71,7 @@ after_tick k now = record k { now = now; core = ticked (λ x. []) now k.core }
 
 -- a frame, by how many dispatches a session begins with
 abbrev pub after_frame : KeptWorker → ℕ → Move → (Bot → Viewer → ℕ → ℕ) → KeptWorker
-after_frame k conn move count = record k { core = moved conn k.now count move k.core }
+after_frame k conn move count = record k { core = framed conn k.now count move k.core }
 
 -- the first dispatches of a session, by what is kept
 abbrev pub kept_listed : KeptWorker → Viewer → List ℕ
@@ -127,7 +127,7 @@ OpensStand = (k : KeptWorker) (w : Worker) → Stands k w → (conn : ℕ)
     → IsStep w (Open conn) (after_open k conn) (open_sends conn k.core) false
 
 unfoldable pub FramesStand : Type 0
-FramesStand = (k : KeptWorker) (w : Worker) → Stands k w → (conn : ℕ) (text : List ℕ) → let move = move_of k.core conn text in
+FramesStand = (k : KeptWorker) (w : Worker) → Stands k w → (conn : ℕ) (text : List ℕ) → let move = move_of k.core k.now conn text in
     IsStep w (Frame conn text) (after_frame k conn move (kept_count k)) (kept_frame_sends k conn move) (kept_frame_spends k move)
 
 unfoldable pub LossesStand : Type 0

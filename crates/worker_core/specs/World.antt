@@ -22,7 +22,7 @@ use Rattle.session_core.specs.declared.bot.Bot.{Bot}
 use Rattle.session_core.specs.declared.reply.Mark.{Mark}
 use Rattle.session_core.specs.declared.reply.Mark.TheVariants.{Start, Entry}
 use Rattle.session_core.specs.State.{State, Session, Place, Attached, Detached, Ended, is_live, has_link, opened, no_sessions}
-use Rattle.session_core.specs.Frames.{Move, Nothing, Answers, Shuts, Begins, move_of, moved}
+use Rattle.session_core.specs.Frames.{Move, Nothing, Answers, Shuts, Begins, move_of, framed as with_frame}
 use Rattle.session_core.specs.Ends.{lost, client_closed, ticked, silent_of}
 
 -- the entries that a worker has handled, by guild
@@ -148,7 +148,7 @@ pub data Input : Type 0 where
   Tick : (now : ℕ) → Input
 
 abbrev pub framed : Worker → ℕ → Move → Worker
-framed w conn move = record w { core = moved conn w.now (begins_with w) move w.core }
+framed w conn move = record w { core = with_frame conn w.now (begins_with w) move w.core }
 
 abbrev pub frame_sends : Worker → ℕ → Move → List Output
 frame_sends w conn Nothing = []
@@ -169,7 +169,7 @@ tick_sends now s = map (λ conn. Closes conn 4000) (silent_of now s.links)
 abbrev pub taken : Worker → Input → Worker
 taken w (Look g es) = if contains g w.guilds then looked w g es else w
 taken w (Open conn) = record w { core = opened conn w.now w.core }
-taken w (Frame conn text) = framed w conn (move_of w.core conn text)
+taken w (Frame conn text) = framed w conn (move_of w.core w.now conn text)
 taken w (Lost conn) = record w { core = lost conn w.now w.core }
 taken w (Closed conn code) = record w { core = client_closed (ended_at (cursors w.seen)) conn code w.now w.core }
 taken w (Tick now) = passed w (max w.now now)
@@ -177,7 +177,7 @@ taken w (Tick now) = passed w (max w.now now)
 abbrev pub outputs : Worker → Input → List Output
 outputs w (Look g es) = if contains g w.guilds then look_sends w g es else []
 outputs w (Open conn) = open_sends conn w.core
-outputs w (Frame conn text) = frame_sends w conn (move_of w.core conn text)
+outputs w (Frame conn text) = frame_sends w conn (move_of w.core w.now conn text)
 outputs w (Lost conn) = []
 outputs w (Closed conn code) = []
 outputs w (Tick now) = tick_sends (max w.now now) w.core

@@ -180,10 +180,10 @@ impl Worker {
     }
 
     fn frame_session(&mut self, conn: u32, text: &str) -> Result<Vec<Reply>, SessionFault>
-        ensures replies { IfOk result (λ replies. replies.items ≡ move_replies conn (move_of self.old.core conn text.now) self.old.core) }
-        ensures moved { OnOk result (self.new ≡ after_frame self.old conn (move_of self.old.core conn text.now) (λ bot viewer n. 0)) }
-        ensures counted { OnOk result (is_spent (move_of self.old.core conn text.now) self.old.core ≡ false) }
-        ensures spent { result ≡ Err SessionFault.Spent → is_spent (move_of self.old.core conn text.now) self.old.core ≡ true }
+        ensures replies { IfOk result (λ replies. replies.items ≡ move_replies conn (move_of self.old.core self.old.now conn text.now) self.old.core) }
+        ensures moved { OnOk result (self.new ≡ after_frame self.old conn (move_of self.old.core self.old.now conn text.now) (λ bot viewer n. 0)) }
+        ensures counted { OnOk result (is_spent (move_of self.old.core self.old.now conn text.now) self.old.core ≡ false) }
+        ensures spent { result ≡ Err SessionFault.Spent → is_spent (move_of self.old.core self.old.now conn text.now) self.old.core ≡ true }
     {
         self.sessions.frame(conn, text, self.clock)
     }

@@ -10,7 +10,7 @@ use Rattle.session_core.proofs.sessions.Sessions.add.Goals as goal
 pub invariant_of-self-2 : goal.invariant_of-self-2
 invariant_of-self-2 c =
     let h = c.in_ok-insert.ensures in
-    let l : Line = record { heard = c.args.now; session = None } in
+    let l : Line = record { heard = c.args.now; times = c.in_ok-times.times; session = None } in
     let absent : lookup (nat_eq c.args.conn) c.self.inside.links.entries ≡ None =
     absent-link c.self.inside.links.entries c.args.conn (rw (← c.self.view_is) at c.requires) in
     IsKept-line c.self.inside.made c.self.inside.links.entries c.insert.new.self.entries c.self.inside.live.entries c.args.conn (Some l)
@@ -19,9 +19,9 @@ invariant_of-self-2 c =
 pub returns-clause-ok : goal.returns-clause-ok
 returns-clause-ok c =
     let h = c.in_ok-insert.ensures in
-    let l : Line = record { heard = c.args.now; session = None } in
+    let l : Line = record { heard = c.args.now; times = c.in_ok-times.times; session = None } in
     let absent : lookup (nat_eq c.args.conn) c.self.inside.links.entries ≡ None =
     absent-link c.self.inside.links.entries c.args.conn (rw (← c.self.view_is) at c.requires) in
     let links = added-kept link_of c.self.inside.links.entries c.insert.new.self.entries (c.args.conn, l)
     (h.entries ∙ insert_entry-new nat_eq c.self.inside.links c.args.conn l absent) in
-    rw (← c.self.view_is, links) refl
+    rw (← c.self.view_is, links, c.in_ok-times.ensures) refl

@@ -1,0 +1,23 @@
+-- How many frames a connection may send: 120 in a minute (Gateway, Rate Limiting).
+use Rattle.std.specs.Prelude.{ℕ, ◌+◌, List, [], ◌∷◌, ◌++◌, Bool, false, ◌==◌, ◌&&◌, nat_lt, if◌then◌else◌, length, map}
+use Rattle.std.specs.List.{list_any}
+use Rattle.circular_buffer.specs.Buffer.{keep_last}
+use Rattle.session_core.specs.State.{State, Link}
+
+-- of the moments of a connection's frames, the latest 120
+abbrev pub with_time : ℕ → List ℕ → List ℕ
+with_time now times = keep_last 120 (times ++ now ∷ [])
+
+-- whether there were 120 frames, the first of them less than a minute ago
+abbrev pub is_crowded : ℕ → List ℕ → Bool
+is_crowded now [] = false
+is_crowded now (first ∷ later) = (length later == 119) && nat_lt now (first + 60000)
+
+module _ {A : Type 0} where
+  -- whether a further frame of a connection is one too many
+  abbrev pub is_rated : ℕ → ℕ → State A → Bool
+  is_rated conn now s = list_any (λ (l : Link). (l.number == conn) && is_crowded now l.times) s.links
+
+  -- a frame has come, whatever it was answered
+  abbrev pub noted : ℕ → ℕ → State A → State A
+  noted conn now s = record s { links = map (λ (l : Link). if l.number == conn then record l { times = with_time now l.times } else l) s.links }
