@@ -1,5 +1,5 @@
 -- What each change of connections and sessions leaves.
-use Rattle.std.proofs.Common.{◌≡◌, ℕ, ◌+◌, ◌<◌, List, Bool, true, false, cond, Option, Some, None, is_some, refl, ap, subst, ◌∙◌, arith, nat_eq, inl, inr, eqb-true}
+use Rattle.std.proofs.Common.{◌≡◌, ℕ, ◌+◌, ◌<◌, ◌^◌, List, Bool, true, false, cond, Option, Some, None, is_some, refl, ap, subst, ◌∙◌, arith, nat_eq, inl, inr, eqb-true}
 use Rattle.std.specs.Option.{option_and_then}
 use Rattle.std.specs.List.{IsDistinct}
 use Rattle.std.specs.Map.{lookup, keys_of}
@@ -66,7 +66,7 @@ unchanged f c k w same = elim (cases_Bool (nat_eq c k)) [
 -- ---- what is kept
 
 -- a session that is there has no new number
-is_apart : (made : ℕ) (old : List (ℕ × Live)) (n m : ℕ) → ((k : ℕ) → made < k → lookup (nat_eq k) old ≡ None) → is_some (lookup (nat_eq n) old) ≡ true → made < m
+pub is_apart : (made : ℕ) (old : List (ℕ × Live)) (n m : ℕ) → ((k : ℕ) → made < k → lookup (nat_eq k) old ≡ None) → is_some (lookup (nat_eq n) old) ≡ true → made < m
     → nat_eq n m ≡ false
 is_apart made old n m counted there above = elim (cases_Bool (nat_eq n m)) [
   | inl same ↦
@@ -86,6 +86,7 @@ IsKept-line made old new sessions c w kept once is same = record {
   counted = kept.counted;
   agree = Agree-same (session_at old) (conn_at sessions) (session_at new) (conn_at sessions) kept.agree
       (λ k. session_at-set old new c w is k ∙ unchanged (session_at old) c k (session_in w) same) (λ n. refl);
+  small = kept.small;
 }
 
 -- a session has another count, and is where it was
@@ -98,6 +99,7 @@ IsKept-session made lines old new n x kept once is there same = record {
   counted = λ m above. is m ∙ (let apart : nat_eq n m ≡ false = is_apart made old n m kept.counted there above in rw apart (kept.counted m above));
   agree = Agree-same (session_at lines) (conn_at old) (session_at lines) (conn_at new) kept.agree
       (λ k. refl) (λ m. conn_at-set old new n (Some x) is m ∙ unchanged (conn_at old) n m (conn_of x.hold) same);
+  small = kept.small;
 }
 
 -- a connection goes, and its session stays without one
@@ -113,21 +115,23 @@ IsKept-cut made lines lines' old new c n x kept on off there once is once' is' =
   counted = λ m above. is' m ∙ (let apart : nat_eq n m ≡ false = is_apart made old n m kept.counted there above in rw apart (kept.counted m above));
   agree = Agree-cut (session_at lines) (conn_at old) (session_at lines') (conn_at new) c n kept.agree on
       (session_at-set lines lines' c None is) (λ m. conn_at-set old new n (Some x) is' m ∙ ap (λ w. cond (nat_eq n m) w (conn_at old m)) off);
+  small = kept.small;
 }
 
 -- a connection without a session gets a new one
 pub IsKept-tie : (made : ℕ) (lines lines' : List (ℕ × Line)) (old new : List (ℕ × Live)) (c : ℕ) (l : Line) (x : Live)
-    → IsKept made lines old → session_at lines c ≡ None → l.session ≡ Some (made + 1) → conn_of x.hold ≡ Some c
+    → IsKept made lines old → made + 1 < 2 ^ 32 → session_at lines c ≡ None → l.session ≡ Some (made + 1) → conn_of x.hold ≡ Some c
     → IsDistinct nat_eq (keys_of lines') → IsSetAt c (Some l) lines lines'
     → IsDistinct nat_eq (keys_of new) → IsSetAt (made + 1) (Some x) old new
     → IsKept (made + 1) lines' new
-IsKept-tie made lines lines' old new c l x kept free here there once is once' is' = record {
+IsKept-tie made lines lines' old new c l x kept room free here there once is once' is' = record {
   links_once = once;
   sessions_once = once';
   counted = λ m above. is' m ∙ (let apart : nat_eq (made + 1) m ≡ false = grind (arith, nat_tests, above) in rw apart (kept.counted m (omega arith)));
   agree = Agree-tie (session_at lines) (conn_at old) (session_at lines') (conn_at new) c (made + 1) kept.agree free new_number
       (λ k. session_at-set lines lines' c (Some l) is k ∙ ap (λ w. cond (nat_eq c k) w (session_at lines k)) here)
       (λ m. conn_at-set old new (made + 1) (Some x) is' m ∙ ap (λ w. cond (nat_eq (made + 1) m) w (conn_at old m)) there);
+  small = room;
 }
   where
     new_number : conn_at old (made + 1) ≡ None

@@ -14,6 +14,7 @@ use Rattle.session_core.specs.declared.kept.Line.{Line}
 use Rattle.session_core.specs.declared.kept.Live.{Live}
 use Rattle.session_core.specs.declared.kept.Hold.{Hold}
 use Rattle.session_core.specs.declared.kept.Hold.TheVariants as hold
+use Rattle.replay_ring.specs.Replay.{Replay}
 use Rattle.session_core.specs.State.{Link, Session, is_on}
 use Rattle.session_core.specs.Ends.{is_silent, is_overdue, left_of, kept_for}
 use Rattle.session_core.specs.Kept.{place_of, conn_of, link_of, session_of, session_at, conn_at, Agree, IsKept}
@@ -24,10 +25,10 @@ use Rattle.session_core.proofs.Changes.{Agree-same, Agree-cut, IsSetAt, session_
 -- ---- a session ends with its connection
 
 pub left-none : (es : List (ℕ × Live)) (c : ℕ) → IsDistinct nat_eq (keys_of es) → ((n : ℕ) → conn_at es n ≡ Some c → ⊥)
-    → flat_map (left_of (λ (x : Session ℕ). []) c) (map session_of es) ≡ map session_of es
+    → flat_map (left_of (λ (x : Session Replay). []) c) (map session_of es) ≡ map session_of es
 left-none [] c once off = refl
 left-none (e ∷ es) c once off =
-    let rest : flat_map (left_of (λ (x : Session ℕ). []) c) (map session_of es) ≡ map session_of es = left-none es c (once-after e es once) (λ n is. off n (conn_at-later e es n c once is)) in
+    let rest : flat_map (left_of (λ (x : Session Replay). []) c) (map session_of es) ≡ map session_of es = left-none es c (once-after e es once) (λ n is. off n (conn_at-later e es n c once is)) in
     elim (cases_Bool (is_on c (place_of e.1.hold))) [
       | inl on ↦ absurd (off e.0 (conn_at-here e es ∙ on-conn e.1.hold c on))
       | inr apart ↦ rw (apart, rest) refl
@@ -35,7 +36,7 @@ left-none (e ∷ es) c once off =
 
 pub left-kept : (es : List (ℕ × Live)) (c n : ℕ) (x : Live) → IsDistinct nat_eq (keys_of es) → ((m : ℕ) → conn_at es m ≡ Some c → m ≡ n)
     → lookup (nat_eq n) es ≡ Some x → conn_of x.hold ≡ Some c
-    → map session_of (remove_entry (nat_eq n) es) ≡ flat_map (left_of (λ (x : Session ℕ). []) c) (map session_of es)
+    → map session_of (remove_entry (nat_eq n) es) ≡ flat_map (left_of (λ (x : Session Replay). []) c) (map session_of es)
 left-kept [] c n x once only there on = refl
 left-kept (e ∷ es) c n x once only there on =
     elim (cases_Bool (nat_eq n e.0)) [
@@ -56,10 +57,10 @@ left-kept (e ∷ es) c n x once only there on =
     ]
 
 pub left-removed : (made : ℕ) (lines : List (ℕ × Line)) (es : List (ℕ × Live)) → IsKept made lines es → (c n : ℕ) → session_at lines c ≡ Some n
-    → map session_of (remove_entry (nat_eq n) es) ≡ flat_map (left_of (λ (x : Session ℕ). []) c) (map session_of es)
+    → map session_of (remove_entry (nat_eq n) es) ≡ flat_map (left_of (λ (x : Session Replay). []) c) (map session_of es)
 left-removed made lines es kept c n is = by_found (lookup (nat_eq n) es) refl
   where
-    by_found : (o : Option Live) → lookup (nat_eq n) es ≡ o → map session_of (remove_entry (nat_eq n) es) ≡ flat_map (left_of (λ (x : Session ℕ). []) c) (map session_of es)
+    by_found : (o : Option Live) → lookup (nat_eq n) es ≡ o → map session_of (remove_entry (nat_eq n) es) ≡ flat_map (left_of (λ (x : Session Replay). []) c) (map session_of es)
     by_found None absent = absurd (there-kept made lines es kept c n is absent)
     by_found (Some x) there = left-kept es c n x kept.sessions_once (only-kept made lines es kept c n is) there (on-kept made lines es kept c n x is there)
 
@@ -81,6 +82,7 @@ IsKept-left made lines lines' old new c n kept on once is once' is' = record {
   counted = λ m above. is' m ∙ (ap (λ o. cond (nat_eq n m) None o) (kept.counted m above) ∙ none_either (nat_eq n m));
   agree = Agree-cut (session_at lines) (conn_at old) (session_at lines') (conn_at new) c n kept.agree on
       (session_at-set lines lines' c None is) (conn_at-set old new n None is');
+  small = kept.small;
 }
 
 -- ---- sessions that were left for too long
@@ -88,13 +90,13 @@ IsKept-left made lines lines' old new c n kept on once is once' is' = record {
 abbrev pub is_due : ℕ → Live → Bool
 is_due now x = not (is_overdue now (place_of x.hold))
 
-pub expired-kept : (es : List (ℕ × Live)) (now : ℕ) → map session_of (filter (λ e. is_due now e.1) es) ≡ flat_map (kept_for (λ (x : Session ℕ). []) now) (map session_of es)
+pub expired-kept : (es : List (ℕ × Live)) (now : ℕ) → map session_of (filter (λ e. is_due now e.1) es) ≡ flat_map (kept_for (λ (x : Session Replay). []) now) (map session_of es)
 expired-kept [] now = refl
 expired-kept (e ∷ es) now = by_test (is_overdue now (place_of e.1.hold)) (expired-kept es now)
   where
-    by_test : (b : Bool) → map session_of (filter (λ e. is_due now e.1) es) ≡ flat_map (kept_for (λ (x : Session ℕ). []) now) (map session_of es)
+    by_test : (b : Bool) → map session_of (filter (λ e. is_due now e.1) es) ≡ flat_map (kept_for (λ (x : Session Replay). []) now) (map session_of es)
         → map session_of (if not b then e ∷ filter (λ e. is_due now e.1) es else filter (λ e. is_due now e.1) es)
-        ≡ (if b then [] else session_of e ∷ []) ++ flat_map (kept_for (λ (x : Session ℕ). []) now) (map session_of es)
+        ≡ (if b then [] else session_of e ∷ []) ++ flat_map (kept_for (λ (x : Session Replay). []) now) (map session_of es)
     by_test true rest = rest
     by_test false rest = ap (λ xs. session_of e ∷ xs) rest
 
@@ -120,6 +122,7 @@ IsKept-expired made now lines es kept =
       counted = λ m above. at m ∙ ap (option_filter (is_due now)) (kept.counted m above);
       agree = Agree-same (session_at lines) (conn_at es) (session_at lines) (conn_at (filter (λ e. is_due now e.1) es)) kept.agree
           (λ k. refl) (λ n. ap (option_and_then (λ (x : Live). conn_of x.hold)) (at n) ∙ conn_due now (lookup (nat_eq n) es));
+      small = kept.small;
     }
 
 -- ---- silent connections

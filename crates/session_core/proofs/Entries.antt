@@ -11,6 +11,7 @@ use Rattle.session_core.specs.declared.kept.Line.{Line}
 use Rattle.session_core.specs.declared.kept.Live.{Live}
 use Rattle.session_core.specs.declared.kept.Hold.{Hold}
 use Rattle.session_core.specs.declared.kept.Hold.TheVariants as hold
+use Rattle.replay_ring.specs.Replay.{Replay}
 use Rattle.session_core.specs.State.{Link, Session, Place, is_on, is_live, released}
 use Rattle.session_core.specs.Kept.{place_of, conn_of, link_of, session_of, conn_at}
 
@@ -146,16 +147,16 @@ released-kept (e ∷ es) c n h x once only there on =
     ]
 
 pub on-none : (es : List (ℕ × Live)) (c : ℕ) → IsDistinct nat_eq (keys_of es) → ((n : ℕ) → conn_at es n ≡ Some c → ⊥)
-    → find (λ (x : Session ℕ). is_on c x.place) (map session_of es) ≡ None
+    → find (λ (x : Session Replay). is_on c x.place) (map session_of es) ≡ None
 on-none [] c once off = refl
 on-none (e ∷ es) c once off =
-    let rest : find (λ (x : Session ℕ). is_on c x.place) (map session_of es) ≡ None = on-none es c (once-after e es once) (λ n is. off n (conn_at-later e es n c once is)) in
+    let rest : find (λ (x : Session Replay). is_on c x.place) (map session_of es) ≡ None = on-none es c (once-after e es once) (λ n is. off n (conn_at-later e es n c once is)) in
     elim (cases_Bool (is_on c (place_of e.1.hold))) [
       | inl on ↦ absurd (off e.0 (conn_at-here e es ∙ on-conn e.1.hold c on))
       | inr apart ↦ rw apart rest
     ]
 
-pub on-some : (es : List (ℕ × Live)) (c n : ℕ) → conn_at es n ≡ Some c → is_some (find (λ (x : Session ℕ). is_on c x.place) (map session_of es)) ≡ true
+pub on-some : (es : List (ℕ × Live)) (c n : ℕ) → conn_at es n ≡ Some c → is_some (find (λ (x : Session Replay). is_on c x.place) (map session_of es)) ≡ true
 on-some [] c n on = cc
 on-some (e ∷ es) c n on =
     elim (cases_Bool (nat_eq n e.0)) [
@@ -171,6 +172,6 @@ is_live-place : (h : Hold) → is_live (place_of h) ≡ true
 is_live-place (hold.Attached conn) = refl
 is_live-place (hold.Detached since) = refl
 
-pub live-kept : (es : List (ℕ × Live)) → filter (λ (x : Session ℕ). is_live x.place) (map session_of es) ≡ map session_of es
+pub live-kept : (es : List (ℕ × Live)) → filter (λ (x : Session Replay). is_live x.place) (map session_of es) ≡ map session_of es
 live-kept [] = refl
 live-kept (e ∷ es) = rw (is_live-place e.1.hold) (ap (λ rest. session_of e ∷ rest) (live-kept es))

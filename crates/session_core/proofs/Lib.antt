@@ -6,3 +6,5 @@ pub mod Starts
 pub mod Places
 pub mod Endings
 pub mod Rates
+pub mod Joins
+pub mod Numbers

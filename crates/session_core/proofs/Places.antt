@@ -16,8 +16,8 @@ use Rattle.session_core.specs.declared.kept.Line.{Line}
 use Rattle.session_core.specs.declared.kept.Live.{Live}
 use Rattle.session_core.specs.declared.kept.Hold.{Hold}
 use Rattle.session_core.specs.declared.kept.Hold.TheVariants as hold
-use Rattle.session_core.specs.State.{Session}
-use Rattle.session_core.specs.Pushes.{attached}
+use Rattle.replay_ring.specs.Replay.{Replay}
+use Rattle.session_core.specs.State.{Session, attached}
 use Rattle.session_core.specs.Kept.{session_of, place_of, conn_of, IsKept}
 use Rattle.session_core.proofs.Changes.{IsKept-session}
 
@@ -34,11 +34,11 @@ set-kept (e ∷ es) (suc i) k x y at = ap (λ rest. session_of e ∷ rest) (set-
 pub at-kept : (es : List (ℕ × Live)) (i k : ℕ) (x : Live) → slice_get es i ≡ Some (k, x) → slice_get (map session_of es) i ≡ Some (session_of (k, x))
 at-kept es i k x at = slice_get-map session_of es i ∙ ap (option_map session_of) at
 
-place-kept : (es : List (ℕ × Live)) (n : ℕ) → position_or_len (λ (x : Session ℕ). x.number == n) (map session_of es) ≡ position_or_len (nat_eq n) (keys_of es)
+place-kept : (es : List (ℕ × Live)) (n : ℕ) → position_or_len (λ (x : Session Replay). x.number == n) (map session_of es) ≡ position_or_len (nat_eq n) (keys_of es)
 place-kept [] n = refl
 place-kept (e ∷ es) n = grind (arith, nat_tests, place-kept es n)
 
-pub position-kept : (es : List (ℕ × Live)) (n : ℕ) → position (λ (x : Session ℕ). x.number == n) (map session_of es) ≡ position (nat_eq n) (keys_of es)
+pub position-kept : (es : List (ℕ × Live)) (n : ℕ) → position (λ (x : Session Replay). x.number == n) (map session_of es) ≡ position (nat_eq n) (keys_of es)
 position-kept es n =
     let numbers : length (keys_of es) ≡ length es = length-map es (λ e. e.0) in
     rw (place-kept es n, length-map es session_of, numbers) refl

@@ -44,17 +44,18 @@ or_none false = refl
 pub rated-kept : (lines : List (ℕ × Line)) (c now : ℕ) (l : Line) → IsDistinct nat_eq (keys_of lines) → lookup (nat_eq c) lines ≡ Some l
     → any_rated lines c now ≡ is_crowded now l.times
 rated-kept [] c now l once there = absurd (none-some l there)
-rated-kept (e ∷ es) c now l once there = by_number (nat_eq c e.0) refl there
+rated-kept (e ∷ es) c now l once there = by_number (nat_eq c e.0) refl there (λ later. rated-kept es c now l (once-after e es once) later)
   where
-    by_number : (b : Bool) → nat_eq c e.0 ≡ b → cond b (Some e.1) (lookup (nat_eq c) es) ≡ Some l → any_rated (e ∷ es) c now ≡ is_crowded now l.times
-    by_number true same there =
+    by_number : (b : Bool) → nat_eq c e.0 ≡ b → cond b (Some e.1) (lookup (nat_eq c) es) ≡ Some l → (lookup (nat_eq c) es ≡ Some l → any_rated es c now ≡ is_crowded now l.times)
+        → any_rated (e ∷ es) c now ≡ is_crowded now l.times
+    by_number true same there rest =
         let first : e.1 ≡ l = same_Some e.1 l there in
         let own : (e.0 == c) ≡ true = grind (arith, nat_tests, same) in
         let none : any_rated es c now ≡ false = rated-none es c now (absent-same c e es once same) in
         rw (own, none, first) (or_none (is_crowded now l.times))
-    by_number false apart there =
+    by_number false apart there rest =
         let other : (e.0 == c) ≡ false = grind (arith, nat_tests, apart) in
-        rw other (rated-kept es c now l (once-after e es once) there)
+        rw other (rest there)
 
 -- ---- a frame has come
 

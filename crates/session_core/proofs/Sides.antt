@@ -5,6 +5,7 @@ use Rattle.std.specs.Map.{lookup}
 use Rattle.std.proofs.lemmas.Option.{none-some, same_Some}
 use Rattle.session_core.specs.declared.kept.Line.{Line}
 use Rattle.session_core.specs.declared.kept.Live.{Live}
+use Rattle.replay_ring.specs.Replay.{Replay}
 use Rattle.session_core.specs.State.{Session, is_on}
 use Rattle.session_core.specs.Kept.{session_of, conn_of, session_at, conn_at, IsKept}
 use Rattle.session_core.proofs.Entries.{on-none, on-some}
@@ -37,11 +38,11 @@ module _ (made : ℕ) (lines : List (ℕ × Line)) (sessions : List (ℕ × Live
       let on : conn_at sessions n ≡ Some c = (kept.agree c n).0 is in
       rw there at on
 
-  pub has_session-kept : (o : Option ℕ) → session_at lines c ≡ o → is_some o ≡ is_some (find (λ (x : Session ℕ). is_on c x.place) (map session_of sessions))
+  pub has_session-kept : (o : Option ℕ) → session_at lines c ≡ o → is_some o ≡ is_some (find (λ (x : Session Replay). is_on c x.place) (map session_of sessions))
   has_session-kept None free = rw (on-none sessions c kept.sessions_once (off-kept free)) refl
   has_session-kept (Some n) is = sym (on-some sessions c n ((kept.agree c n).0 is))
 
-  pub free-kept : is_some (find (λ (x : Session ℕ). is_on c x.place) (map session_of sessions)) ≡ false → session_at lines c ≡ None
+  pub free-kept : is_some (find (λ (x : Session Replay). is_on c x.place) (map session_of sessions)) ≡ false → session_at lines c ≡ None
   free-kept off =
       let none : is_some (session_at lines c) ≡ false = has_session-kept (session_at lines c) refl ∙ off in
       no_value (session_at lines c) none

@@ -1,12 +1,12 @@
 -- What a frame is answered: the first row that fits decides (Gateway, Opcodes and Status Codes).
-use Rattle.std.specs.Prelude.{◌≡◌, ℕ, ◌+◌, ◌-◌, ◌^◌, ◌==◌, List, [], ◌∷◌, Bool, true, false, Result, Ok, Err, if◌then◌else◌}
+use Rattle.std.specs.Prelude.{◌≡◌, ℕ, ◌+◌, ◌-◌, ◌^◌, ◌==◌, List, [], ◌∷◌, Bool, true, false, Option, Result, Ok, Err, if◌then◌else◌}
 use Rattle.dispatch_types.specs.declared.viewer.Viewer.{Viewer}
 use Rattle.gateway_frames.specs.declared.frame.Identify.{Identify as Asked}
 use Rattle.gateway_frames.specs.declared.frame.Frame.{Frame}
 use Rattle.gateway_frames.specs.declared.frame.Frame.TheVariants.{Heartbeat, Identify, Presence, Voice, Resume, Ask}
 use Rattle.gateway_frames.specs.declared.fault.FrameFault.{FrameFault}
 use Rattle.gateway_frames.specs.declared.fault.FrameFault.TheVariants.{TooLong, NotJson, BadShape, UnknownOp, Memory}
-use Rattle.gateway_frames.specs.declared.out.Out.TheVariants.{Ack}
+use Rattle.gateway_frames.specs.declared.out.Out.TheVariants.{Ack, Invalid}
 use Rattle.gateway_frames.specs.Read.{frame_of}
 use Rattle.session_core.specs.declared.bot.Bot.{Bot}
 use Rattle.session_core.specs.declared.fault.SessionFault.{SessionFault}
@@ -16,13 +16,18 @@ use Rattle.session_core.specs.declared.reply.Reply.TheVariants.{Send, Close, Beg
 use Rattle.session_core.specs.State.{State, Detached, has_link, has_session, gone, heard, begun}
 use Rattle.session_core.specs.Identify.{identified, viewer_of}
 use Rattle.session_core.specs.Rate.{is_rated, noted}
+use Rattle.session_core.specs.Resume.{Answer, Unknown, Beyond, Goes, resume_answer, resumed, resume_replies}
+use Rattle.replay_ring.specs.Replay.{Replay, fresh}
 
--- what a frame does: nothing, an answer to a heartbeat, the end of the connection, or a session's begin
+-- what a frame does: nothing, an answer to a heartbeat, the end of the connection, a session's begin, a session
+-- that may not be resumed, or one that goes on
 pub data Move : Type 0 where
   Nothing : Move
   Answers : Move
   Shuts : (code : ℕ) → Move
   Begins : (bot : Bot) (viewer : Viewer) → Move
+  Denies : Move
+  Resumes : (number : ℕ) (older : Option ℕ) (seq : ℕ) (held : Replay) → Move
 
 -- the code by which a text is refused that is no frame
 abbrev pub fault_code : FrameFault → ℕ
@@ -37,6 +42,12 @@ abbrev pub identify_move : Asked → Result Bot ℕ → Move
 identify_move i (Ok bot) = Begins bot (viewer_of bot i)
 identify_move i (Err code) = Shuts code
 
+-- what Resume does, by its answer
+abbrev pub resume_move : Answer → Move
+resume_move Unknown = Denies
+resume_move Beyond = Shuts 4007
+resume_move (Goes number older seq held) = Resumes number older seq held
+
 -- on the connection of a session
 abbrev pub later_move : Frame → Move
 later_move (Heartbeat seq) = Answers
@@ -46,12 +57,13 @@ later_move (Presence status) = Shuts 4001
 later_move (Voice ask) = Shuts 4001
 later_move (Ask ask) = Shuts 4001
 
-module _ {A : Type 0} where
+-- `replay` is what is kept of a session's dispatches
+module _ {A : Type 0} (replay : A → Replay) where
   -- on a connection that has no session yet
   abbrev pub first_move : State A → Frame → Move
   first_move s (Heartbeat seq) = Answers
   first_move s (Identify i) = identify_move i (identified s i)
-  first_move s (Resume r) = Shuts 4001
+  first_move s (Resume r) = resume_move (resume_answer replay s r)
   first_move s (Presence status) = Shuts 4003
   first_move s (Voice ask) = Shuts 4003
   first_move s (Ask ask) = Shuts 4003
@@ -61,19 +73,23 @@ module _ {A : Type 0} where
   read_move s has (Err fault) = Shuts (fault_code fault)
   read_move s has (Ok f) = if has then later_move f else first_move s f
 
-  -- what a text does: nothing where the connection is not open, and one too many in a minute is not read
+  -- what a text does: nothing where the connection is not open, and where it has sent too many, that is told first
   abbrev pub move_of : State A → ℕ → ℕ → List ℕ → Move
   move_of s now conn text =
-      if has_link conn s then (if is_rated conn now s then Shuts 4008 else read_move s (has_session conn s) (frame_of text)) else Nothing
+      if has_link conn s then (if is_rated conn now s then Shuts 4008 else read_move s (has_session conn s) (frame_of text))
+      else Nothing
 
+module _ {A : Type 0} where
   -- what becomes of the connections and sessions; `sent` is what a session of a number begins with
   abbrev pub moved : ℕ → ℕ → (Bot → Viewer → ℕ → A) → Move → State A → State A
   moved conn now sent Nothing s = s
   moved conn now sent Answers s = heard conn now s
   moved conn now sent (Shuts code) s = gone conn (Detached now) s
   moved conn now sent (Begins bot viewer) s = begun conn bot viewer (sent bot viewer) s
+  moved conn now sent Denies s = s
+  moved conn now sent (Resumes number older seq held) s = resumed conn now number older s
 
-  -- the same, with the moment of the frame, whatever it was answered
+  -- with the moment of the frame
   abbrev pub framed : ℕ → ℕ → (Bot → Viewer → ℕ → A) → Move → State A → State A
   framed conn now sent move s = noted conn now (moved conn now sent move s)
 
@@ -83,6 +99,8 @@ module _ {A : Type 0} where
   move_replies conn Answers s = Send conn Ack ∷ []
   move_replies conn (Shuts code) s = Close conn code ∷ []
   move_replies conn (Begins bot viewer) s = Begin (s.made + 1) ∷ []
+  move_replies conn Denies s = Send conn (Invalid false) ∷ []
+  move_replies conn (Resumes number older seq held) s = resume_replies conn older seq held
 
   -- whether the session would have no number
   abbrev pub is_spent : Move → State A → Bool
@@ -90,12 +108,22 @@ module _ {A : Type 0} where
   is_spent Answers s = false
   is_spent (Shuts code) s = false
   is_spent (Begins bot viewer) s = s.made == 2 ^ 32 - 1
+  is_spent Denies s = false
+  is_spent (Resumes number older seq held) s = false
+
+-- nothing was sent yet
+abbrev pub none_sent : Bot → Viewer → ℕ → Replay
+none_sent bot viewer n = fresh 1024 4194304
+
+-- all of what is kept is what a resume needs
+abbrev pub as_kept : Replay → Replay
+as_kept held = held
 
 -- what a call leaves that makes a move, by what it returns
-abbrev pub Done : (conn now : ℕ) → Move → State ℕ → State ℕ → List Reply → Type 0
+abbrev pub Done : (conn now : ℕ) → Move → State Replay → State Replay → List Reply → Type 0
 Done conn now move old new replies =
-    (replies ≡ move_replies conn move old) × (new ≡ moved conn now (λ bot viewer n. 0) move old) × (is_spent move old ≡ false)
+    (replies ≡ move_replies conn move old) × (new ≡ moved conn now none_sent move old) × (is_spent move old ≡ false)
 
-abbrev pub Refused : Move → State ℕ → State ℕ → SessionFault → Type 0
+abbrev pub Refused : Move → State Replay → State Replay → SessionFault → Type 0
 Refused move old new fault.Spent = (is_spent move old ≡ true) × (new ≡ old)
 Refused move old new fault.Memory = new ≡ old

@@ -1,5 +1,5 @@
 -- What the code keeps, and the connections and sessions that it stands for.
-use Rattle.std.specs.Prelude.{◌≡◌, ℕ, ◌<◌, List, Option, Some, None, option_and_then, ◌↔◌, nat_eq}
+use Rattle.std.specs.Prelude.{◌≡◌, ℕ, ◌<◌, ◌^◌, List, Option, Some, None, option_and_then, ◌↔◌, nat_eq}
 use Rattle.std.specs.List.{IsDistinct}
 use Rattle.std.specs.Map.{lookup, keys_of}
 use Rattle.dispatch_types.specs.declared.viewer.Viewer.{Viewer}
@@ -8,6 +8,7 @@ use Rattle.session_core.specs.declared.kept.Line.{Line}
 use Rattle.session_core.specs.declared.kept.Live.{Live}
 use Rattle.session_core.specs.declared.kept.Hold.{Hold}
 use Rattle.session_core.specs.declared.kept.Hold.TheVariants as hold
+use Rattle.replay_ring.specs.Replay.{Replay, fresh}
 use Rattle.session_core.specs.State.{Link, Session, Place, Attached, Detached}
 
 -- where a session is
@@ -24,12 +25,12 @@ conn_of (hold.Detached since) = None
 abbrev pub link_of : ℕ × Line → Link
 link_of e = record { number = e.0; heard = e.1.heard; times = e.1.times }
 
-abbrev pub session_of : ℕ × Live → Session ℕ
+abbrev pub session_of : ℕ × Live → Session Replay
 session_of e = record { number = e.0; token = e.1.token; name = e.1.name; viewer = e.1.viewer; place = place_of e.1.hold; sent = e.1.sent }
 
 -- what is kept of a session on a connection that had no dispatch yet
 abbrev pub new_live : Bot → Viewer → ℕ → Live
-new_live bot viewer conn = record { token = bot.token; name = bot.name; viewer = viewer; hold = hold.Attached conn; sent = 0 }
+new_live bot viewer conn = record { token = bot.token; name = bot.name; viewer = viewer; hold = hold.Attached conn; sent = fresh 1024 4194304 }
 
 -- the session of a connection
 abbrev pub session_at : List (ℕ × Line) → ℕ → Option ℕ
@@ -50,3 +51,5 @@ pub record IsKept (made : ℕ) (lines : List (ℕ × Line)) (sessions : List (�
   -- a new number is none of a session's
   pub counted : (n : ℕ) → made < n → lookup (nat_eq n) sessions ≡ None
   pub agree : Agree (session_at lines) (conn_at sessions)
+  -- each number is one of 32 bits
+  pub small : made < 2 ^ 32

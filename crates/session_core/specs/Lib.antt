@@ -1,7 +1,9 @@
 pub mod State
 pub mod Identify
 pub mod Rate
+pub mod Resume
 pub mod Frames
 pub mod Kept
 pub mod Pushes
 pub mod Ends
+pub mod Resumption

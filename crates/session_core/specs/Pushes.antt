@@ -1,22 +1,20 @@
--- What a dispatch of a session leaves and gives, where its number alone is kept.
-use Rattle.std.specs.Prelude.{ℕ, ◌+◌, Option, Some, None, slice_get, slice_set}
+-- What a dispatch of a session leaves, where what a resume needs is kept.
+use Rattle.std.specs.Prelude.{ℕ, ◌+◌, ◌-◌, ◌^◌, List, Bool, false, nat_lt, Option, slice_get, slice_set}
 use Rattle.std.specs.Option.{option_map_or}
-use Rattle.session_core.specs.declared.sessions.Pushed.{Pushed}
-use Rattle.session_core.specs.State.{State, Session, Place, Attached, Detached, Ended}
+use Rattle.replay_ring.specs.Replay.{Replay, pushed}
+use Rattle.session_core.specs.State.{State, Session}
 
--- the connection of a session that is in this place
-abbrev pub attached : Place → Option ℕ
-attached (Attached conn) = Some conn
-attached (Detached since) = None
-attached Ended = None
+-- the number of the next dispatch
+abbrev pub next_number : Session Replay → ℕ
+next_number x = x.sent.last + 1
 
--- the number of the next dispatch, and where it goes at once
-abbrev pub pushed_of : Session ℕ → Pushed
-pushed_of x = record { number = x.sent + 1; conn = attached x.place }
+-- whether the session at this place can have one more
+abbrev pub has_next_at : ℕ → State Replay → Bool
+has_next_at place s = option_map_or (λ (x : Session Replay). nat_lt x.sent.last (2 ^ 64 - 1)) (slice_get s.sessions place) false
 
-abbrev pub counted : Session ℕ → Session ℕ
-counted x = record x { sent = x.sent + 1 }
+abbrev pub further_by : List ℕ → Session Replay → Session Replay
+further_by text x = record x { sent = pushed x.sent text }
 
--- with the session at this place one dispatch further
-abbrev pub counted_at : ℕ → State ℕ → State ℕ
-counted_at place s = record s { sessions = option_map_or (λ x. slice_set s.sessions place (counted x)) (slice_get s.sessions place) s.sessions }
+-- with the session at this place one dispatch further, which has this text
+abbrev pub pushed_at : ℕ → List ℕ → State Replay → State Replay
+pushed_at place text s = record s { sessions = option_map_or (λ x. slice_set s.sessions place (further_by text x)) (slice_get s.sessions place) s.sessions }

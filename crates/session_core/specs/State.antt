@@ -1,6 +1,6 @@
 -- The connections and sessions of one worker (Gateway, Connection Lifecycle). What is kept of the
 -- dispatches of a session is a parameter: all of them in the model, what a resume needs in the code.
-use Rattle.std.specs.Prelude.{ℕ, ◌+◌, List, [], ◌∷◌, ◌++◌, Bool, true, false, not, ◌==◌, nat_lt, Option, is_some, if◌then◌else◌, length, map, filter}
+use Rattle.std.specs.Prelude.{ℕ, ◌+◌, List, [], ◌∷◌, ◌++◌, Bool, true, false, not, ◌==◌, nat_lt, Option, Some, None, is_some, if◌then◌else◌, length, map, filter}
 use Rattle.std.specs.List.{find, list_any}
 use Rattle.dispatch_types.specs.declared.viewer.Viewer.{Viewer}
 use Rattle.gateway_frames.specs.declared.out.Out.TheVariants.{Hello}
@@ -45,6 +45,12 @@ abbrev pub is_live : Place → Bool
 is_live (Attached conn) = true
 is_live (Detached since) = true
 is_live Ended = false
+
+-- the connection of a session that is in this place
+abbrev pub attached : Place → Option ℕ
+attached (Attached conn) = Some conn
+attached (Detached since) = None
+attached Ended = None
 
 module _ {A : Type 0} where
   abbrev pub has_link : ℕ → State A → Bool

@@ -18,6 +18,9 @@ pub const AUTHENTICATION_FAILED: u16 = 4004;
 /// Already authenticated: the connection has a session.
 pub const ALREADY_AUTHENTICATED: u16 = 4005;
 
+/// Invalid seq: a resume names a number that the session has not reached.
+pub const INVALID_SEQ: u16 = 4007;
+
 /// Rate limited: there were too many frames.
 pub const RATE_LIMITED: u16 = 4008;
 

@@ -3,17 +3,19 @@
 ghost use Rattle.std.specs.Prelude.{◌≡◌, true, false, Err, MatchResult, IfOk, OnOk, OnErr};
 ghost use Rattle.session_core.specs.declared.fault.SessionFault.TheVariants.{Spent};
 ghost use Rattle.session_core.specs.State.{has_link, has_session};
-ghost use Rattle.session_core.specs.Frames.{Answers, Shuts, Begins, fault_code, later_move, first_move, move_of, read_move, framed, move_replies, is_spent, identify_move, Done, Refused};
-ghost use Rattle.session_core.specs.Identify.{identified};
+ghost use Rattle.session_core.specs.Frames.{Answers, Shuts, Begins, fault_code, later_move, first_move, move_of, framed, read_move, move_replies, is_spent, identify_move, resume_move, Denies, none_sent, as_kept, Done, Refused};
 ghost use Rattle.gateway_frames.specs.Read.{frame_of};
+ghost use Rattle.session_core.specs.Resume.{resume_answer};
+ghost use Rattle.session_core.specs.Identify.{identified};
 
 use crate::close::{
-    ALREADY_AUTHENTICATED, DECODE_ERROR, NOT_AUTHENTICATED, RATE_LIMITED, UNKNOWN_OPCODE,
+    ALREADY_AUTHENTICATED, DECODE_ERROR, INVALID_SEQ, NOT_AUTHENTICATED, RATE_LIMITED, UNKNOWN_OPCODE,
 };
+use crate::resume::Resumption;
 use crate::sessions::{Sessions, one};
 use crate::{Bot, Reply, SessionFault};
 use dispatch_types::Viewer;
-use gateway_frames::{Frame, FrameFault, Identify, Out};
+use gateway_frames::{Frame, FrameFault, Identify, Out, Resume};
 
 /// The code by which a text is refused that is no frame.
 fn code_of(fault: FrameFault) -> u16
@@ -72,17 +74,45 @@ impl Sessions {
         }
     }
 
+    fn deny(&mut self, conn: u32) -> Result<Vec<Reply>, SessionFault>
+        ensures { MatchResult result (λ replies. Done conn 0 Denies self.old self.new replies.items) (Refused Denies self.old self.new) }
+    {
+        let replies = one(self.alloc(), Reply::Send(conn, Out::Invalid(false)))?;
+        Ok(replies)
+    }
+
+    fn on_resume(
+        &mut self,
+        conn: u32,
+        resume: &Resume,
+        now: u64,
+    ) -> Result<Vec<Reply>, SessionFault>
+        requires linked { has_link conn self.old ≡ true }
+        requires free { has_session conn self.old ≡ false }
+        ensures { let move = resume_move (resume_answer as_kept self.old resume.now) in
+            MatchResult result (λ replies. Done conn now move self.old self.new replies.items) (Refused move self.old self.new) }
+    {
+        match self.resumption(conn, resume)? {
+            Resumption::Unknown => self.deny(conn),
+            Resumption::Beyond => self.shut(conn, INVALID_SEQ, now),
+            Resumption::Goes(going) => {
+                self.resume(conn, going.number, going.older, now);
+                Ok(going.replies)
+            }
+        }
+    }
+
     /// A frame on a connection that has no session.
     fn first(&mut self, conn: u32, frame: &Frame, now: u64) -> Result<Vec<Reply>, SessionFault>
         requires linked { has_link conn self.old ≡ true }
         requires free { has_session conn self.old ≡ false }
-        ensures { let move = first_move self.old frame.now in
+        ensures { let move = first_move as_kept self.old frame.now in
             MatchResult result (λ replies. Done conn now move self.old self.new replies.items) (Refused move self.old self.new) }
     {
         match frame {
             Frame::Heartbeat(_) => self.answer(conn, now),
             Frame::Identify(identify) => self.on_identify(conn, identify, now),
-            Frame::Resume(_) => self.shut(conn, UNKNOWN_OPCODE, now),
+            Frame::Resume(resume) => self.on_resume(conn, resume, now),
             Frame::Presence(_) | Frame::Voice(_) | Frame::Ask(_) => {
                 self.shut(conn, NOT_AUTHENTICATED, now)
             }
@@ -109,10 +139,10 @@ impl Sessions {
     /// Events; Opcodes and Status Codes). On a connection that is not open nothing comes of it. An
     /// `Err` changes nothing.
     pub fn frame(&mut self, conn: u32, text: &str, now: u64) -> Result<Vec<Reply>, SessionFault>
-        ensures replies { IfOk result (λ replies. replies.items ≡ move_replies conn (move_of self.old now conn text.now) self.old) }
-        ensures moved { OnOk result (self.new ≡ framed conn now (λ bot viewer n. 0) (move_of self.old now conn text.now) self.old) }
-        ensures counted { OnOk result (is_spent (move_of self.old now conn text.now) self.old ≡ false) }
-        ensures spent { result ≡ Err Spent → is_spent (move_of self.old now conn text.now) self.old ≡ true }
+        ensures replies { IfOk result (λ replies. replies.items ≡ move_replies conn (move_of as_kept self.old now conn text.now) self.old) }
+        ensures moved { OnOk result (self.new ≡ framed conn now none_sent (move_of as_kept self.old now conn text.now) self.old) }
+        ensures counted { OnOk result (is_spent (move_of as_kept self.old now conn text.now) self.old ≡ false) }
+        ensures spent { result ≡ Err Spent → is_spent (move_of as_kept self.old now conn text.now) self.old ≡ true }
         ensures err { OnErr result (self.new ≡ self.old) }
     {
         let replies = self.handle(conn, text, now)?;
@@ -121,7 +151,7 @@ impl Sessions {
     }
 
     fn handle(&mut self, conn: u32, text: &str, now: u64) -> Result<Vec<Reply>, SessionFault>
-        ensures { let move = move_of self.old now conn text.now in
+        ensures { let move = move_of as_kept self.old now conn text.now in
             MatchResult result (λ replies. Done conn now move self.old self.new replies.items) (Refused move self.old self.new) }
     {
         if !self.is_open(conn) {
@@ -136,7 +166,7 @@ impl Sessions {
     /// A text on an open connection that has not sent too many.
     fn read(&mut self, conn: u32, text: &str, now: u64) -> Result<Vec<Reply>, SessionFault>
         requires { has_link conn self.old ≡ true }
-        ensures { let move = read_move self.old (has_session conn self.old) (frame_of text.now) in
+        ensures { let move = read_move as_kept self.old (has_session conn self.old) (frame_of text.now) in
             MatchResult result (λ replies. Done conn now move self.old self.new replies.items) (Refused move self.old self.new) }
     {
         match Frame::read(self.alloc(), text) {

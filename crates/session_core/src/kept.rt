@@ -1,11 +1,13 @@
 //! What is kept of connections and sessions, by their numbers.
 
-ghost use Rattle.std.specs.Prelude.{◌≡◌, ℕ};
+ghost use Rattle.std.specs.Prelude.{◌≡◌, ℕ, IfOk};
 
 use crate::Bot;
 use crate::window::Window;
 use collections::Text;
 use dispatch_types::Viewer;
+use replay_ring::Ring;
+use std::alloc::{AllocError, Global};
 
 /// What is kept of an open connection.
 #[derive(Drop)]
@@ -34,9 +36,15 @@ pub struct Live {
     pub name: Text,
     pub viewer: Viewer,
     pub hold: Hold,
-    /// How many dispatches it had.
-    pub sent: u64,
+    /// What a resume needs of its dispatches.
+    pub sent: Ring,
 }
+
+/// The most dispatches that are kept for a resume.
+const HELD_ITEMS: usize = 1_024;
+
+/// The most bytes of their texts.
+const HELD_BYTES: usize = 4_194_304;
 
 /// The milliseconds without a heartbeat after which a connection is closed: two intervals.
 const SILENT_AFTER: u64 = 82_500;
@@ -60,16 +68,16 @@ impl Live {
     ghost use Rattle.session_core.specs.Kept.{new_live};
 
     /// A session on a connection that had no dispatch yet.
-    pub fn new(bot: Bot, viewer: Viewer, conn: u32) -> Live
-        ensures { result ≡ new_live bot viewer conn }
+    pub fn new(alloc: Global, bot: Bot, viewer: Viewer, conn: u32) -> Result<Live, AllocError>
+        ensures { IfOk result (λ session. session ≡ new_live bot viewer conn) }
     {
-        Live {
+        Ok(Live {
             token: bot.token,
             name: bot.name,
             viewer,
             hold: Hold::Attached(conn),
-            sent: 0,
-        }
+            sent: Ring::new(alloc, HELD_ITEMS, HELD_BYTES)?,
+        })
     }
 }
 

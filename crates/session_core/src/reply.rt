@@ -1,11 +1,14 @@
+use collections::Text;
 use gateway_frames::Out;
 use snowflake_id::Snowflake;
 
 /// What is to be done after a frame, in order.
-#[derive(Clone, Copy, PartialEq, Eq, Debug)]
+#[derive(Drop)]
 pub enum Reply {
     /// A payload goes to a connection.
     Send(u32, Out),
+    /// The text of a dispatch goes to a connection again.
+    Text(u32, Text),
     /// A connection is closed with a code.
     Close(u32, u16),
     /// A session begins.

@@ -1,14 +1,18 @@
-ghost use Rattle.std.specs.Prelude.{◌≡◌, ◌<◌, ◌^◌, ◌==◌, ◌↔◌, position, slice_get, option_map, IsErr, Some, ◌-◌, true, false, not, nat_lt, ◌∷◌, [], length, map, is_some, IfOk, OnOk, OnErr};
-ghost use Rattle.session_core.specs.State.{no_sessions, live, has_session, gone, begun, Detached, has_link, with_link, opened, open_replies, heard};
-ghost use Rattle.std.specs.Option.{option_copied};
-ghost use Rattle.session_core.specs.Pushes.{pushed_of, counted_at};
-ghost use Rattle.session_core.specs.Identify.{identified, start_as};
-ghost use Rattle.session_core.specs.Kept.{place_of};
+ghost use Rattle.std.specs.Prelude.{◌≡◌, ◌<◌, ◌^◌, ◌==◌, ◌↔◌, position, slice_get, option_map, string_bytes, IsErr, Some, None, ◌-◌, true, false, not, nat_lt, ◌∷◌, [], length, map, is_some, IfOk, OnOk, OnErr};
+ghost use Rattle.session_core.specs.State.{no_sessions, live, has_session, gone, begun, Detached, has_link, with_link, opened, open_replies, heard, attached};
+ghost use Rattle.std.specs.Option.{option_copied, option_and_then};
+ghost use Rattle.session_core.specs.Pushes.{next_number, has_next_at, pushed_at};
 ghost use Rattle.session_core.specs.Rate.{is_rated, noted};
+ghost use Rattle.session_core.specs.Resume.{attached_to, session_named};
+ghost use Rattle.session_core.specs.Frames.{none_sent};
+ghost use Rattle.session_core.specs.Identify.{identified, start_as};
+ghost use Rattle.session_core.specs.Kept.{place_of, session_of};
+ghost use Rattle.std.specs.List.{find};
 ghost use Rattle.session_core.specs.Ends.{is_overdue, left, silent_of, expired};
 
 use crate::close::{AUTHENTICATION_FAILED, UNKNOWN_ERROR};
 use crate::conn::Conn;
+use crate::ids::number_of;
 use crate::judge::{bot_of, judge};
 use crate::kept::{Hold, Line, Live};
 use crate::window::Window;
@@ -41,22 +45,15 @@ impl Model for Sessions {
     ghost use Rattle.std.specs.Prelude.{ℕ, map};
     ghost use Rattle.session_core.specs.State.{State};
 
-    ghost Value = { State ℕ };
+    ghost use Rattle.replay_ring.specs.Replay.{Replay};
+
+    ghost Value = { State Replay };
 
     ghost use Rattle.session_core.specs.Kept.{link_of, session_of, IsKept};
 
     ghost view = { λ s. record { worker = s.worker; bots = s.bots.items; made = s.made; links = map link_of s.links.entries; sessions = map session_of s.live.entries } };
 
     ghost invariant = { λ s. IsKept s.made s.links.entries s.live.entries };
-}
-
-/// A dispatch that a session has been given.
-#[derive(Clone, Copy, PartialEq, Eq, Debug)]
-pub struct Pushed {
-    /// Its number in the session, from 1.
-    pub number: u64,
-    /// The connection to which it goes at once.
-    pub conn: Option<u32>,
 }
 
 /// One reply alone.
@@ -205,6 +202,38 @@ impl Sessions {
         line.times.note(now);
     }
 
+    /// The number of the live session of an id, if there is one.
+    pub(crate) fn number_named(&self, id: &str) -> Result<Option<u32>, AllocError>
+        ensures { IfOk result (λ number. session_named id.now self.now ≡ option_and_then (λ n. find (λ x. x.number == n) self.now.sessions) number) }
+    {
+        let number = number_of(self.alloc, self.worker, id)?;
+        Ok(number)
+    }
+
+    /// The live session of a number.
+    pub(crate) fn session(&self, number: u32) -> Option<&Live>
+        ensures { option_map (λ x. session_of (number, x)) (option_copied result) ≡ find (λ x. x.number == number) self.now.sessions }
+    {
+        self.live.get(&number)
+    }
+
+    /// A session without a connection gets one that has none.
+    pub(crate) fn attach(&mut self, conn: u32, number: u32)
+        requires linked { has_link conn self.old ≡ true }
+        requires free { has_session conn self.old ≡ false }
+        requires there { option_map (λ x. attached x.place) (find (λ x. x.number == number) self.old.sessions) ≡ Some None }
+        ensures { self.new ≡ attached_to conn number self.old }
+    {
+        let Some(session) = self.live.get_mut(&number) else {
+            return;
+        };
+        session.hold = Hold::Attached(conn);
+        let Some(line) = self.links.get_mut(&conn) else {
+            return;
+        };
+        line.session = Some(number);
+    }
+
     /// Whether a connection has a session.
     pub(crate) fn has_session(&self, conn: u32) -> bool
         ensures { result ≡ has_session conn self.now }
@@ -281,11 +310,12 @@ impl Sessions {
         requires linked { has_link conn self.old ≡ true }
         requires free { has_session conn self.old ≡ false }
         requires counted { self.old.made < 2 ^ 32 - 1 }
-        ensures ok { OnOk result (self.new ≡ begun conn bot viewer (λ n. 0) self.old) }
+        ensures ok { OnOk result (self.new ≡ begun conn bot viewer (none_sent bot viewer) self.old) }
         ensures err { OnErr result (self.new ≡ self.old) }
     {
         let number = self.made + 1;
-        self.live.insert(number, Live::new(bot, viewer, conn))?;
+        let session = Live::new(self.alloc, bot, viewer, conn)?;
+        self.live.insert(number, session)?;
         self.made = number;
         let Some(line) = self.links.get_mut(&conn) else {
             return Ok(());
@@ -325,24 +355,41 @@ impl Sessions {
         Some(&session.viewer)
     }
 
-    /// Counts the next dispatch of the live session at a place. `Spent` exactly where its last
-    /// number is 2^64 - 1, which changes nothing.
-    pub fn push_at(&mut self, place: usize) -> Result<Pushed, Spent>
-        requires { place < length self.old.sessions }
-        ensures pushed { IfOk result (λ pushed. option_map pushed_of (slice_get self.old.sessions place) ≡ Some pushed) }
-        ensures counted { OnOk result (self.new ≡ counted_at place self.old) }
-        ensures fits { IfOk result (λ pushed. pushed.number < 2 ^ 64) }
-        ensures spent { IsErr result ↔ (option_map (λ x. x.sent) (slice_get self.old.sessions place) ≡ Some (2 ^ 64 - 1)) }
-        ensures err { OnErr result (self.new ≡ self.old) }
+    /// The number of the next dispatch of the live session at a place. `Spent` exactly where its
+    /// last number is 2^64 - 1.
+    pub fn next_at(&self, place: usize) -> Result<u64, Spent>
+        requires { place < length self.now.sessions }
+        ensures number { IfOk result (λ number. option_map next_number (slice_get self.now.sessions place) ≡ Some number) }
+        ensures fits { IfOk result (λ number. number < 2 ^ 64) }
+        ensures room { IfOk result (λ number. has_next_at place self.now ≡ true) }
+        ensures spent { IsErr result ↔ (option_map (λ x. x.sent.last) (slice_get self.now.sessions place) ≡ Some (2 ^ 64 - 1)) }
     {
-        let (_, session) = self.live.pair_mut(place);
-        if session.sent == u64::MAX {
+        let Some((_, session)) = self.live.get_index(place) else {
+            return Err(Spent);
+        };
+        let last = session.sent.last();
+        if last == u64::MAX {
             return Err(Spent);
         }
-        session.sent += 1;
-        Ok(Pushed {
-            number: session.sent,
-            conn: session.hold.conn(),
-        })
+        Ok(last + 1)
+    }
+
+    /// The connection of the live session at a place.
+    pub fn conn_at(&self, place: usize) -> Option<u32>
+        requires { place < length self.now.sessions }
+        ensures { option_map (λ x. attached x.place) (slice_get self.now.sessions place) ≡ Some result }
+    {
+        let (_, session) = self.live.get_index(place)?;
+        session.hold.conn()
+    }
+
+    /// Keeps the text of the next dispatch of the live session at a place, for a resume.
+    pub fn push_at(&mut self, place: usize, text: String)
+        requires there { place < length self.old.sessions }
+        requires room { has_next_at place self.old ≡ true }
+        ensures { self.new ≡ pushed_at place (string_bytes text) self.old }
+    {
+        let (_, session) = self.live.pair_mut(place);
+        session.sent.push(text);
     }
 }

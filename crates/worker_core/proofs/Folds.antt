@@ -9,8 +9,8 @@ use Rattle.dispatch_types.specs.Fold.{Held, nothing, folded, fold_from}
 use Rattle.edit_apply.specs.Edits.{after, state_from}
 use Rattle.edit_apply.specs.declared.Edit.{Edit}
 use Rattle.session_core.specs.declared.reply.Mark.{Mark}
-use Rattle.worker_core.specs.World.{Cursors, Told, told}
-use Rattle.worker_core.specs.Law.{dispatch_of, held}
+use Rattle.worker_core.specs.World.{Cursors, Told, told, dispatch_of}
+use Rattle.worker_core.specs.Law.{held}
 use Rattle.worker_core.proofs.Lists.{map_join}
 
 pub fold_join : (intents g : ℕ) (h : Held) (xs ys : List Dispatch) → fold_from intents g h (xs ++ ys) ≡ fold_from intents g (fold_from intents g h xs) ys

@@ -1,7 +1,8 @@
 -- What is kept of the sessions moves as they do.
-use Rattle.std.proofs.Common.{◌≡◌, ℕ, ◌+◌, List, [], ◌∷◌, ◌++◌, Bool, true, false, Some, Result, Ok, Err, if◌then◌else◌, suc, length, map, refl, sym, ap, ◌∙◌, append_assoc}
-use Rattle.std.specs.Prelude.{◌==◌, ◌||◌, filter, flat_map, nat_lt, nat_le, is_some}
+use Rattle.std.proofs.Common.{◌≡◌, ℕ, ◌+◌, List, [], ◌∷◌, ◌++◌, Bool, true, false, Option, Some, None, Result, Ok, Err, if◌then◌else◌, suc, length, map, refl, sym, ap, ◌∙◌, append_assoc}
+use Rattle.std.specs.Prelude.{◌==◌, ◌||◌, ◌&&◌, option_map, filter, flat_map, nat_lt, nat_le, is_some}
 use Rattle.std.specs.List.{find, list_any}
+use Rattle.std.specs.Str.{bytes_eq}
 use Rattle.std.proofs.lemmas.List.{length-append, length-map}
 use Rattle.guild_model.specs.Record.{Record, closed}
 use Rattle.dispatch_types.specs.declared.dispatch.Dispatch.{Dispatch}
@@ -19,14 +20,18 @@ use Rattle.session_core.specs.declared.reply.Mark.{Mark}
 use Rattle.session_core.specs.declared.reply.Mark.TheVariants.{Entry}
 use Rattle.session_core.specs.State.{State, Session, Place, Attached, Detached, Ended, is_on, is_live, has_link, has_session, released, opened, gone, begun}
 use Rattle.session_core.specs.Identify.{judged_of, identified, bot_of}
-use Rattle.session_core.specs.Frames.{Move, Nothing, Answers, Shuts, Begins, identify_move, first_move, read_move, move_of, moved, framed}
+use Rattle.replay_ring.specs.Replay.{Replay, pushed_all}
+use Rattle.session_core.specs.Frames.{Move, Nothing, Answers, Shuts, Begins, Denies, Resumes, identify_move, resume_move, first_move, read_move, move_of, moved, framed, as_kept}
+use Rattle.session_core.specs.Resume.{session_id, session_named, joined, resumed, resume_by, resume_answer}
+use Rattle.gateway_frames.specs.declared.frame.Resume.{Resume}
 use Rattle.session_core.specs.Rate.{is_rated, noted}
 use Rattle.session_core.specs.Ends.{is_final, is_overdue, lost, all_gone, left_of, left, client_closed, kept_for, expired, ticked, silent_of}
-use Rattle.worker_core.specs.World.{ended_at, Seen, Cursors, cursors, seen_with, Told, told, Sent, Worker, sends, after_entry, entry_sends, entered, looked, look_sends, begins_with}
+use Rattle.worker_core.specs.World.{ended_at, Seen, Cursors, cursors, seen_with, Told, told, Sent, texts_from, replay, Worker, sends, after_entry, entry_sends, entered, looked, look_sends, begins_with}
 use Rattle.worker_core.specs.Spent.{is_past, entry_spends, look_spends, told_spends, kept_spends}
 use Rattle.worker_core.specs.Kept.{counted, kept_session, kept, told_more, told_sends, kept_looked, kept_sends}
 use Rattle.worker_core.proofs.Lists.{append_none, map_join}
 use Rattle.worker_core.proofs.Folds.{state_join, same_id}
+use Rattle.worker_core.proofs.Replays.{last_is, replay_told}
 
 pub flat_map_join : {A B : Type 0} (f : A → List B) (xs ys : List A) → flat_map f (xs ++ ys) ≡ flat_map f xs ++ flat_map f ys
 flat_map_join f [] ys = refl
@@ -44,9 +49,6 @@ any_join p (x ∷ xs) ys = by_test (p x) (any_join p xs ys)
     by_test true rest = refl
     by_test false rest = rest
 
-length_sent : (ts : List Told) (mark : Mark) (b a : Cursors) (ds : List Dispatch) → length (ts ++ told mark b a ds) ≡ length ts + length ds
-length_sent ts mark b a ds = length-append ts (told mark b a ds) ∙ ap (λ n. length ts + n) (length-map ds (λ d. record { mark = mark; dispatch = d; before = b; after = a }))
-
 -- one entry
 module _ (seen : Seen) (g : ℕ) (e : Edit) where
   abbrev here : Record
@@ -55,19 +57,21 @@ module _ (seen : Seen) (g : ℕ) (e : Edit) where
   one_told : (x : Session Sent) → kept_session (after_entry seen g e x) ≡ map (told_more here e) (kept_session x)
   one_told x = by_place x.place
     where
-      count : length (x.sent.told ++ told (Entry g (length (seen g) + 1)) (cursors seen) (cursors (seen_with seen g e)) (owed here e x.viewer)) ≡ length x.sent.told + length (owed here e x.viewer)
-      count = length_sent x.sent.told (Entry g (length (seen g) + 1)) (cursors seen) (cursors (seen_with seen g e)) (owed here e x.viewer)
+      more : replay (record x.sent { told = x.sent.told ++ told (Entry g (length (seen g) + 1)) (cursors seen) (cursors (seen_with seen g e)) (owed here e x.viewer) })
+          ≡ pushed_all (replay x.sent) (texts_from (replay x.sent).last (owed here e x.viewer))
+      more = replay_told x.sent.told x.sent.end (Entry g (length (seen g) + 1)) (cursors seen) (cursors (seen_with seen g e)) (owed here e x.viewer)
 
       by_place : (place : Place) → kept_session (after_entry seen g e (record x { place = place })) ≡ map (told_more here e) (kept_session (record x { place = place }))
-      by_place (Attached conn) = ap (λ n. record { number = x.number; token = x.token; name = x.name; viewer = x.viewer; place = Attached conn; sent = n } ∷ []) count
-      by_place (Detached since) = ap (λ n. record { number = x.number; token = x.token; name = x.name; viewer = x.viewer; place = Detached since; sent = n } ∷ []) count
+      by_place (Attached conn) = ap (λ r. record { number = x.number; token = x.token; name = x.name; viewer = x.viewer; place = Attached conn; sent = r } ∷ []) more
+      by_place (Detached since) = ap (λ r. record { number = x.number; token = x.token; name = x.name; viewer = x.viewer; place = Detached since; sent = r } ∷ []) more
       by_place Ended = refl
 
   one_sends : (x : Session Sent) → entry_sends seen g e x ≡ flat_map (told_sends here e) (kept_session x)
   one_sends x = by_place x.place
     where
       by_place : (place : Place) → entry_sends seen g e (record x { place = place }) ≡ flat_map (told_sends here e) (kept_session (record x { place = place }))
-      by_place (Attached conn) = sym (append_none (sends (Attached conn) (length x.sent.told) (owed here e x.viewer)))
+      by_place (Attached conn) =
+          ap (λ n. sends (Attached conn) n (owed here e x.viewer)) (sym (last_is x.sent)) ∙ sym (append_none (sends (Attached conn) (replay x.sent).last (owed here e x.viewer)))
       by_place (Detached since) = refl
       by_place Ended = refl
 
@@ -86,9 +90,12 @@ module _ (seen : Seen) (g : ℕ) (e : Edit) where
   one_spends : (x : Session Sent) → entry_spends seen g e x ≡ list_any (told_spends here e) (kept_session x)
   one_spends x = by_place x.place
     where
+      past : is_past (length x.sent.told) (length (owed here e x.viewer)) ≡ (is_past (replay x.sent).last (length (owed here e x.viewer)) || false)
+      past = ap (λ n. is_past n (length (owed here e x.viewer))) (sym (last_is x.sent)) ∙ sym (or_false (is_past (replay x.sent).last (length (owed here e x.viewer))))
+
       by_place : (place : Place) → entry_spends seen g e (record x { place = place }) ≡ list_any (told_spends here e) (kept_session (record x { place = place }))
-      by_place (Attached conn) = sym (or_false (is_past (length x.sent.told) (length (owed here e x.viewer))))
-      by_place (Detached since) = sym (or_false (is_past (length x.sent.told) (length (owed here e x.viewer))))
+      by_place (Attached conn) = past
+      by_place (Detached since) = past
       by_place Ended = refl
 
   each_spends : (xs : List (Session Sent)) → list_any (entry_spends seen g e) xs ≡ list_any (told_spends here e) (flat_map kept_session xs)
@@ -127,30 +134,30 @@ look_spent (e ∷ es) w g =
     ∙ ap (λ xs. kept_spends (after (state g (w.seen g)) e) es xs) (each_told w.seen g e w.core.sessions)))
 
 -- the session of a connection is kept
-has_kept : (conn : ℕ) (xs : List (Session Sent)) → is_some (find (λ (x : Session Sent). is_on conn x.place) xs) ≡ is_some (find (λ (x : Session ℕ). is_on conn x.place) (flat_map kept_session xs))
+has_kept : (conn : ℕ) (xs : List (Session Sent)) → is_some (find (λ (x : Session Sent). is_on conn x.place) xs) ≡ is_some (find (λ (x : Session Replay). is_on conn x.place) (flat_map kept_session xs))
 has_kept conn [] = refl
 has_kept conn (x ∷ xs) = by_place x.place (has_kept conn xs)
   where
-    by_place : (place : Place) → is_some (find (λ (x : Session Sent). is_on conn x.place) xs) ≡ is_some (find (λ (x : Session ℕ). is_on conn x.place) (flat_map kept_session xs))
+    by_place : (place : Place) → is_some (find (λ (x : Session Sent). is_on conn x.place) xs) ≡ is_some (find (λ (x : Session Replay). is_on conn x.place) (flat_map kept_session xs))
         → is_some (find (λ (y : Session Sent). is_on conn y.place) (record x { place = place } ∷ xs))
-        ≡ is_some (find (λ (y : Session ℕ). is_on conn y.place) (kept_session (record x { place = place }) ++ flat_map kept_session xs))
+        ≡ is_some (find (λ (y : Session Replay). is_on conn y.place) (kept_session (record x { place = place }) ++ flat_map kept_session xs))
     by_place (Attached c) rest = by_test (c == conn)
       where
         by_test : (b : Bool) → is_some (if b then Some (record x { place = Attached c }) else find (λ (y : Session Sent). is_on conn y.place) xs)
-            ≡ is_some (if b then Some (counted (record x { place = Attached c })) else find (λ (y : Session ℕ). is_on conn y.place) (flat_map kept_session xs))
+            ≡ is_some (if b then Some (counted (record x { place = Attached c })) else find (λ (y : Session Replay). is_on conn y.place) (flat_map kept_session xs))
         by_test true = refl
         by_test false = rest
     by_place (Detached since) rest = rest
     by_place Ended rest = rest
 
 -- and so is how many there are
-live_kept : (xs : List (Session Sent)) → length (filter (λ (x : Session Sent). is_live x.place) xs) ≡ length (filter (λ (x : Session ℕ). is_live x.place) (flat_map kept_session xs))
+live_kept : (xs : List (Session Sent)) → length (filter (λ (x : Session Sent). is_live x.place) xs) ≡ length (filter (λ (x : Session Replay). is_live x.place) (flat_map kept_session xs))
 live_kept [] = refl
 live_kept (x ∷ xs) = by_place x.place (live_kept xs)
   where
-    by_place : (place : Place) → length (filter (λ (x : Session Sent). is_live x.place) xs) ≡ length (filter (λ (x : Session ℕ). is_live x.place) (flat_map kept_session xs))
+    by_place : (place : Place) → length (filter (λ (x : Session Sent). is_live x.place) xs) ≡ length (filter (λ (x : Session Replay). is_live x.place) (flat_map kept_session xs))
         → length (filter (λ (y : Session Sent). is_live y.place) (record x { place = place } ∷ xs))
-        ≡ length (filter (λ (y : Session ℕ). is_live y.place) (kept_session (record x { place = place }) ++ flat_map kept_session xs))
+        ≡ length (filter (λ (y : Session Replay). is_live y.place) (kept_session (record x { place = place }) ++ flat_map kept_session xs))
     by_place (Attached c) rest = ap suc rest
     by_place (Detached since) rest = ap suc rest
     by_place Ended rest = rest
@@ -160,25 +167,55 @@ identified_kept : (s : State Sent) (i : Identify) → identified s i ≡ identif
 unfolding identified
 identified_kept s i = ap (λ n. judged_of n i (bot_of i.token s.bots)) (live_kept s.sessions)
 
-pub move_kept : (s : State Sent) (now conn : ℕ) (text : List ℕ) → move_of s now conn text ≡ move_of (kept s) now conn text
+-- the session of an id is kept
+named_kept : (worker : ℕ) (id : List ℕ) (xs : List (Session Sent)) → option_map counted (find (λ (x : Session Sent). is_live x.place && bytes_eq (session_id worker x.number) id) xs)
+    ≡ find (λ (x : Session Replay). is_live x.place && bytes_eq (session_id worker x.number) id) (flat_map kept_session xs)
+named_kept worker id [] = refl
+named_kept worker id (x ∷ xs) = by_place x.place (named_kept worker id xs)
+  where
+    abbrev rest : Option (Session Sent)
+    rest = find (λ (x : Session Sent). is_live x.place && bytes_eq (session_id worker x.number) id) xs
+
+    abbrev kept_rest : Option (Session Replay)
+    kept_rest = find (λ (x : Session Replay). is_live x.place && bytes_eq (session_id worker x.number) id) (flat_map kept_session xs)
+
+    by_test : (y : Session Sent) (b : Bool) → option_map counted rest ≡ kept_rest → option_map counted (if b then Some y else rest) ≡ (if b then Some (counted y) else kept_rest)
+    by_test y true same = refl
+    by_test y false same = same
+
+    by_place : (place : Place) → option_map counted rest ≡ kept_rest
+        → option_map counted (find (λ (x : Session Sent). is_live x.place && bytes_eq (session_id worker x.number) id) (record x { place = place } ∷ xs))
+        ≡ find (λ (x : Session Replay). is_live x.place && bytes_eq (session_id worker x.number) id) (kept_session (record x { place = place }) ++ flat_map kept_session xs)
+    by_place (Attached c) same = by_test (record x { place = Attached c }) (bytes_eq (session_id worker x.number) id) same
+    by_place (Detached since) same = by_test (record x { place = Detached since }) (bytes_eq (session_id worker x.number) id) same
+    by_place Ended same = same
+
+resume_by_kept : (r : Resume) (o : Option (Session Sent)) → resume_by replay r o ≡ resume_by as_kept r (option_map counted o)
+resume_by_kept r None = refl
+resume_by_kept r (Some x) = refl
+
+resume_kept : (s : State Sent) (r : Resume) → resume_answer replay s r ≡ resume_answer as_kept (kept s) r
+resume_kept s r = resume_by_kept r (session_named r.session s) ∙ ap (λ o. resume_by as_kept r o) (named_kept s.worker r.session s.sessions)
+
+pub move_kept : (s : State Sent) (now conn : ℕ) (text : List ℕ) → move_of replay s now conn text ≡ move_of as_kept (kept s) now conn text
 move_kept s now conn text = by_link (has_link conn s) (is_rated conn now s)
   where
-    by_frame : (f : Frame) → first_move s f ≡ first_move (kept s) f
+    by_frame : (f : Frame) → first_move replay s f ≡ first_move as_kept (kept s) f
     by_frame (frame.Heartbeat seq) = refl
     by_frame (frame.Identify i) = ap (λ r. identify_move i r) (identified_kept s i)
-    by_frame (frame.Resume r) = refl
+    by_frame (frame.Resume r) = ap resume_move (resume_kept s r)
     by_frame (frame.Presence status) = refl
     by_frame (frame.Voice ask) = refl
     by_frame (frame.Ask ask) = refl
 
-    by_read : (has : Bool) (r : Result Frame FrameFault) → read_move s has r ≡ read_move (kept s) has r
+    by_read : (has : Bool) (r : Result Frame FrameFault) → read_move replay s has r ≡ read_move as_kept (kept s) has r
     by_read has (Err fault) = refl
     by_read true (Ok f) = refl
     by_read false (Ok f) = by_frame f
 
-    by_link : (b rated : Bool) → (if b then (if rated then Shuts 4008 else read_move s (has_session conn s) (frame_of text)) else Nothing)
-        ≡ (if b then (if rated then Shuts 4008 else read_move (kept s) (has_session conn (kept s)) (frame_of text)) else Nothing)
-    by_link true false = by_read (has_session conn s) (frame_of text) ∙ ap (λ b. read_move (kept s) b (frame_of text)) (has_kept conn s.sessions)
+    by_link : (b rated : Bool) → (if b then (if rated then Shuts 4008 else read_move replay s (has_session conn s) (frame_of text)) else Nothing)
+        ≡ (if b then (if rated then Shuts 4008 else read_move as_kept (kept s) (has_session conn (kept s)) (frame_of text)) else Nothing)
+    by_link true false = by_read (has_session conn s) (frame_of text) ∙ ap (λ b. read_move as_kept (kept s) b (frame_of text)) (has_kept conn s.sessions)
     by_link true true = refl
     by_link false rated = refl
 
@@ -202,18 +239,47 @@ each_released conn now (x ∷ xs) =
     ap (λ ys. ys ++ flat_map kept_session (map (released conn (Detached now)) xs)) (released_kept conn now x)
     ∙ (ap (λ ys. map (released conn (Detached now)) (kept_session x) ++ ys) (each_released conn now xs) ∙ sym (map_join (released conn (Detached now)) (kept_session x) (flat_map kept_session xs)))
 
--- how many dispatches a session begins with
-abbrev pub begins_count : Worker → Bot → Viewer → ℕ → ℕ
-begins_count w bot v n = length (begins_with w bot v n).told
+-- a session that goes on
+joined_kept : (conn number : ℕ) (x : Session Sent) → kept_session (joined conn number x) ≡ map (joined conn number) (kept_session x)
+joined_kept conn number x = by_place x.place
+  where
+    by_test : (place : Place) (b : Bool) → is_live place ≡ true → kept_session (if b then record x { place = Attached conn } else record x { place = place })
+        ≡ (if b then record (counted x) { place = Attached conn } else record (counted x) { place = place }) ∷ []
+    by_test place true live = refl
+    by_test (Attached c) false live = refl
+    by_test (Detached since) false live = refl
+    by_test Ended false live = absurd (cc live)
 
-pub moved_kept : (w : Worker) (conn now : ℕ) (move : Move) → kept (moved conn now (begins_with w) move w.core) ≡ moved conn now (begins_count w) move (kept w.core)
+    by_place : (place : Place) → kept_session (joined conn number (record x { place = place })) ≡ map (joined conn number) (kept_session (record x { place = place }))
+    by_place (Attached c) = by_test (Attached c) (x.number == number) refl
+    by_place (Detached since) = by_test (Detached since) (x.number == number) refl
+    by_place Ended = refl
+
+each_joined : (conn number : ℕ) (xs : List (Session Sent)) → flat_map kept_session (map (joined conn number) xs) ≡ map (joined conn number) (flat_map kept_session xs)
+each_joined conn number [] = refl
+each_joined conn number (x ∷ xs) =
+    ap (λ ys. ys ++ flat_map kept_session (map (joined conn number) xs)) (joined_kept conn number x)
+    ∙ (ap (λ ys. map (joined conn number) (kept_session x) ++ ys) (each_joined conn number xs) ∙ sym (map_join (joined conn number) (kept_session x) (flat_map kept_session xs)))
+
+resumed_kept : (conn now number : ℕ) (older : Option ℕ) (s : State Sent) → kept (resumed conn now number older s) ≡ resumed conn now number older (kept s)
+resumed_kept conn now number None s = ap (λ xs. record (kept s) { sessions = xs }) (each_joined conn number s.sessions)
+resumed_kept conn now number (Some older) s = ap (λ xs. record (gone older (Detached now) (kept s)) { sessions = xs })
+    (each_joined conn number (map (released older (Detached now)) s.sessions) ∙ ap (map (joined conn number)) (each_released older now s.sessions))
+
+-- what is kept of the dispatches that a session begins with
+abbrev pub begins_kept : Worker → Bot → Viewer → ℕ → Replay
+begins_kept w bot v n = replay (begins_with w bot v n)
+
+pub moved_kept : (w : Worker) (conn now : ℕ) (move : Move) → kept (moved conn now (begins_with w) move w.core) ≡ moved conn now (begins_kept w) move (kept w.core)
 moved_kept w conn now Nothing = refl
 moved_kept w conn now Answers = refl
 moved_kept w conn now (Shuts code) = ap (λ xs. record (gone conn (Detached now) (kept w.core)) { sessions = xs }) (each_released conn now w.core.sessions)
-moved_kept w conn now (Begins bot v) = ap (λ xs. record (begun conn bot v (begins_count w bot v) (kept w.core)) { sessions = xs })
+moved_kept w conn now (Begins bot v) = ap (λ xs. record (begun conn bot v (begins_kept w bot v) (kept w.core)) { sessions = xs })
     (flat_map_join kept_session w.core.sessions (record { number = w.core.made + 1; token = bot.token; name = bot.name; viewer = v; place = Attached conn; sent = begins_with w bot v (w.core.made + 1) } ∷ []))
+moved_kept w conn now Denies = refl
+moved_kept w conn now (Resumes number older seq held) = resumed_kept conn now number older w.core
 
-pub framed_kept : (w : Worker) (conn now : ℕ) (move : Move) → kept (framed conn now (begins_with w) move w.core) ≡ framed conn now (begins_count w) move (kept w.core)
+pub framed_kept : (w : Worker) (conn now : ℕ) (move : Move) → kept (framed conn now (begins_with w) move w.core) ≡ framed conn now (begins_kept w) move (kept w.core)
 framed_kept w conn now move = ap (noted conn now) (moved_kept w conn now move)
 
 pub opened_kept : (s : State Sent) (conn now : ℕ) → kept (opened conn now s) ≡ opened conn now (kept s)
@@ -246,7 +312,7 @@ lost_kept s conn now = by_link (has_link conn s)
     by_link false = refl
 
 -- of a session that has ended nothing is kept
-abbrev forgotten : Session ℕ → List (Session ℕ)
+abbrev forgotten : Session Replay → List (Session Replay)
 forgotten x = []
 
 module _ (last : Cursors) where

@@ -6,7 +6,10 @@ pub mod Greetings
 pub mod Workers
 pub mod Worlds
 pub mod Sends
+pub mod Replays
 pub mod Kept
+pub mod Resumes
+pub mod GoesOn
 pub mod Standing
 pub mod Telling
 pub mod Looking

@@ -13,6 +13,7 @@ use Rattle.edit_apply.specs.declared.Edit.{Edit}
 use Rattle.edit_events.specs.Due.{owed, due_between}
 use Rattle.edit_events.specs.Was.{was_of}
 use Rattle.edit_events.specs.declared.due.Was.{Was}
+use Rattle.replay_ring.specs.Replay.{Replay}
 use Rattle.session_core.specs.State.{State, Session, Place, Attached, Detached, Ended}
 use Rattle.worker_core.specs.World.{sends}
 use Rattle.worker_core.specs.Kept.{told_more, told_sends, kept_looked, kept_sends}
@@ -27,19 +28,19 @@ use Rattle.worker_core.proofs.Kept.{any_join, flat_map_join}
 use Rattle.worker_core.proofs.Telling.{split_at, get_at, last_taken, rest_dropped, past_no}
 
 -- the session at a place
-pub record Here (xs : List (Session ℕ)) (i : ℕ) : Type 0 where
-  pub item : Session ℕ
+pub record Here (xs : List (Session Replay)) (i : ℕ) : Type 0 where
+  pub item : Session Replay
   pub found : slice_get xs i ≡ Some item
   pub read : get_or xs i item ≡ item
 
-pub here_at : (xs : List (Session ℕ)) (i : ℕ) → i < length xs → Here xs i
+pub here_at : (xs : List (Session Replay)) (i : ℕ) → i < length xs → Here xs i
 here_at xs i lt =
     let split = split_at xs i lt in
     let found : slice_get xs i ≡ Some split.item = ap (λ ys. slice_get ys i) split.whole ∙ (ap (λ n. slice_get (split.front ++ split.item ∷ split.back) n) split.place ∙ get_at split.front split.item split.back) in
     record { item = split.item; found = found; read = get_or_from_slice_get xs i split.item split.item found }
 
 -- the note of the session at a place
-pub note_at : (ns : List Was) (f : Session ℕ → Was) (xs : List (Session ℕ)) (i : ℕ) (x : Session ℕ) (d : Was) → ns ≡ map f xs → slice_get xs i ≡ Some x → get_or ns i d ≡ f x
+pub note_at : (ns : List Was) (f : Session Replay → Was) (xs : List (Session Replay)) (i : ℕ) (x : Session Replay) (d : Was) → ns ≡ map f xs → slice_get xs i ≡ Some x → get_or ns i d ≡ f x
 note_at ns f xs i x d all found = get_or_from_slice_get ns i (f x) d (ap (λ ms. slice_get ms i) all ∙ (slice_get-map f xs i ∙ ap (option_map f) found))
 
 owed_accepted : (s : Record) (e : Edit) (v : Viewer) → accepts s e ≡ true → due_between (applied s e) v (was_of s v e) (served v (applied s e)) e ≡ owed s e v
@@ -50,23 +51,23 @@ owed_refused : (s : Record) (e : Edit) (v : Viewer) → accepts s e ≡ false �
 unfolding owed
 owed_refused s e v refused = simp refused refl
 
-module _ (s : Record) (e : Edit) (old : State ℕ) where
-  abbrev xs : List (Session ℕ)
+module _ (s : Record) (e : Edit) (old : State Replay) where
+  abbrev xs : List (Session Replay)
   xs = old.sessions
 
   -- the sessions before a place are told
-  pub record Told (i : ℕ) (mid : State ℕ) (before outm : List Written) : Type 0 where
+  pub record Told (i : ℕ) (mid : State Replay) (before outm : List Written) : Type 0 where
     pub sessions : mid ≡ kept_with (map (told_more s e) (take i xs) ++ drop i xs) old
     pub out : outm ≡ before ++ all_written (flat_map (told_sends s e) (take i xs))
     pub counted : list_any (told_spends s e) (take i xs) ≡ false
 
-  module _ (g : Record) (was : Was) (mid : State ℕ) (before outm : List Written) (i : ℕ) (lt : i < length xs) (here : Here xs i) (told : Told i mid before outm) where
-    abbrev due_to : Session ℕ → List Dispatch
+  module _ (g : Record) (was : Was) (mid : State Replay) (before outm : List Written) (i : ℕ) (lt : i < length xs) (here : Here xs i) (told : Told i mid before outm) where
+    abbrev due_to : Session Replay → List Dispatch
     due_to y = due_between g y.viewer was (served y.viewer g) e
 
     between : IsAt i (map (told_more s e) (take i xs)) here.item (drop (i + 1) xs) mid
     between = (
-      ap (λ (m : State ℕ). m.sessions) told.sessions ∙ ap (λ ys. map (told_more s e) (take i xs) ++ ys) (rest_dropped xs i here.item lt here.read),
+      ap (λ (m : State Replay). m.sessions) told.sessions ∙ ap (λ ys. map (told_more s e) (take i xs) ++ ys) (rest_dropped xs i here.item lt here.read),
       sym (length-map (take i xs) (told_more s e) ∙ length-take-le i xs (omega arith)),
     )
 
@@ -75,7 +76,7 @@ module _ (s : Record) (e : Edit) (old : State ℕ) where
         ap (λ (w : Was). due_between g here.item.viewer w (served here.item.viewer g) e) noted
         ∙ (ap (λ h. due_between h here.item.viewer (was_of s here.item.viewer e) (served here.item.viewer h) e) is ∙ owed_accepted s e here.item.viewer accepted)
 
-    pub each_more : g ≡ applied s e → accepts s e ≡ true → was ≡ was_of s here.item.viewer e → (new : State ℕ) (out : List Written)
+    pub each_more : g ≡ applied s e → accepts s e ≡ true → was ≡ was_of s here.item.viewer e → (new : State Replay) (out : List Written)
         → TellsAt i due_to mid new outm out → Told (i + 1) new before out
     each_more is accepted noted new out tells =
         let x = here.item in
@@ -84,14 +85,14 @@ module _ (s : Record) (e : Edit) (old : State ℕ) where
         let taken = last_taken xs i x lt here.read in
         record {
           sessions = step.0
-              ∙ (ap (λ ds. kept_with (map (told_more s e) (take i xs) ++ further (length ds) x ∷ drop (i + 1) xs) mid) due
-              ∙ (ap (λ (m : State ℕ). kept_with (map (told_more s e) (take i xs) ++ told_more s e x ∷ drop (i + 1) xs) m) told.sessions
+              ∙ (ap (λ ds. kept_with (map (told_more s e) (take i xs) ++ further ds x ∷ drop (i + 1) xs) mid) due
+              ∙ (ap (λ (m : State Replay). kept_with (map (told_more s e) (take i xs) ++ told_more s e x ∷ drop (i + 1) xs) m) told.sessions
               ∙ ap (λ ys. kept_with ys old)
               (sym (append_assoc (map (told_more s e) (take i xs)) (told_more s e x ∷ []) (drop (i + 1) xs))
               ∙ ap (λ ys. ys ++ drop (i + 1) xs) (sym (map_join (told_more s e) (take i xs) (x ∷ [])) ∙ ap (map (told_more s e)) (sym taken)))));
           out = step.1.0
-              ∙ (ap (λ ws. ws ++ all_written (sends x.place x.sent (due_to x))) told.out
-              ∙ (ap (λ ds. (before ++ all_written (flat_map (told_sends s e) (take i xs))) ++ all_written (sends x.place x.sent ds)) due
+              ∙ (ap (λ ws. ws ++ all_written (sends x.place x.sent.last (due_to x))) told.out
+              ∙ (ap (λ ds. (before ++ all_written (flat_map (told_sends s e) (take i xs))) ++ all_written (sends x.place x.sent.last ds)) due
               ∙ (append_assoc before (all_written (flat_map (told_sends s e) (take i xs))) (all_written (told_sends s e x))
               ∙ ap (λ ws. before ++ ws)
               (sym (map_join written (flat_map (told_sends s e) (take i xs)) (told_sends s e x))
@@ -99,7 +100,7 @@ module _ (s : Record) (e : Edit) (old : State ℕ) where
               (ap (λ os. flat_map (told_sends s e) (take i xs) ++ os) (sym (append_none (told_sends s e x)))
               ∙ (sym (flat_map_join (told_sends s e) (take i xs) (x ∷ [])) ∙ ap (flat_map (told_sends s e)) (sym taken)))))));
           counted =
-              let one : told_spends s e x ≡ false = ap (λ ds. is_past x.sent (length ds)) (sym due) ∙ step.1.1 in
+              let one : told_spends s e x ≡ false = ap (λ ds. is_past x.sent.last (length ds)) (sym due) ∙ step.1.1 in
               ap (list_any (told_spends s e)) taken ∙ (any_join (told_spends s e) (take i xs) (x ∷ [])
               ∙ (ap (λ b. b || list_any (told_spends s e) (x ∷ [])) told.counted ∙ ap (λ b. b || false) one));
         }
@@ -109,7 +110,7 @@ module _ (s : Record) (e : Edit) (old : State ℕ) where
     each_fails is accepted noted Memory fails = tt
     each_fails is accepted noted Spent fails =
         let x = here.item in
-        let past : told_spends s e x ≡ true = ap (λ ds. is_past x.sent (length ds)) (sym (same_due is accepted noted)) ∙ fails (map (told_more s e) (take i xs)) (drop (i + 1) xs) x between in
+        let past : told_spends s e x ≡ true = ap (λ ds. is_past x.sent.last (length ds)) (sym (same_due is accepted noted)) ∙ fails (map (told_more s e) (take i xs)) (drop (i + 1) xs) x between in
         let whole : xs ≡ take i xs ++ x ∷ drop (i + 1) xs = sym (take-append-drop i xs) ∙ ap (λ ys. take i xs ++ ys) (rest_dropped xs i x lt here.read) in
         ap (list_any (told_spends s e)) whole ∙ (any_join (told_spends s e) (take i xs) (x ∷ drop (i + 1) xs)
         ∙ (ap (λ b. list_any (told_spends s e) (take i xs) || (b || list_any (told_spends s e) (drop (i + 1) xs))) past
@@ -126,10 +127,10 @@ module _ (s : Record) (e : Edit) (old : State ℕ) where
     (sym (ap (λ os. before ++ all_written os) (silent xs) ∙ append_none before), uncounted xs),
   )
     where
-      one : (x : Session ℕ) → told_more s e x ≡ x
-      one x = ap (λ ds. further (length ds) x) (owed_refused s e x.viewer refused) ∙ ap (λ n. record x { sent = n }) (omega arith)
+      one : (x : Session Replay) → told_more s e x ≡ x
+      one x = ap (λ ds. further ds x) (owed_refused s e x.viewer refused)
 
-      same : (ys : List (Session ℕ)) → map (told_more s e) ys ≡ ys
+      same : (ys : List (Session Replay)) → map (told_more s e) ys ≡ ys
       same [] = refl
       same (y ∷ ys) = ap (λ z. z ∷ map (told_more s e) ys) (one y) ∙ ap (λ zs. y ∷ zs) (same ys)
 
@@ -138,32 +139,32 @@ module _ (s : Record) (e : Edit) (old : State ℕ) where
       nothing (Detached since) n = refl
       nothing Ended n = refl
 
-      silent : (ys : List (Session ℕ)) → flat_map (told_sends s e) ys ≡ []
+      silent : (ys : List (Session Replay)) → flat_map (told_sends s e) ys ≡ []
       silent [] = refl
       silent (y ∷ ys) = ap (λ os. os ++ flat_map (told_sends s e) ys) (ap (λ ds. sends y.place y.sent ds) (owed_refused s e y.viewer refused) ∙ nothing y.place y.sent) ∙ silent ys
 
-      uncounted : (ys : List (Session ℕ)) → list_any (told_spends s e) ys ≡ false
+      uncounted : (ys : List (Session Replay)) → list_any (told_spends s e) ys ≡ false
       uncounted [] = refl
       uncounted (y ∷ ys) = ap (λ b. b || list_any (told_spends s e) ys) (ap (λ ds. is_past y.sent (length ds)) (owed_refused s e y.viewer refused) ∙ past_no y.sent) ∙ uncounted ys
 
 -- one entry more
-module _ (g : Record) (e : Edit) (es : List Edit) (old new : State ℕ) (before out : List Written) (told : TellsEach g e old new before out) where
+module _ (g : Record) (e : Edit) (es : List Edit) (old new : State Replay) (before out : List Written) (told : TellsEach g e old new before out) where
   pub looked_more : kept_with (kept_looked (after g e) es new.sessions) new ≡ kept_with (kept_looked g (e ∷ es) old.sessions) old
-  looked_more = ap (λ (n : State ℕ). kept_with (kept_looked (after g e) es n.sessions) n) told.0
+  looked_more = ap (λ (n : State Replay). kept_with (kept_looked (after g e) es n.sessions) n) told.0
 
   pub sent_more : out ++ all_written (kept_sends (after g e) es new.sessions) ≡ before ++ all_written (kept_sends g (e ∷ es) old.sessions)
   sent_more =
       let rest = kept_sends (after g e) es (map (told_more g e) old.sessions) in
-      ap (λ (n : State ℕ). out ++ all_written (kept_sends (after g e) es n.sessions)) told.0
+      ap (λ (n : State Replay). out ++ all_written (kept_sends (after g e) es n.sessions)) told.0
       ∙ (ap (λ ws. ws ++ all_written rest) told.1.0
       ∙ (append_assoc before (all_written (flat_map (told_sends g e) old.sessions)) (all_written rest)
       ∙ ap (λ ws. before ++ ws) (sym (map_join written (flat_map (told_sends g e) old.sessions) rest))))
 
   pub spent_more : kept_spends (after g e) es new.sessions ≡ kept_spends g (e ∷ es) old.sessions
   spent_more =
-      ap (λ (n : State ℕ). kept_spends (after g e) es n.sessions) told.0
+      ap (λ (n : State Replay). kept_spends (after g e) es n.sessions) told.0
       ∙ ap (λ b. b || kept_spends (after g e) es (map (told_more g e) old.sessions)) (sym told.1.1)
 
-pub spent_first : (g : Record) (e : Edit) (es : List Edit) (old : State ℕ) (fault : StepFault) → FailsEach g e old fault → FaultBy (kept_spends g (e ∷ es) old.sessions) fault
+pub spent_first : (g : Record) (e : Edit) (es : List Edit) (old : State Replay) (fault : StepFault) → FailsEach g e old fault → FaultBy (kept_spends g (e ∷ es) old.sessions) fault
 spent_first g e es old Memory fails = tt
 spent_first g e es old Spent fails = ap (λ b. b || kept_spends (after g e) es (map (told_more g e) old.sessions)) fails

@@ -1,5 +1,5 @@
 -- What the calls of a step leave, taken together, is the step.
-use Rattle.std.proofs.Common.{◌≡◌, ℕ, ◌+◌, ◌≤◌, List, [], ◌∷◌, ◌++◌, suc, zero, Bool, true, false, Some, Result, Ok, Err, if◌then◌else◌, length, map, drop, refl, sym, ap, subst, ◌∙◌, arith}
+use Rattle.std.proofs.Common.{◌≡◌, ℕ, ◌+◌, ◌≤◌, List, [], ◌∷◌, ◌++◌, suc, zero, Bool, true, false, Option, Some, None, Result, Ok, Err, if◌then◌else◌, length, map, drop, refl, sym, ap, subst, ◌∙◌, arith}
 use Rattle.std.specs.Prelude.{◌==◌, ◌||◌, nat_lt, max, flat_map, IsSome, is_some, MatchResult}
 use Rattle.std.specs.List.{list_all}
 use Rattle.std.proofs.lemmas.Bool.Decides.{nat_tests}
@@ -7,7 +7,7 @@ use Rattle.collections.specs.ById.{find_id, put_id, put_all, IsById}
 use Rattle.collections.proofs.Ids.{IsById-put}
 use Rattle.collections.proofs.Finds.{same_by_id, find-put, key-found, IsById-put_all}
 use Rattle.guild_model.specs.Record.{closed, own_id}
-use Rattle.gateway_frames.specs.declared.out.Out.TheVariants.{Hello, Ack}
+use Rattle.gateway_frames.specs.declared.out.Out.TheVariants.{Hello, Ack, Resumed}
 use Rattle.dispatch_types.specs.declared.viewer.Viewer.{Viewer}
 use Rattle.edit_apply.specs.declared.Edit.{Edit}
 use Rattle.session_core.specs.declared.bot.Bot.{Bot}
@@ -15,10 +15,11 @@ use Rattle.session_core.specs.declared.fault.SessionFault.{SessionFault}
 use Rattle.session_core.specs.declared.fault.SessionFault.TheVariants as session
 use Rattle.session_core.specs.declared.reply.Reply.{Reply}
 use Rattle.session_core.specs.declared.reply.Reply.TheVariants as reply
-use Rattle.session_core.specs.State.{Session, Attached, has_link, open_replies, begun}
-use Rattle.session_core.specs.Rate.{noted}
+use Rattle.session_core.specs.State.{Session, Attached, has_link, open_replies}
 use Rattle.session_core.specs.Ends.{closes, silent_of, tick_replies}
-use Rattle.session_core.specs.Frames.{Move, Nothing, Answers, Shuts, Begins, move_of, move_replies, is_spent}
+use Rattle.session_core.specs.Frames.{Move, Nothing, Answers, Shuts, Begins, Denies, Resumes, move_of, move_replies, is_spent, none_sent, as_kept}
+use Rattle.session_core.specs.Resume.{resume_replies}
+use Rattle.replay_ring.specs.Replay.{Replay, fresh, texts_after}
 use Rattle.worker_core.specs.declared.replica.Replica.{Replica}
 use Rattle.worker_core.specs.declared.io.Output.{Output as Written}
 use Rattle.worker_core.specs.declared.io.StepFault.{StepFault}
@@ -29,7 +30,7 @@ use Rattle.worker_core.specs.Kept.{kept_looked, kept_sends}
 use Rattle.worker_core.specs.Outputs.{written, all_written}
 use Rattle.worker_core.specs.Spent.{is_past, kept_spends}
 use Rattle.worker_core.specs.Telling.{FaultBy, kept_with}
-use Rattle.worker_core.specs.Stands.{replica_id, replica, looked_replica, KeptWorker, Stands, Steps, Fails, after_look, after_open, after_frame, kept_count, kept_frame_sends, kept_frame_spends, after_lost, after_closed, after_tick, Greets, GreetsNot, Replies, RepliesNot, is_plain, plain}
+use Rattle.worker_core.specs.Stands.{replica_id, replica, looked_replica, KeptWorker, Stands, Steps, Fails, after_look, after_open, after_frame, kept_first, kept_start, kept_frame_sends, kept_frame_spends, after_lost, after_closed, after_tick, Greets, GreetsNot, Replies, RepliesNot, is_plain, plain}
 use Rattle.worker_core.proofs.Logs.{from_id}
 use Rattle.worker_core.proofs.Standing.{by_id_replicas, looks_at_one, opens, frames, losses, leaves, ticks}
 
@@ -88,7 +89,7 @@ module _ (k : KeptWorker) (g : ℕ) (es : List Edit) (r : Replica) (found : find
         ∙ ap (λ (rs : List Replica). record (record k { core = kept_with (kept_looked r.guild es k.core.sessions) k.core }) { replicas = rs }) (put_again ascending)))) in (
           subst (λ (h : KeptWorker). Stands h (taken w (Look g es))) (sym done) step.0,
           (
-            sent ∙ (ap (λ (h : KeptWorker). all_written (kept_sends r.guild es h.core.sessions)) one ∙ ap all_written (sym step.1.0)),
+            sent ∙ (ap (λ (h : KeptWorker). all_written (kept_sends r.guild es h.core.sessions)) one ∙ sym step.1.0),
             step.1.1 ∙ core,
           ),
         )
@@ -113,11 +114,13 @@ RepliedNot k1 fault replies = (list_all is_plain replies ≡ true → FaultBy fa
 pub plain_reply : (r : Reply) (old new : KeptWorker) (before out : List Written) → is_plain r ≡ true → Replies r old new before out → (new ≡ old) × (out ≡ before ++ plain r)
 plain_reply (reply.Send conn payload) old new before out is done = done
 plain_reply (reply.Close conn code) old new before out is done = done
+plain_reply (reply.Text conn text) old new before out is done = done
 plain_reply (reply.Begin n) old new before out is done = absurd (cc is)
 
 pub plain_fails : (r : Reply) (old : KeptWorker) (fault : StepFault) → is_plain r ≡ true → RepliesNot r old fault → FaultBy false fault
 plain_fails (reply.Send conn payload) old fault is done = done
 plain_fails (reply.Close conn code) old fault is done = done
+plain_fails (reply.Text conn text) old fault is done = done
 plain_fails (reply.Begin n) old fault is done = absurd (cc is)
 
 -- a session that begins is the only reply
@@ -139,7 +142,7 @@ module _ (k : KeptWorker) (w : Worker) (stands : Stands k w) (conn : ℕ) (k1 : 
   open_made new out replied =
       let step = opens k w stands conn in
       let both = by_room (has_link conn k.core) (nat_lt (length k.core.links) 64) replied in
-      (subst (λ (h : KeptWorker). Stands h (taken w (Open conn))) (sym (both.0 ∙ moved_to)) step.0, (both.1 ∙ ap all_written (sym step.1.0), step.1.1))
+      (subst (λ (h : KeptWorker). Stands h (taken w (Open conn))) (sym (both.0 ∙ moved_to)) step.0, (both.1 ∙ sym step.1.0, step.1.1))
     where
       by_room : (b c : Bool) → let replies = if b then [] else (if c then reply.Send conn (Hello 41250) ∷ [] else reply.Close conn 4000 ∷ []) in
           Replied k k1 new out replies → (new ≡ k1) × (out ≡ all_written (if b then [] else (if c then Says conn (Hello 41250) ∷ [] else Closes conn 4000 ∷ [])))
@@ -165,67 +168,72 @@ module _ (k : KeptWorker) (w : Worker) (stands : Stands k w) (conn : ℕ) (k1 : 
 
 -- a frame
 module _ (k : KeptWorker) (conn : ℕ) where
-  abbrev none_yet : Bot → Viewer → ℕ → ℕ
-  none_yet bot v n = 0
-
   -- the session that has begun
-  abbrev begun_with : Bot → Viewer → ℕ → Session ℕ
-  begun_with bot v count = record { number = k.core.made + 1; token = bot.token; name = bot.name; viewer = v; place = Attached conn; sent = count }
+  abbrev begun_with : Bot → Viewer → Session Replay
+  begun_with bot v = record { number = k.core.made + 1; token = bot.token; name = bot.name; viewer = v; place = Attached conn; sent = fresh 1024 4194304 }
 
   abbrev first_count : Bot → Viewer → ℕ
-  first_count bot v = kept_count k bot v (k.core.made + 1)
+  first_count bot v = length (kept_first k v bot.name (k.core.made + 1))
 
-  none_more : (n : ℕ) → 0 + n ≡ n
-  none_more n = omega arith
+  texts_plain : (texts : List (List ℕ)) (rest : List Reply) → list_all is_plain rest ≡ true → list_all is_plain (map (λ text. reply.Text conn text) texts ++ rest) ≡ true
+  texts_plain [] rest all = all
+  texts_plain (t ∷ texts) rest all = texts_plain texts rest all
 
-  move_made : (k1 new : KeptWorker) (out : List Written) (move : Move) → k1 ≡ after_frame k conn move none_yet → is_spent move k.core ≡ false
+  resume_plain : (older : Option ℕ) (seq : ℕ) (held : Replay) → list_all is_plain (resume_replies conn older seq held) ≡ true
+  resume_plain None seq held = texts_plain (texts_after held seq) (reply.Send conn (Resumed held.last) ∷ []) refl
+  resume_plain (Some c) seq held = texts_plain (texts_after held seq) (reply.Send conn (Resumed held.last) ∷ []) refl
+
+  move_made : (k1 new : KeptWorker) (out : List Written) (move : Move) → k1 ≡ after_frame k conn move none_sent → is_spent move k.core ≡ false
       → Replied k k1 new out (move_replies conn move k.core)
-      → (new ≡ after_frame k conn move (kept_count k)) × ((out ≡ all_written (kept_frame_sends k conn move)) × (kept_frame_spends k move ≡ false))
+      → (new ≡ after_frame k conn move (kept_start k)) × ((out ≡ kept_frame_sends k conn move) × (kept_frame_spends k move ≡ false))
   move_made k1 new out Nothing is counted told = ((told.0 refl).0 ∙ is, ((told.0 refl).1, refl))
   move_made k1 new out Answers is counted told = ((told.0 refl).0 ∙ is, ((told.0 refl).1, refl))
   move_made k1 new out (Shuts code) is counted told = ((told.0 refl).0 ∙ is, ((told.0 refl).1, refl))
   move_made k1 new out (Begins bot v) is counted told = from_start k1 is (told.1 (k.core.made + 1) refl)
     where
-      from_start : (k1 : KeptWorker) → k1 ≡ after_frame k conn (Begins bot v) none_yet → Greets k1 (k.core.made + 1) new [] out
-          → (new ≡ after_frame k conn (Begins bot v) (kept_count k)) × ((out ≡ all_written (kept_frame_sends k conn (Begins bot v))) × (kept_frame_spends k (Begins bot v) ≡ false))
+      from_start : (k1 : KeptWorker) → k1 ≡ after_frame k conn (Begins bot v) none_sent → Greets k1 (k.core.made + 1) new [] out
+          → (new ≡ after_frame k conn (Begins bot v) (kept_start k)) × ((out ≡ kept_frame_sends k conn (Begins bot v)) × (kept_frame_spends k (Begins bot v) ≡ false))
       from_start k1 is greets =
           let here = subst (λ (h : KeptWorker). Greets h (k.core.made + 1) new [] out) is greets in
-          let all = here k.core.sessions (begun_with bot v 0) refl in (
-            all.0 ∙ ap (λ n. record k { core = kept_with (k.core.sessions ++ begun_with bot v n ∷ []) (noted conn k.now (begun conn bot v (none_yet bot v) k.core)) }) (none_more (first_count bot v)),
-            (
-              all.1.0,
-              ap (λ b. b || is_past 0 (first_count bot v)) counted ∙ all.1.1,
-            ),
-          )
+          let all = here k.core.sessions (begun_with bot v) refl in
+          (all.0, (all.1.0, ap (λ b. b || is_past 0 (first_count bot v)) counted ∙ all.1.1))
+  move_made k1 new out Denies is counted told = ((told.0 refl).0 ∙ is, ((told.0 refl).1, refl))
+  move_made k1 new out (Resumes number older seq held) is counted told =
+      let plain = told.0 (resume_plain older seq held) in
+      (plain.0 ∙ is, (plain.1, refl))
 
-  move_fails : (k1 : KeptWorker) (fault : StepFault) (move : Move) → k1 ≡ after_frame k conn move none_yet → is_spent move k.core ≡ false
+  move_fails : (k1 : KeptWorker) (fault : StepFault) (move : Move) → k1 ≡ after_frame k conn move none_sent → is_spent move k.core ≡ false
       → RepliedNot k1 fault (move_replies conn move k.core) → FaultBy (kept_frame_spends k move) fault
   move_fails k1 fault Nothing is counted told = told.0 refl
   move_fails k1 fault Answers is counted told = told.0 refl
   move_fails k1 fault (Shuts code) is counted told = told.0 refl
   move_fails k1 fault (Begins bot v) is counted told =
       let here = subst (λ (h : KeptWorker). GreetsNot h (k.core.made + 1) fault) is (told.1 (k.core.made + 1) refl) in
-      let past = here k.core.sessions (begun_with bot v 0) refl in
+      let past = here k.core.sessions (begun_with bot v) refl in
       subst (λ b. FaultBy (b || is_past 0 (first_count bot v)) fault) (sym counted) past
+  move_fails k1 fault Denies is counted told = told.0 refl
+  move_fails k1 fault (Resumes number older seq held) is counted told = told.0 (resume_plain older seq held)
 
   spent_frame : (move : Move) → is_spent move k.core ≡ true → kept_frame_spends k move ≡ true
   spent_frame Nothing e = e
   spent_frame Answers e = e
   spent_frame (Shuts code) e = e
   spent_frame (Begins bot v) e = ap (λ b. b || is_past 0 (first_count bot v)) e
+  spent_frame Denies e = e
+  spent_frame (Resumes number older seq held) e = e
 
   module _ (w : Worker) (stands : Stands k w) (text : List ℕ) where
     abbrev move : Move
-    move = move_of k.core k.now conn text
+    move = move_of as_kept k.core k.now conn text
 
-    pub frame_made : (k1 new : KeptWorker) (out : List Written) → k1 ≡ after_frame k conn move none_yet → is_spent move k.core ≡ false
+    pub frame_made : (k1 new : KeptWorker) (out : List Written) → k1 ≡ after_frame k conn move none_sent → is_spent move k.core ≡ false
         → Replied k k1 new out (move_replies conn move k.core) → Steps w (Frame conn text) new out
     frame_made k1 new out is counted told =
         let step = frames k w stands conn text in
         let all = move_made k1 new out move is counted told in
-        (subst (λ (h : KeptWorker). Stands h (taken w (Frame conn text))) (sym all.0) step.0, (all.1.0 ∙ ap all_written (sym step.1.0), step.1.1 ∙ all.1.1))
+        (subst (λ (h : KeptWorker). Stands h (taken w (Frame conn text))) (sym all.0) step.0, (all.1.0 ∙ sym step.1.0, step.1.1 ∙ all.1.1))
 
-    pub frame_fails : (k1 : KeptWorker) (fault : StepFault) → k1 ≡ after_frame k conn move none_yet → is_spent move k.core ≡ false
+    pub frame_fails : (k1 : KeptWorker) (fault : StepFault) → k1 ≡ after_frame k conn move none_sent → is_spent move k.core ≡ false
         → RepliedNot k1 fault (move_replies conn move k.core) → Fails w (Frame conn text) fault
     frame_fails k1 fault is counted told = subst (λ b. FaultBy b fault) (sym (frames k w stands conn text).1.1) (move_fails k1 fault move is counted told)
 
@@ -233,7 +241,7 @@ module _ (k : KeptWorker) (conn : ℕ) where
     frame_spent e = (frames k w stands conn text).1.1 ∙ spent_frame move e
 
     pub frame_ends : {V : Type 0} (items : V → List Written) (result : Result V StepFault) (k1 new : KeptWorker) (replies : List Reply) → replies ≡ move_replies conn move k.core
-        → k1 ≡ after_frame k conn move none_yet → is_spent move k.core ≡ false
+        → k1 ≡ after_frame k conn move none_sent → is_spent move k.core ≡ false
         → (list_all is_plain replies ≡ true → MatchResult result (λ out. (new ≡ k1) × (items out ≡ flat_map plain replies)) (FaultBy false))
         → ((n : ℕ) → replies ≡ reply.Begin n ∷ [] → MatchResult result (λ out. Greets k1 n new [] (items out)) (GreetsNot k1 n))
         → MatchResult result (λ out. Steps w (Frame conn text) new (items out)) (Fails w (Frame conn text))
@@ -276,7 +284,7 @@ module _ (k : KeptWorker) (w : Worker) (stands : Stands k w) where
         let step = ticks k w stands now in
         let done = all (ap (list_all is_plain) is ∙ are_plain (silent_of moment k.core.links)) in (
           subst (λ (h : KeptWorker). Stands h (taken w (Tick now))) (sym (done.0 ∙ moved_to)) step.0,
-          (done.1 ∙ (ap (flat_map plain) is ∙ (plain_closes (silent_of moment k.core.links) ∙ ap all_written (sym step.1.0))), refl),
+          (done.1 ∙ (ap (flat_map plain) is ∙ (plain_closes (silent_of moment k.core.links) ∙ sym step.1.0)), refl),
         )
     tick_ends items (Err fault) k1 new replies is moved_to all = all (ap (list_all is_plain) is ∙ are_plain (silent_of moment k.core.links))
 

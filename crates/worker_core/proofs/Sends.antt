@@ -1,22 +1,26 @@
 -- Each dispatch that goes out has its number in the session that the connection has.
-use Rattle.std.proofs.Common.{◌≡◌, ℕ, ◌+◌, List, [], ◌∷◌, ◌++◌, Bool, true, false, if◌then◌else◌, length, map, refl, sym, ap, subst, ◌∙◌, append_assoc, inl, inr}
+use Rattle.std.proofs.Common.{◌≡◌, ℕ, ◌+◌, ◌≤◌, List, [], ◌∷◌, ◌++◌, Bool, true, false, Option, Some, None, take, drop, if◌then◌else◌, length, map, refl, sym, ap, subst, ◌∙◌, append_assoc, inl, inr}
 use Rattle.std.specs.Prelude.{All, flat_map, max, nat_lt}
 use Rattle.std.proofs.lemmas.List.Elements.{All-append, All-cons, All-nil, All-weaker}
-use Rattle.std.proofs.lemmas.List.{length-append, length-map}
+use Rattle.std.proofs.lemmas.List.{length-append, length-map, length-take-le, take-append-drop}
 use Rattle.dispatch_types.specs.declared.dispatch.Dispatch.{Dispatch}
 use Rattle.dispatch_types.specs.declared.viewer.Viewer.{Viewer}
 use Rattle.dispatch_types.specs.Fold.{contains}
 use Rattle.edit_apply.specs.declared.Edit.{Edit}
-use Rattle.gateway_frames.specs.declared.out.Out.TheVariants.{Hello, Ack}
+use Rattle.gateway_frames.specs.declared.out.Out.TheVariants.{Hello, Ack, Invalid, Resumed}
 use Rattle.session_core.specs.declared.bot.Bot.{Bot}
 use Rattle.session_core.specs.declared.reply.Mark.TheVariants.{Start, Entry}
 use Rattle.session_core.specs.State.{State, Session, Place, Attached, Detached, Ended, is_on, has_link, opened, gone}
-use Rattle.session_core.specs.Frames.{Move, Nothing, Answers, Shuts, Begins, move_of}
+use Rattle.replay_ring.specs.Replay.{Replay}
+use Rattle.session_core.specs.Frames.{Move, Nothing, Answers, Shuts, Begins, Denies, Resumes, move_of}
 use Rattle.session_core.specs.Ends.{silent_of}
-use Rattle.worker_core.specs.World.{Seen, cursors, seen_with, Told, told, Sent, Worker, Output, Says, Tells, Closes, sends, after_entry, entry_owed, entry_sends, entered, looked, look_sends, first_dispatches, begins_with, Look, Open, Frame, Lost, Closed, Tick, framed, frame_sends, open_sends, taken}
-use Rattle.worker_core.specs.Law.{dispatch_of, IsNumber, HasSent, OutputHolds, EachSendHolds}
+use Rattle.worker_core.specs.World.{Seen, cursors, seen_with, Told, told, dispatch_of, Sent, dispatches, texts_from, replay, older_sends, resent, numbered, Worker, Output, Says, Tells, Closes, sends, after_entry, entry_owed, entry_sends, entered, looked, look_sends, first_dispatches, begins_with, Look, Open, Frame, Lost, Closed, Tick, framed, frame_sends, open_sends, taken}
+use Rattle.worker_core.specs.Law.{IsNumber, HasSent, OutputHolds, EachSendHolds}
 use Rattle.worker_core.proofs.Lists.{map_join}
 use Rattle.worker_core.proofs.Folds.{dispatches_told, same_id}
+use Rattle.worker_core.proofs.Replays.{length_texts}
+use Rattle.worker_core.proofs.Resumes.{Fits, IsOf, fits_text}
+use Rattle.worker_core.proofs.GoesOn.{resumed_has}
 
 -- numbers stay
 number_stays : (n : ℕ) (d : Dispatch) (xs ys : List Dispatch) → IsNumber n d xs → IsNumber n d (xs ++ ys)
@@ -103,11 +107,36 @@ start_holds w conn bot v =
 one_holds : (xs : List (Session Sent)) (o : Output) → OutputHolds xs o → All (OutputHolds xs) (o ∷ [])
 one_holds xs o h = All-cons (OutputHolds xs) o [] h (All-nil (OutputHolds xs))
 
-frame_holds : (w : Worker) (conn : ℕ) (move : Move) → All (OutputHolds (framed w conn move).core.sessions) (frame_sends w conn move)
-frame_holds w conn Nothing = All-nil (OutputHolds w.core.sessions)
-frame_holds w conn Answers = one_holds w.core.sessions (Says conn Ack) tt
-frame_holds w conn (Shuts code) = one_holds (gone conn (Detached w.now) w.core).sessions (Closes conn code) tt
-frame_holds w conn (Begins bot v) = start_holds w conn bot v
+older_holds : (xs : List (Session Sent)) (older : Option ℕ) → All (OutputHolds xs) (older_sends older)
+older_holds xs None = All-nil (OutputHolds xs)
+older_holds xs (Some c) = one_holds xs (Closes c 4000) tt
+
+-- a session that goes on is sent what it was sent
+goes_on_holds : (w : Worker) (conn number : ℕ) (older : Option ℕ) (seq : ℕ) (held : Replay) → IsOf w.core number seq held
+    → All (OutputHolds (framed w conn (Resumes number older seq held)).core.sessions) (frame_sends w conn (Resumes number older seq held))
+goes_on_holds w conn number older seq held of =
+    let x : Session Sent = of.session in
+    let ys : List (Session Sent) = (framed w conn (Resumes number older seq held)).core.sessions in
+    let ds : List Dispatch = dispatches x.sent in
+    let count : length (texts_from 0 ds) ≡ length ds = length_texts 0 ds in
+    let last : (replay x.sent).last ≡ held.last = ap (λ (r : Replay). r.last) of.same in
+    let within : seq ≤ length ds = subst (λ n. seq ≤ n) (sym last ∙ count) of.high in
+    let again : All (OutputHolds ys) (sends (Attached conn) seq (drop seq ds)) =
+    subst (λ (n : ℕ). All (OutputHolds ys) (sends (Attached conn) n (drop seq ds))) (length-take-le seq ds within)
+    (sends_from ys conn ds (λ n d is. resumed_has w.core conn w.now x number of.found older n d is) (take seq ds) (drop seq ds) (sym (take-append-drop seq ds))) in
+    All-append (OutputHolds ys) (older_sends older) (resent conn seq (numbered number w.core.sessions) ++ Says conn (Resumed held.last) ∷ [])
+    (older_holds ys older)
+    (All-append (OutputHolds ys) (resent conn seq (numbered number w.core.sessions)) (Says conn (Resumed held.last) ∷ [])
+    (subst (λ (o : Option (Session Sent)). All (OutputHolds ys) (resent conn seq o)) (sym of.found) again)
+    (one_holds ys (Says conn (Resumed held.last)) tt))
+
+frame_holds : (w : Worker) (conn : ℕ) (move : Move) → Fits w.core move → All (OutputHolds (framed w conn move).core.sessions) (frame_sends w conn move)
+frame_holds w conn Nothing fits = All-nil (OutputHolds w.core.sessions)
+frame_holds w conn Answers fits = one_holds w.core.sessions (Says conn Ack) tt
+frame_holds w conn (Shuts code) fits = one_holds (gone conn (Detached w.now) w.core).sessions (Closes conn code) tt
+frame_holds w conn (Begins bot v) fits = start_holds w conn bot v
+frame_holds w conn Denies fits = one_holds w.core.sessions (Says conn (Invalid false)) tt
+frame_holds w conn (Resumes number older seq held) fits = goes_on_holds w conn number older seq held fits
 
 open_holds : (w : Worker) (conn : ℕ) → All (OutputHolds (opened conn w.now w.core).sessions) (open_sends conn w.core)
 open_holds w conn = by_link (has_link conn w.core) (nat_lt (length w.core.links) 64)
@@ -130,7 +159,7 @@ each_send_holds w (Look g es) = by_there (contains g w.guilds)
     by_there true = look_holds es w g
     by_there false = All-nil (OutputHolds w.core.sessions)
 each_send_holds w (Open conn) = open_holds w conn
-each_send_holds w (Frame conn text) = frame_holds w conn (move_of w.core w.now conn text)
+each_send_holds w (Frame conn text) = frame_holds w conn (move_of replay w.core w.now conn text) (fits_text w conn text)
 each_send_holds w (Lost conn) = All-nil (OutputHolds (taken w (Lost conn)).core.sessions)
 each_send_holds w (Closed conn code) = All-nil (OutputHolds (taken w (Closed conn code)).core.sessions)
 each_send_holds w (Tick now) = tick_holds (taken w (Tick now)).core.sessions (silent_of (max w.now now) w.core.links)

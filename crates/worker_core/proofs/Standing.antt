@@ -17,19 +17,22 @@ use Rattle.edit_apply.specs.Edits.{state}
 use Rattle.edit_apply.specs.declared.Edit.{Edit}
 use Rattle.session_core.specs.declared.bot.Bot.{Bot}
 use Rattle.session_core.specs.State.{State, Attached, opened, begun}
-use Rattle.session_core.specs.Frames.{Move, Nothing, Answers, Shuts, Begins, move_of, moved, framed as with_frame, is_spent}
+use Rattle.replay_ring.specs.Replay.{Replay, fresh, pushed_all}
+use Rattle.session_core.specs.declared.reply.Mark.TheVariants.{Start}
+use Rattle.session_core.specs.Frames.{Move, Nothing, Answers, Shuts, Begins, Denies, Resumes, move_of, moved, framed as with_frame, is_spent, as_kept}
 use Rattle.session_core.specs.Rate.{noted}
 use Rattle.session_core.specs.Ends.{lost, client_closed, ticked}
 use Rattle.worker_core.specs.declared.replica.Replica.{Replica}
-use Rattle.worker_core.specs.World.{Seen, Worker, Input, cursors, tick_sends, entered, looked, look_sends, Look, Open, Frame, Lost, Closed, Tick, framed, frame_sends, open_sends, first_dispatches, listed_guilds, greeting_of, ready, sends, Output}
+use Rattle.worker_core.specs.World.{Seen, Worker, Input, cursors, tick_sends, entered, looked, look_sends, Look, Open, Frame, Lost, Closed, Tick, framed, frame_sends, open_sends, first_dispatches, listed_guilds, greeting_of, ready, sends, texts_from, replay}
 use Rattle.worker_core.specs.Kept.{kept, kept_session, kept_looked, kept_sends}
-use Rattle.worker_core.specs.Stands.{replica_id, replica, looked_replica, KeptWorker, Stands, after_look, after_open, after_frame, after_lost, after_closed, after_tick, LossesStand, LeavesStand, TicksStand, kept_listed, kept_greeting, kept_ready, kept_first, kept_count, kept_frame_sends, kept_frame_spends, IsStep, Steps, LooksStand, LooksPast, OpensStand, FramesStand}
+use Rattle.worker_core.specs.Stands.{replica_id, replica, looked_replica, KeptWorker, Stands, after_look, after_open, after_frame, after_lost, after_closed, after_tick, LossesStand, LeavesStand, TicksStand, kept_listed, kept_greeting, kept_ready, kept_first, kept_start, kept_frame_sends, kept_frame_spends, IsStep, LooksStand, LooksPast, OpensStand, FramesStand}
 use Rattle.worker_core.specs.Outputs.{all_written}
-use Rattle.worker_core.specs.declared.io.Output.{Output as Written}
 use Rattle.worker_core.specs.Spent.{is_past, look_spends, frame_spends, kept_spends}
 use Rattle.worker_core.proofs.Folds.{state_join, same_id}
 use Rattle.worker_core.proofs.Worlds.{looked_seen}
-use Rattle.worker_core.proofs.Kept.{look_kept, look_sent, look_spent, move_kept, framed_kept, opened_kept, begins_count, lost_kept, closed_kept, ticked_kept}
+use Rattle.worker_core.proofs.Replays.{replay_first}
+use Rattle.worker_core.proofs.Resumes.{Fits, fits_text, resumes_out}
+use Rattle.worker_core.proofs.Kept.{look_kept, look_sent, look_spent, move_kept, framed_kept, opened_kept, begins_kept, lost_kept, closed_kept, ticked_kept}
 
 -- a list of ids contains what it finds
 contains_found : (id : ℕ) (gs : List ℕ) → contains id gs ≡ has_id own_id id gs
@@ -127,14 +130,14 @@ module _ (k : KeptWorker) (w : Worker) (stands : Stands k w) where
       by_found (Some n) e = absurd (cc (none, ap (λ rs. find_id replica_id g rs) stands.replicas, find_replica w.seen g w.guilds, ap (λ o. option_map (replica w.seen) o) e))
 
   pub looks_at_one : (g : ℕ) (es : List Edit) (r : Replica) → find_id replica_id g k.replicas ≡ Some r
-      → IsStep w (Look g es) (after_look k r es) (kept_sends r.guild es k.core.sessions) (kept_spends r.guild es k.core.sessions)
+      → IsStep w (Look g es) (after_look k r es) (all_written (kept_sends r.guild es k.core.sessions)) (kept_spends r.guild es k.core.sessions)
   looks_at_one g es r found = by_found (find_id own_id g w.guilds) refl
     where
       here : find_id replica_id g (map (replica w.seen) w.guilds) ≡ Some r
       here = ap (λ rs. find_id replica_id g rs) (sym stands.replicas) ∙ found
 
       by_found : (o : Option ℕ) → find_id own_id g w.guilds ≡ o
-          → IsStep w (Look g es) (after_look k r es) (kept_sends r.guild es k.core.sessions) (kept_spends r.guild es k.core.sessions)
+          → IsStep w (Look g es) (after_look k r es) (all_written (kept_sends r.guild es k.core.sessions)) (kept_spends r.guild es k.core.sessions)
       by_found None e = absurd (cc (here, find_replica w.seen g w.guilds, ap (λ o. option_map (replica w.seen) o) e))
       by_found (Some n) e =
           let one : n ≡ g = key-found own_id g w.guilds n e in
@@ -142,7 +145,7 @@ module _ (k : KeptWorker) (w : Worker) (stands : Stands k w) where
           let some : Some (replica w.seen n) ≡ Some r = sym (find_replica w.seen g w.guilds ∙ ap (λ o. option_map (replica w.seen) o) e) ∙ here in
           let found : replica w.seen n ≡ r = cc some in
           let is : replica w.seen g ≡ r = ap (λ n. replica w.seen n) (sym one) ∙ found in
-          let whole : Stands (after_look k r es) (looked w g es) × ((look_sends w g es ≡ kept_sends r.guild es k.core.sessions) × (look_spends w g es ≡ kept_spends r.guild es k.core.sessions)) = (
+          let whole : Stands (after_look k r es) (looked w g es) × ((all_written (look_sends w g es) ≡ all_written (kept_sends r.guild es k.core.sessions)) × (look_spends w g es ≡ kept_spends r.guild es k.core.sessions)) = (
             record {
               goes_on = stands.goes_on;
               url = stands.url ∙ sym (looked_url es w g);
@@ -151,22 +154,23 @@ module _ (k : KeptWorker) (w : Worker) (stands : Stands k w) where
               replicas = ap (λ rs. put_id replica_id (looked_replica r es) rs) stands.replicas
                   ∙ (ap (λ r. put_id replica_id (looked_replica r es) (map (replica w.seen) w.guilds)) (sym is)
                   ∙ (replicas_looked es w g stands.guilds there ∙ ap (λ gs. map (replica (looked w g es).seen) gs) (sym (looked_guilds es w g))));
-              core = ap (λ (c : State ℕ). record c { sessions = kept_looked r.guild es c.sessions }) stands.core
+              core = ap (λ (c : State Replay). record c { sessions = kept_looked r.guild es c.sessions }) stands.core
                   ∙ (ap (λ (r : Replica). record (kept w.core) { sessions = kept_looked r.guild es (flat_map kept_session w.core.sessions) }) (sym is)
                   ∙ sym (looked_core es w g));
             },
             (
-              look_sent es w g
+              ap all_written
+                  (look_sent es w g
                   ∙ (ap (λ (r : Replica). kept_sends r.guild es (flat_map kept_session w.core.sessions)) is
-                  ∙ ap (λ (c : State ℕ). kept_sends r.guild es c.sessions) (sym stands.core)),
+                  ∙ ap (λ (c : State Replay). kept_sends r.guild es c.sessions) (sym stands.core))),
               look_spent es w g
                   ∙ (ap (λ (r : Replica). kept_spends r.guild es (flat_map kept_session w.core.sessions)) is
-                  ∙ ap (λ (c : State ℕ). kept_spends r.guild es c.sessions) (sym stands.core)),
+                  ∙ ap (λ (c : State Replay). kept_spends r.guild es c.sessions) (sym stands.core)),
             ),
           ) in
           simp there whole
 
-  pub opens : (conn : ℕ) → IsStep w (Open conn) (after_open k conn) (open_sends conn k.core) false
+  pub opens : (conn : ℕ) → IsStep w (Open conn) (after_open k conn) (all_written (open_sends conn k.core)) false
   opens conn = (
     record {
       goes_on = stands.goes_on;
@@ -176,7 +180,7 @@ module _ (k : KeptWorker) (w : Worker) (stands : Stands k w) where
       replicas = stands.replicas;
       core = ap (λ c. opened conn k.now c) stands.core ∙ (ap (λ n. opened conn n (kept w.core)) stands.now ∙ sym (opened_kept w.core conn w.now));
     },
-    (sym (ap (λ (c : State ℕ). open_sends conn c) stands.core), refl),
+    (sym (ap (λ (c : State Replay). all_written (open_sends conn c)) stands.core), refl),
   )
 
   -- the first dispatches of a session
@@ -201,63 +205,73 @@ module _ (k : KeptWorker) (w : Worker) (stands : Stands k w) where
   pub first_kept : (v : Viewer) (bot : Bot) (n : ℕ) → kept_first k v bot.name n ≡ first_dispatches w v bot n
   first_kept v bot n =
       let creates : flat_map (kept_greeting v) k.replicas ≡ flat_map (greeting_of w v) w.guilds = ap (λ rs. flat_map (kept_greeting v) rs) stands.replicas ∙ greetings v w.guilds in
-      let same : kept_ready k v bot.name n ≡ ready w v bot n = cc (listed v, stands.url, ap (λ (c : State ℕ). c.worker) stands.core) in
+      let same : kept_ready k v bot.name n ≡ ready w v bot n = cc (listed v, stands.url, ap (λ (c : State Replay). c.worker) stands.core) in
       cc (creates, same)
 
-  frames_move : (conn : ℕ) (text : List ℕ) → move_of k.core k.now conn text ≡ move_of w.core w.now conn text
+  frames_move : (conn : ℕ) (text : List ℕ) → move_of as_kept k.core k.now conn text ≡ move_of replay w.core w.now conn text
   frames_move conn text =
-      ap (λ (c : State ℕ). move_of c k.now conn text) stands.core
-      ∙ (ap (λ n. move_of (kept w.core) n conn text) stands.now ∙ sym (move_kept w.core w.now conn text))
+      ap (λ (c : State Replay). move_of as_kept c k.now conn text) stands.core
+      ∙ (ap (λ n. move_of as_kept (kept w.core) n conn text) stands.now ∙ sym (move_kept w.core w.now conn text))
 
-  moved_by : (conn : ℕ) (move : Move) → with_frame conn k.now (kept_count k) move k.core ≡ kept (framed w conn move).core
+  moved_by : (conn : ℕ) (move : Move) → with_frame conn k.now (kept_start k) move k.core ≡ kept (framed w conn move).core
   moved_by conn move =
-      ap (λ c. with_frame conn k.now (kept_count k) move c) stands.core
-      ∙ (ap (λ n. with_frame conn n (kept_count k) move (kept w.core)) stands.now
+      ap (λ c. with_frame conn k.now (kept_start k) move c) stands.core
+      ∙ (ap (λ n. with_frame conn n (kept_start k) move (kept w.core)) stands.now
       ∙ (ap (noted conn w.now) (by_move move) ∙ sym (framed_kept w conn w.now move)))
     where
-      same_count : (bot : Bot) (v : Viewer) (n : ℕ) → kept_count k bot v n ≡ begins_count w bot v n
-      same_count bot v n = ap (λ ds. length ds) (first_kept v bot n) ∙ sym (length-map (first_dispatches w v bot n) _)
+      same_start : (bot : Bot) (v : Viewer) (n : ℕ) → kept_start k bot v n ≡ begins_kept w bot v n
+      same_start bot v n =
+          ap (λ ds. pushed_all (fresh 1024 4194304) (texts_from 0 ds)) (first_kept v bot n)
+          ∙ sym (replay_first None Start (cursors w.seen) (cursors w.seen) (first_dispatches w v bot n))
 
-      by_move : (move : Move) → moved conn w.now (kept_count k) move (kept w.core) ≡ moved conn w.now (begins_count w) move (kept w.core)
+      by_move : (move : Move) → moved conn w.now (kept_start k) move (kept w.core) ≡ moved conn w.now (begins_kept w) move (kept w.core)
       by_move Nothing = refl
       by_move Answers = refl
       by_move (Shuts code) = refl
-      by_move (Begins bot v) = ap (λ count. record (begun conn bot v (λ n. 0) (kept w.core)) {
-        sessions = (kept w.core).sessions ++ record { number = w.core.made + 1; token = bot.token; name = bot.name; viewer = v; place = Attached conn; sent = count } ∷ [];
-      }) (same_count bot v (w.core.made + 1))
+      by_move (Begins bot v) = ap (λ start. record (begun conn bot v (λ n. fresh 1024 4194304) (kept w.core)) {
+        sessions = (kept w.core).sessions ++ record { number = w.core.made + 1; token = bot.token; name = bot.name; viewer = v; place = Attached conn; sent = start } ∷ [];
+      }) (same_start bot v (w.core.made + 1))
+      by_move Denies = refl
+      by_move (Resumes number older seq held) = refl
 
-  sent_by : (conn : ℕ) (move : Move) → frame_sends w conn move ≡ kept_frame_sends k conn move
-  sent_by conn Nothing = refl
-  sent_by conn Answers = refl
-  sent_by conn (Shuts code) = refl
-  sent_by conn (Begins bot v) =
-      ap (λ (c : State ℕ). sends (Attached conn) 0 (first_dispatches w v bot (c.made + 1))) (sym stands.core)
-      ∙ ap (λ ds. sends (Attached conn) 0 ds) (sym (first_kept v bot (k.core.made + 1)))
+  sent_by : (conn : ℕ) (move : Move) → Fits w.core move → all_written (frame_sends w conn move) ≡ kept_frame_sends k conn move
+  sent_by conn Nothing fits = refl
+  sent_by conn Answers fits = refl
+  sent_by conn (Shuts code) fits = refl
+  sent_by conn (Begins bot v) fits =
+      ap all_written
+      (ap (λ (c : State Replay). sends (Attached conn) 0 (first_dispatches w v bot (c.made + 1))) (sym stands.core)
+      ∙ ap (λ ds. sends (Attached conn) 0 ds) (sym (first_kept v bot (k.core.made + 1))))
+  sent_by conn Denies fits = refl
+  sent_by conn (Resumes number older seq held) fits = resumes_out w conn number older seq held fits
 
   spent_by : (move : Move) → frame_spends w move ≡ kept_frame_spends k move
   spent_by Nothing = refl
   spent_by Answers = refl
   spent_by (Shuts code) = refl
   spent_by (Begins bot v) =
-      ap (λ (c : State ℕ). is_spent (Begins bot v) c || is_past 0 (length (first_dispatches w v bot (c.made + 1)))) (sym stands.core)
+      ap (λ (c : State Replay). is_spent (Begins bot v) c || is_past 0 (length (first_dispatches w v bot (c.made + 1)))) (sym stands.core)
       ∙ ap (λ ds. is_spent (Begins bot v) k.core || is_past 0 (length ds)) (sym (first_kept v bot (k.core.made + 1)))
+  spent_by Denies = refl
+  spent_by (Resumes number older seq held) = refl
 
-  pub frames : (conn : ℕ) (text : List ℕ) → let move = move_of k.core k.now conn text in
-      IsStep w (Frame conn text) (after_frame k conn move (kept_count k)) (kept_frame_sends k conn move) (kept_frame_spends k move)
-  frames conn text = (
-    record {
-      goes_on = stands.goes_on;
-      url = stands.url;
-      now = stands.now;
-      guilds = stands.guilds;
-      replicas = stands.replicas;
-      core = ap (λ m. with_frame conn k.now (kept_count k) m k.core) (frames_move conn text) ∙ moved_by conn (move_of w.core w.now conn text);
-    },
-    (
-      ap (λ m. frame_sends w conn m) (sym (frames_move conn text)) ∙ sent_by conn (move_of k.core k.now conn text),
-      ap (λ m. frame_spends w m) (sym (frames_move conn text)) ∙ spent_by (move_of k.core k.now conn text),
-    ),
-  )
+  pub frames : (conn : ℕ) (text : List ℕ) → let move = move_of as_kept k.core k.now conn text in
+      IsStep w (Frame conn text) (after_frame k conn move (kept_start k)) (kept_frame_sends k conn move) (kept_frame_spends k move)
+  frames conn text =
+      let move : Move = move_of replay w.core w.now conn text in (
+        record {
+          goes_on = stands.goes_on;
+          url = stands.url;
+          now = stands.now;
+          guilds = stands.guilds;
+          replicas = stands.replicas;
+          core = ap (λ m. with_frame conn k.now (kept_start k) m k.core) (frames_move conn text) ∙ moved_by conn move;
+        },
+        (
+          sent_by conn move (fits_text w conn text) ∙ ap (kept_frame_sends k conn) (sym (frames_move conn text)),
+          spent_by move ∙ ap (kept_frame_spends k) (sym (frames_move conn text)),
+        ),
+      )
 
 -- what ends, or is lost
 module _ (k : KeptWorker) (w : Worker) (stands : Stands k w) where
@@ -288,7 +302,7 @@ module _ (k : KeptWorker) (w : Worker) (stands : Stands k w) where
     (refl, refl),
   )
 
-  pub ticks : (now : ℕ) → IsStep w (Tick now) (after_tick k (max k.now now)) (tick_sends (max k.now now) k.core) false
+  pub ticks : (now : ℕ) → IsStep w (Tick now) (after_tick k (max k.now now)) (all_written (tick_sends (max k.now now) k.core)) false
   ticks now = (
     record {
       goes_on = stands.goes_on;
@@ -299,7 +313,7 @@ module _ (k : KeptWorker) (w : Worker) (stands : Stands k w) where
       core = ap (λ c. ticked (λ x. []) (max k.now now) c) stands.core
           ∙ (ap (λ n. ticked (λ x. []) (max n now) (kept w.core)) stands.now ∙ sym (ticked_kept (cursors w.seen) w.core (max w.now now)));
     },
-    (ap (λ n. tick_sends (max n now) w.core) (sym stands.now) ∙ ap (λ (c : State ℕ). tick_sends (max k.now now) c) (sym stands.core), refl),
+    (ap all_written (ap (λ n. tick_sends (max n now) w.core) (sym stands.now) ∙ ap (λ (c : State Replay). tick_sends (max k.now now) c) (sym stands.core)), refl),
   )
 
 pub losses_stand : LossesStand
@@ -329,7 +343,3 @@ opens_stand k w stands conn = opens k w stands conn
 pub frames_stand : FramesStand
 unfolding FramesStand
 frames_stand k w stands conn text = frames k w stands conn text
-
--- a step on what is kept, with what goes out
-pub step_made : (w : Worker) (i : Input) (new : KeptWorker) (sent : List Output) (out : List Written) → IsStep w i new sent false → out ≡ all_written sent → Steps w i new out
-step_made w i new sent out step is = (step.0, (is ∙ ap all_written (sym step.1.0), step.1.1))

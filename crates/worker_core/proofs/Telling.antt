@@ -5,22 +5,23 @@ use Rattle.std.specs.Prelude.{option_map}
 use Rattle.std.specs.Option.{option_map_or}
 use Rattle.serde_json.specs.Written.{compact_text}
 use Rattle.event_json.specs.Text.{data_of}
-use Rattle.session_core.specs.declared.sessions.Pushed.{Pushed}
+use Rattle.replay_ring.specs.Replay.{Replay, pushed, pushed_all}
 use Rattle.std.proofs.Math.Seq.{take-suc, drop-cons}
 use Rattle.std.proofs.lemmas.List.{length-append}
+use Rattle.std.proofs.lemmas.Grind.{fold-append}
 use Rattle.std.proofs.lemmas.Bool.Decides.{nat_tests}
 use Rattle.dispatch_types.specs.declared.dispatch.Dispatch.{Dispatch}
-use Rattle.session_core.specs.State.{State, Session, Place, Attached, Detached, Ended}
-use Rattle.session_core.specs.Pushes.{counted, counted_at, pushed_of}
-use Rattle.worker_core.specs.World.{Tells, sends}
+use Rattle.session_core.specs.State.{State, Session, Place, Attached, Detached, Ended, attached}
+use Rattle.session_core.specs.Pushes.{next_number, further_by, pushed_at}
+use Rattle.worker_core.specs.World.{Tells, sends, texts_from}
 use Rattle.worker_core.specs.Outputs.{written, all_written}
 use Rattle.worker_core.specs.Spent.{is_past}
-use Rattle.worker_core.specs.Telling.{further, kept_with, IsAt, TellsAt, FailsAt}
+use Rattle.worker_core.specs.Telling.{further, kept_with, sent_to, IsAt, TellsAt, FailsAt}
 use Rattle.worker_core.specs.declared.io.Output.{Output as Written}
-use Rattle.worker_core.specs.declared.io.Output.TheVariants.{Send}
 use Rattle.worker_core.specs.declared.io.StepFault.{StepFault}
 use Rattle.worker_core.specs.declared.io.StepFault.TheVariants.{Spent, Memory}
-use Rattle.worker_core.proofs.Lists.{append_none, map_join}
+use Rattle.worker_core.proofs.Lists.{map_join}
+use Rattle.worker_core.proofs.Replays.{texts_join, length_texts}
 
 one_more : (i : ℕ) → i + 1 ≡ suc i
 one_more i = omega arith
@@ -48,17 +49,32 @@ split_at (x ∷ xs) (suc i) lt =
     let rest = split_at xs i (omega arith) in
     record { front = x ∷ rest.front; item = rest.item; back = rest.back; whole = ap (λ ys. x ∷ ys) rest.whole; place = ap suc rest.place }
 
--- one dispatch counted
-pub counted_is : (place : ℕ) (front : List (Session ℕ)) (x : Session ℕ) (back : List (Session ℕ)) (old : State ℕ) → IsAt place front x back old
-    → counted_at place old ≡ kept_with (front ++ further 1 x ∷ back) old
-counted_is place front x back old at =
+-- one text kept
+pushed_is : (place : ℕ) (text : List ℕ) (front : List (Session Replay)) (x : Session Replay) (back : List (Session Replay)) (old : State Replay) → IsAt place front x back old
+    → pushed_at place text old ≡ kept_with (front ++ further_by text x ∷ back) old
+pushed_is place text front x back old at =
     ap (λ xs. kept_with xs old)
-    (ap (λ xs. option_map_or (λ y. slice_set xs place (counted y)) (slice_get xs place) xs) at.0
-    ∙ (ap (λ n. option_map_or (λ y. slice_set (front ++ x ∷ back) n (counted y)) (slice_get (front ++ x ∷ back) n) (front ++ x ∷ back)) at.1
-    ∙ (ap (λ o. option_map_or (λ y. slice_set (front ++ x ∷ back) (length front) (counted y)) o (front ++ x ∷ back)) (get_at front x back)
-    ∙ set_at front x back (counted x))))
+    (ap (λ xs. option_map_or (λ y. slice_set xs place (further_by text y)) (slice_get xs place) xs) at.0
+    ∙ (ap (λ n. option_map_or (λ y. slice_set (front ++ x ∷ back) n (further_by text y)) (slice_get (front ++ x ∷ back) n) (front ++ x ∷ back)) at.1
+    ∙ (ap (λ o. option_map_or (λ y. slice_set (front ++ x ∷ back) (length front) (further_by text y)) o (front ++ x ∷ back)) (get_at front x back)
+    ∙ set_at front x back (further_by text x))))
 
-pub found_at : (place : ℕ) (front : List (Session ℕ)) (x : Session ℕ) (back : List (Session ℕ)) (old : State ℕ) → IsAt place front x back old
+-- the number of the last of some texts more
+last_pushed : (r : Replay) (texts : List (List ℕ)) → (pushed_all r texts).last ≡ r.last + length texts
+last_pushed r [] = omega arith
+last_pushed r (t ∷ texts) = last_pushed (pushed r t) texts ∙ omega arith
+
+last_further : (ds : List Dispatch) (x : Session Replay) → (further ds x).sent.last ≡ x.sent.last + length ds
+last_further ds x = last_pushed x.sent (texts_from x.sent.last ds) ∙ ap (λ n. x.sent.last + n) (length_texts x.sent.last ds)
+
+-- dispatches more, and then more
+further_join : (ds es : List Dispatch) (x : Session Replay) → further es (further ds x) ≡ further (ds ++ es) x
+further_join ds es x =
+    ap (λ n. record x { sent = pushed_all (further ds x).sent (texts_from n es) }) (last_further ds x)
+    ∙ ap (λ r. record x { sent = r })
+    (sym (fold-append pushed x.sent (texts_from x.sent.last ds) (texts_from (x.sent.last + length ds) es)) ∙ ap (pushed_all x.sent) (sym (texts_join x.sent.last ds es)))
+
+pub found_at : (place : ℕ) (front : List (Session Replay)) (x : Session Replay) (back : List (Session Replay)) (old : State Replay) → IsAt place front x back old
     → slice_get old.sessions place ≡ Some x
 found_at place front x back old at = ap (λ xs. slice_get xs place) at.0 ∙ (ap (λ n. slice_get (front ++ x ∷ back) n) at.1 ∙ get_at front x back)
 
@@ -87,71 +103,67 @@ pub past_step : (n m : ℕ) → is_past (n + m) 1 ≡ is_past n (m + 1)
 past_step n m = ap (λ k. nat_lt (2 ^ 64 - 1) k) (omega arith) ∙ sym (past_is n (m + 1) (omega arith))
 
 -- one dispatch more
-module _ (place : ℕ) (ds : List Dispatch) (d : Dispatch) (old mid : State ℕ) (before outm : List Written) (told : TellsAt place (λ x. ds) old mid before outm) where
-  between : (front back : List (Session ℕ)) (x : Session ℕ) → IsAt place front x back old → IsAt place front (further (length ds) x) back mid
-  between front back x at = (ap (λ (s : State ℕ). s.sessions) (told front back x at).0, at.1)
+module _ (place : ℕ) (ds : List Dispatch) (d : Dispatch) (old mid : State Replay) (before outm : List Written) (told : TellsAt place (λ x. ds) old mid before outm) where
+  between : (front back : List (Session Replay)) (x : Session Replay) → IsAt place front x back old → IsAt place front (further ds x) back mid
+  between front back x at = (ap (λ (s : State Replay). s.sessions) (told front back x at).0, at.1)
 
-  pub tells_more : (new : State ℕ) (out : List Written) → TellsAt place (λ x. d ∷ []) mid new outm out → TellsAt place (λ x. ds ++ d ∷ []) old new before out
+  pub tells_more : (new : State Replay) (out : List Written) → TellsAt place (λ x. d ∷ []) mid new outm out → TellsAt place (λ x. ds ++ d ∷ []) old new before out
   tells_more new out next front back x at =
       let first = told front back x at in
-      let then = next front back (further (length ds) x) (between front back x at) in
+      let after = next front back (further ds x) (between front back x at) in
       let count : length (ds ++ d ∷ []) ≡ length ds + 1 = length-append ds (d ∷ []) in
-      let sent : x.sent + length ds + 1 ≡ x.sent + length (ds ++ d ∷ []) = omega (arith, count) in (
-        then.0
-            ∙ (ap (λ (s : State ℕ). kept_with (front ++ further 1 (further (length ds) x) ∷ back) s) first.0
-            ∙ ap (λ n. kept_with (front ++ record x { sent = n } ∷ back) old) sent),
+      let last : (further ds x).sent.last ≡ x.sent.last + length ds = last_further ds x in (
+        after.0
+            ∙ (ap (λ (s : State Replay). kept_with (front ++ further (d ∷ []) (further ds x) ∷ back) s) first.0
+            ∙ ap (λ (y : Session Replay). kept_with (front ++ y ∷ back) old) (further_join ds (d ∷ []) x)),
         (
-          then.1.0 ∙ (ap (λ ws. ws ++ all_written (sends x.place (x.sent + length ds) (d ∷ []))) first.1.0
-              ∙ (append_assoc before (all_written (sends x.place x.sent ds)) (all_written (sends x.place (x.sent + length ds) (d ∷ [])))
+          after.1.0 ∙ (ap (λ ws. ws ++ all_written (sends x.place (further ds x).sent.last (d ∷ []))) first.1.0
+              ∙ (ap (λ n. (before ++ all_written (sends x.place x.sent.last ds)) ++ all_written (sends x.place n (d ∷ []))) last
+              ∙ (append_assoc before (all_written (sends x.place x.sent.last ds)) (all_written (sends x.place (x.sent.last + length ds) (d ∷ [])))
               ∙ ap (λ ws. before ++ ws)
-              (sym (map_join written (sends x.place x.sent ds) (sends x.place (x.sent + length ds) (d ∷ [])))
-              ∙ ap all_written (sym (sends_join x.place x.sent ds (d ∷ [])))))),
-          ap (λ n. is_past x.sent n) count ∙ (sym (past_step x.sent (length ds)) ∙ then.1.1),
+              (sym (map_join written (sends x.place x.sent.last ds) (sends x.place (x.sent.last + length ds) (d ∷ [])))
+              ∙ ap all_written (sym (sends_join x.place x.sent.last ds (d ∷ []))))))),
+          ap (λ n. is_past x.sent.last n) count ∙ (sym (past_step x.sent.last (length ds)) ∙ (ap (λ n. is_past n 1) (sym last) ∙ after.1.1)),
         ),
       )
 
   pub fails_more : (rest : List Dispatch) (fault : StepFault) → FailsAt place (λ x. d ∷ []) mid fault → FailsAt place (λ x. ds ++ d ∷ rest) old fault
   fails_more rest Memory fails front back x at = tt
   fails_more rest Spent fails front back x at =
-      let past : is_past x.sent (length ds + 1) ≡ true = sym (past_step x.sent (length ds)) ∙ fails front back (further (length ds) x) (between front back x at) in
-      past_more x.sent (length ds + 1) (length (ds ++ d ∷ rest)) (omega (arith, length-append ds (d ∷ rest))) past
+      let past : is_past x.sent.last (length ds + 1) ≡ true =
+      sym (past_step x.sent.last (length ds)) ∙ (ap (λ n. is_past n 1) (sym (last_further ds x)) ∙ fails front back (further ds x) (between front back x at)) in
+      past_more x.sent.last (length ds + 1) (length (ds ++ d ∷ rest)) (omega (arith, length-append ds (d ∷ rest))) past
 
--- what goes out for a dispatch that was counted
-abbrev pub sent_as : Pushed → Dispatch → List Written
-sent_as pushed d = option_map_or (λ conn. Send conn (compact_text (data_of d pushed.number)) ∷ []) pushed.conn []
-
-pub tells_one : (place : ℕ) (d : Dispatch) (old new : State ℕ) (pushed : Pushed) (before out : List Written)
-    → option_map pushed_of (slice_get old.sessions place) ≡ Some pushed → new ≡ counted_at place old → pushed.number < 2 ^ 64 → out ≡ before ++ sent_as pushed d
+pub tells_one : (place : ℕ) (d : Dispatch) (old new : State Replay) (number : ℕ) (conn : Option ℕ) (text : List ℕ) (before out : List Written)
+    → option_map next_number (slice_get old.sessions place) ≡ Some number → number < 2 ^ 64
+    → option_map (λ (x : Session Replay). attached x.place) (slice_get old.sessions place) ≡ Some conn
+    → text ≡ compact_text (data_of d number) → new ≡ pushed_at place text old → out ≡ before ++ sent_to conn text
     → TellsAt place (λ x. d ∷ []) old new before out
-tells_one place d old new pushed before out by counted fits sent front back x at =
-    let is : pushed_of x ≡ pushed = cc (ap (option_map pushed_of) (sym (found_at place front x back old at)) ∙ by) in
-    let number : pushed.number ≡ x.sent + 1 = ap (λ (p : Pushed). p.number) (sym is) in (
-      counted ∙ counted_is place front x back old at,
+tells_one place d old new number conn text before out by fits goes is kept sent front back x at =
+    let found = found_at place front x back old at in
+    let next : x.sent.last + 1 ≡ number = cc (ap (option_map next_number) (sym found) ∙ by) in
+    let to : attached x.place ≡ conn = cc (ap (option_map (λ (x : Session Replay). attached x.place)) (sym found) ∙ goes) in
+    let whole : text ≡ compact_text (data_of d (x.sent.last + 1)) = is ∙ ap (λ n. compact_text (data_of d n)) (sym next) in (
+      kept ∙ (ap (λ t. pushed_at place t old) whole ∙ pushed_is place (compact_text (data_of d (x.sent.last + 1))) front x back old at),
       (
-        sent ∙ ap (λ ws. before ++ ws) (ap (λ p. sent_as p d) (sym is) ∙ by_place x.place),
-        past_is x.sent 1 (omega arith) ∙ few (x.sent + 1) (omega (arith, number)),
+        sent ∙ ap (λ ws. before ++ ws) (ap (λ c. sent_to c text) (sym to) ∙ (ap (λ t. sent_to (attached x.place) t) whole ∙ by_place x.place)),
+        past_is x.sent.last 1 (omega arith) ∙ few (x.sent.last + 1) (omega (arith, next, fits)),
       ),
     )
   where
-    by_place : (p : Place) → sent_as (pushed_of (record x { place = p })) d ≡ all_written (sends p x.sent (d ∷ []))
-    by_place (Attached conn) = refl
+    by_place : (p : Place) → sent_to (attached p) (compact_text (data_of d (x.sent.last + 1))) ≡ all_written (sends p x.sent.last (d ∷ []))
+    by_place (Attached c) = refl
     by_place (Detached since) = refl
     by_place Ended = refl
 
     few : (n : ℕ) → n < 2 ^ 64 → nat_lt (2 ^ 64 - 1) n ≡ false
     few n lt = grind (arith, nat_tests)
 
-pub fails_one : (place : ℕ) (d : Dispatch) (old : State ℕ) → option_map (λ (x : Session ℕ). x.sent) (slice_get old.sessions place) ≡ Some (2 ^ 64 - 1)
+pub fails_one : (place : ℕ) (d : Dispatch) (old : State Replay) → option_map (λ (x : Session Replay). x.sent.last) (slice_get old.sessions place) ≡ Some (2 ^ 64 - 1)
     → FailsAt place (λ x. d ∷ []) old Spent
 fails_one place d old last front back x at =
-    let is : x.sent ≡ 2 ^ 64 - 1 = cc (ap (option_map (λ (y : Session ℕ). y.sent)) (sym (found_at place front x back old at)) ∙ last) in
-    past_is x.sent 1 (omega arith) ∙ ap (λ n. nat_lt (2 ^ 64 - 1) (n + 1)) is
-
-pub sent_none : (pushed : Pushed) (d : Dispatch) (before : List Written) → pushed.conn ≡ None → before ≡ before ++ sent_as pushed d
-sent_none pushed d before none = sym (ap (λ (c : Option ℕ). before ++ option_map_or (λ conn. Send conn (compact_text (data_of d pushed.number)) ∷ []) c []) none ∙ append_none before)
-
-pub sent_some : (pushed : Pushed) (d : Dispatch) (conn : ℕ) → pushed.conn ≡ Some conn → sent_as pushed d ≡ Send conn (compact_text (data_of d pushed.number)) ∷ []
-sent_some pushed d conn some = ap (λ (c : Option ℕ). option_map_or (λ conn. Send conn (compact_text (data_of d pushed.number)) ∷ []) c []) some
+    let is : x.sent.last ≡ 2 ^ 64 - 1 = cc (ap (option_map (λ (y : Session Replay). y.sent.last)) (sym (found_at place front x back old at)) ∙ last) in
+    past_is x.sent.last 1 (omega arith) ∙ ap (λ n. nat_lt (2 ^ 64 - 1) (n + 1)) is
 
 -- one item more of a list
 pub last_taken : {A : Type 0} (xs : List A) (i : ℕ) (x : A) → i < length xs → get_or xs i x ≡ x → take (i + 1) xs ≡ take i xs ++ x ∷ []
@@ -160,10 +172,10 @@ last_taken xs i x lt at = ap (λ n. take n xs) (one_more i) ∙ (take-suc xs i x
 pub rest_dropped : {A : Type 0} (xs : List A) (i : ℕ) (x : A) → i < length xs → get_or xs i x ≡ x → drop i xs ≡ x ∷ drop (i + 1) xs
 rest_dropped xs i x lt at = drop-cons xs i x lt ∙ (ap (λ y. y ∷ drop (suc i) xs) at ∙ ap (λ n. x ∷ drop n xs) (sym (one_more i)))
 
-pub as_many_at : (place : ℕ) (due : Session ℕ → List Dispatch) (old new : State ℕ) (before out : List Written) → place < length old.sessions
+pub as_many_at : (place : ℕ) (due : Session Replay → List Dispatch) (old new : State Replay) (before out : List Written) → place < length old.sessions
     → TellsAt place due old new before out → length new.sessions ≡ length old.sessions
 as_many_at place due old new before out lt told =
     let split = split_at old.sessions place lt in
     let x = split.item in
-    ap (λ (s : State ℕ). length s.sessions) (told split.front split.back x (split.whole, split.place)).0
-    ∙ (length-append split.front (further (length (due x)) x ∷ split.back) ∙ (sym (length-append split.front (x ∷ split.back)) ∙ ap length (sym split.whole)))
+    ap (λ (s : State Replay). length s.sessions) (told split.front split.back x (split.whole, split.place)).0
+    ∙ (length-append split.front (further (due x) x ∷ split.back) ∙ (sym (length-append split.front (x ∷ split.back)) ∙ ap length (sym split.whole)))

@@ -20,9 +20,10 @@ use Rattle.session_core.specs.declared.bot.Bot.{Bot}
 use Rattle.session_core.specs.declared.reply.Mark.{Mark}
 use Rattle.session_core.specs.declared.reply.Mark.TheVariants.{Start, Entry}
 use Rattle.session_core.specs.State.{State, Session, Place, Attached, Detached, Ended, is_live, has_link, released, opened, gone, begun}
-use Rattle.session_core.specs.Frames.{Move, Nothing, Answers, Shuts, Begins, move_of}
+use Rattle.session_core.specs.Frames.{Move, Nothing, Answers, Shuts, Begins, Denies, Resumes, move_of}
+use Rattle.session_core.specs.Resume.{joined, attached_to, resumed}
 use Rattle.session_core.specs.Ends.{is_final, lost, all_gone, left_of, left, client_closed, kept_for, silent_of}
-use Rattle.worker_core.specs.World.{Seen, Cursors, cursors, seen_with, Told, told, Sent, Worker, after_entry, entered, looked, first_dispatches, begins_with, Input, Look, Open, Frame, Lost, Closed, Tick, ended_at, framed, passed, taken}
+use Rattle.worker_core.specs.World.{Seen, Cursors, cursors, seen_with, Told, told, Sent, replay, Worker, after_entry, entered, looked, first_dispatches, begins_with, Input, Look, Open, Frame, Lost, Closed, Tick, ended_at, framed, passed, taken}
 use Rattle.worker_core.specs.Law.{held, last_cursors}
 use Rattle.worker_core.proofs.Folds.{held_join, state_join}
 use Rattle.worker_core.proofs.Sessions.{Meets, grown, more_sent}
@@ -181,10 +182,38 @@ begun_follows w conn bot v old = record {
     none [] t later e = cc
     none (x ∷ earlier) t later e = cc
 
+-- a session that goes on
+joined_meets : (seen : Seen) (conn number : ℕ) (x : Session Sent) → SessionMeets seen x → SessionMeets seen (joined conn number x)
+joined_meets seen conn number x = by_place x.place
+  where
+    choose : (b : Bool) (place : Place) → is_live place ≡ true → SessionMeets seen (record x { place = place }) → SessionMeets seen (if b then record x { place = Attached conn } else record x { place = place })
+    choose true (Attached c) live old = record { meets = old.meets; marked = old.marked }
+    choose true (Detached since) live old = record { meets = old.meets; marked = old.marked }
+    choose true Ended live old = absurd (cc live)
+    choose false place live old = old
+
+    by_place : (place : Place) → SessionMeets seen (record x { place = place }) → SessionMeets seen (joined conn number (record x { place = place }))
+    by_place (Attached c) old = choose (x.number == number) (Attached c) refl old
+    by_place (Detached since) old = choose (x.number == number) (Detached since) refl old
+    by_place Ended old = old
+
+joined_follows : (w : Worker) (conn number : ℕ) → Follows w → Follows (record w { core = attached_to conn number w.core })
+joined_follows w conn number old = record {
+  sessions = All-map (SessionMeets w.seen) (joined conn number) w.core.sessions
+      (All-weaker (SessionMeets w.seen) (λ x. SessionMeets w.seen (joined conn number x)) (joined_meets w.seen conn number) w.core.sessions old.sessions);
+  strangers = old.strangers;
+}
+
+resumed_follows : (w : Worker) (conn number : ℕ) (older : Option ℕ) → Follows w → Follows (record w { core = resumed conn w.now number older w.core })
+resumed_follows w conn number None old = joined_follows w conn number old
+resumed_follows w conn number (Some c) old = joined_follows (record w { core = gone c (Detached w.now) w.core }) conn number (gone_follows w c old)
+
 framed_follows : (w : Worker) (conn : ℕ) (move : Move) → Follows w → Follows (framed w conn move)
 framed_follows w conn Nothing old = record { sessions = old.sessions; strangers = old.strangers }
 framed_follows w conn Answers old = record { sessions = old.sessions; strangers = old.strangers }
 framed_follows w conn (Shuts code) old = let after = gone_follows w conn old in record { sessions = after.sessions; strangers = after.strangers }
+framed_follows w conn Denies old = record { sessions = old.sessions; strangers = old.strangers }
+framed_follows w conn (Resumes number older seq held) old = let after = resumed_follows w conn number older old in record { sessions = after.sessions; strangers = after.strangers }
 framed_follows w conn (Begins bot viewer) old = let after = begun_follows w conn bot viewer old in record { sessions = after.sessions; strangers = after.strangers }
 
 opened_follows : (w : Worker) (conn : ℕ) → Follows w → Follows (record w { core = opened conn w.now w.core })
@@ -290,7 +319,7 @@ taken_follows (Look g es) w built old = by_there (contains g w.guilds) refl
     by_there true there = looked_follows es w g built there old
     by_there false none = old
 taken_follows (Open conn) w built old = opened_follows w conn old
-taken_follows (Frame conn text) w built old = framed_follows w conn (move_of w.core w.now conn text) old
+taken_follows (Frame conn text) w built old = framed_follows w conn (move_of replay w.core w.now conn text) old
 taken_follows (Lost conn) w built old = lost_follows w conn old
 taken_follows (Closed conn code) w built old = closed_follows w conn code old
 taken_follows (Tick now) w built old = ticked_follows w (max w.now now) old

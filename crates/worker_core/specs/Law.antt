@@ -8,10 +8,7 @@ use Rattle.edit_apply.specs.declared.Edit.{Edit}
 use Rattle.edit_events.specs.Law.{Agrees, is_built}
 use Rattle.session_core.specs.declared.bot.Bot.{Bot}
 use Rattle.session_core.specs.State.{Session, is_on}
-use Rattle.worker_core.specs.World.{Cursors, cursors, Told, Sent, Worker, World, Step, Edits, Looks, Opens, Frames, Loses, Leaves, Ticks, Output, Says, Tells, Closes, Input, taken, outputs, run, first_worker}
-
-abbrev pub dispatch_of : Told → Dispatch
-dispatch_of t = t.dispatch
+use Rattle.worker_core.specs.World.{Cursors, cursors, Told, dispatch_of, Sent, Worker, World, Step, Edits, Looks, Opens, Frames, Loses, Leaves, Ticks, Output, Says, Tells, Closes, Input, taken, outputs, run, first_worker}
 
 -- what a client holds of a guild after all of these
 abbrev pub held : Viewer → ℕ → List Told → Held

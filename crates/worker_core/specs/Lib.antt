@@ -6,3 +6,4 @@ pub mod Spent
 pub mod Outputs
 pub mod Faults
 pub mod Telling
+pub mod Resumes

@@ -8,8 +8,9 @@ use Rattle.edit_apply.specs.Edits.{after}
 use Rattle.edit_apply.specs.declared.Edit.{Edit}
 use Rattle.edit_events.specs.Due.{owed}
 use Rattle.session_core.specs.State.{Session, is_live}
-use Rattle.session_core.specs.Frames.{Move, Nothing, Answers, Shuts, Begins, move_of, is_spent}
-use Rattle.worker_core.specs.World.{Seen, Sent, Worker, Input, Look, Open, Frame, Lost, Closed, Tick, entry_owed, entered, first_dispatches}
+use Rattle.session_core.specs.Frames.{Move, Nothing, Answers, Shuts, Begins, Denies, Resumes, move_of, is_spent}
+use Rattle.replay_ring.specs.Replay.{Replay}
+use Rattle.worker_core.specs.World.{replay, Seen, Sent, Worker, Input, Look, Open, Frame, Lost, Closed, Tick, entry_owed, entered, first_dispatches}
 use Rattle.worker_core.specs.Kept.{told_more}
 
 -- more dispatches than can be counted after this many
@@ -28,19 +29,21 @@ frame_spends w Nothing = false
 frame_spends w Answers = false
 frame_spends w (Shuts code) = false
 frame_spends w (Begins bot v) = is_spent (Begins bot v) w.core || is_past 0 (length (first_dispatches w v bot (w.core.made + 1)))
+frame_spends w Denies = false
+frame_spends w (Resumes number older seq held) = false
 
 abbrev pub spends : Worker → Input → Bool
 spends w (Look g es) = contains g w.guilds && look_spends w g es
 spends w (Open conn) = false
-spends w (Frame conn text) = frame_spends w (move_of w.core w.now conn text)
+spends w (Frame conn text) = frame_spends w (move_of replay w.core w.now conn text)
 spends w (Lost conn) = false
 spends w (Closed conn code) = false
 spends w (Tick now) = false
 
 -- the same of what is kept
-abbrev pub told_spends : Record → Edit → Session ℕ → Bool
-told_spends s e x = is_past x.sent (length (owed s e x.viewer))
+abbrev pub told_spends : Record → Edit → Session Replay → Bool
+told_spends s e x = is_past x.sent.last (length (owed s e x.viewer))
 
-abbrev pub kept_spends : Record → List Edit → List (Session ℕ) → Bool
+abbrev pub kept_spends : Record → List Edit → List (Session Replay) → Bool
 kept_spends s [] xs = false
 kept_spends s (e ∷ es) xs = list_any (told_spends s e) xs || kept_spends (after s e) es (map (told_more s e) xs)

@@ -9,7 +9,9 @@ use Rattle.session_core.specs.declared.bot.Bot.{Bot}
 use Rattle.session_core.specs.declared.reply.Reply.{Reply}
 use Rattle.session_core.specs.declared.reply.Reply.TheVariants as reply
 use Rattle.session_core.specs.State.{State, Session, Attached, opened}
-use Rattle.session_core.specs.Frames.{Move, Nothing, Answers, Shuts, Begins, move_of, framed, is_spent}
+use Rattle.session_core.specs.Frames.{Move, Nothing, Answers, Shuts, Begins, Denies, Resumes, move_of, framed, none_sent, as_kept, is_spent}
+use Rattle.session_core.specs.Resume.{session_id, resume_replies}
+use Rattle.replay_ring.specs.Replay.{Replay, fresh, pushed_all}
 use Rattle.session_core.specs.Ends.{lost, client_closed, ticked}
 use Rattle.worker_core.specs.declared.io.StepFault.{StepFault}
 use Rattle.worker_core.specs.declared.replica.Replica.{Replica}
@@ -19,13 +21,14 @@ use Rattle.dispatch_types.specs.Serves.{served, serves}
 use Rattle.dispatch_types.specs.declared.dispatch.Dispatch.{Dispatch}
 use Rattle.dispatch_types.specs.declared.dispatch.Dispatch.TheVariants.{Ready}
 use Rattle.dispatch_types.specs.declared.dispatch.Ready.{Ready as Greeted}
-use Rattle.gateway_frames.specs.declared.out.Out.TheVariants.{Ack}
-use Rattle.worker_core.specs.World.{Seen, Worker, Input, Look, Open, Frame, Lost, Closed, Tick, taken, outputs, open_sends, tick_sends, Output, Says, Closes, sends, session_id, greeting_for}
+use Rattle.gateway_frames.specs.declared.out.Out.TheVariants.{Ack, Invalid}
+use Rattle.worker_core.specs.World.{Seen, Worker, Input, Look, Open, Frame, Lost, Closed, Tick, taken, outputs, open_sends, tick_sends, Output, Says, Closes, sends, texts_from, greeting_for}
 use Rattle.worker_core.specs.Kept.{kept, kept_looked, kept_sends}
 use Rattle.worker_core.specs.Spent.{is_past, kept_spends, spends}
 use Rattle.worker_core.specs.Outputs.{written, all_written}
 use Rattle.worker_core.specs.Telling.{FaultBy, kept_with, further}
 use Rattle.worker_core.specs.declared.io.Output.{Output as Written}
+use Rattle.worker_core.specs.declared.io.Output.TheVariants.{Send}
 
 abbrev pub replica_id : Replica → ℕ
 replica_id r = r.guild.id
@@ -43,7 +46,7 @@ pub record KeptWorker : Type 0 where
   pub url : List ℕ
   pub now : ℕ
   pub replicas : List Replica
-  pub core : State ℕ
+  pub core : State Replay
 
 pub record Stands (k : KeptWorker) (w : Worker) : Type 0 where
   pub goes_on : k.finished ≡ None
@@ -69,9 +72,9 @@ after_closed k conn code = record k { core = client_closed (λ x. []) conn code 
 abbrev pub after_tick : KeptWorker → ℕ → KeptWorker
 after_tick k now = record k { now = now; core = ticked (λ x. []) now k.core }
 
--- a frame, by how many dispatches a session begins with
-abbrev pub after_frame : KeptWorker → ℕ → Move → (Bot → Viewer → ℕ → ℕ) → KeptWorker
-after_frame k conn move count = record k { core = framed conn k.now count move k.core }
+-- a frame, by what a session begins with
+abbrev pub after_frame : KeptWorker → ℕ → Move → (Bot → Viewer → ℕ → Replay) → KeptWorker
+after_frame k conn move start = record k { core = framed conn k.now start move k.core }
 
 -- the first dispatches of a session, by what is kept
 abbrev pub kept_listed : KeptWorker → Viewer → List ℕ
@@ -92,30 +95,47 @@ kept_ready k v name n = record {
 abbrev pub kept_first : KeptWorker → Viewer → (name : List ℕ) → ℕ → List Dispatch
 kept_first k v name n = Ready (kept_ready k v name n) ∷ flat_map (kept_greeting v) k.replicas
 
-abbrev pub kept_count : KeptWorker → Bot → Viewer → ℕ → ℕ
-kept_count k bot v n = length (kept_first k v bot.name n)
+abbrev pub kept_start : KeptWorker → Bot → Viewer → ℕ → Replay
+kept_start k bot v n = pushed_all (fresh 1024 4194304) (texts_from 0 (kept_first k v bot.name n))
 
 abbrev pub kept_frame_spends : KeptWorker → Move → Bool
 kept_frame_spends k Nothing = false
 kept_frame_spends k Answers = false
 kept_frame_spends k (Shuts code) = false
-kept_frame_spends k (Begins bot v) = is_spent (Begins bot v) k.core || is_past 0 (kept_count k bot v (k.core.made + 1))
+kept_frame_spends k (Begins bot v) = is_spent (Begins bot v) k.core || is_past 0 (length (kept_first k v bot.name (k.core.made + 1)))
+kept_frame_spends k Denies = false
+kept_frame_spends k (Resumes number older seq held) = false
+
+-- what goes out for replies by which no session begins
+abbrev pub is_plain : Reply → Bool
+is_plain (reply.Send conn payload) = true
+is_plain (reply.Close conn code) = true
+is_plain (reply.Text conn text) = true
+is_plain (reply.Begin n) = false
+
+abbrev pub plain : Reply → List Written
+plain (reply.Send conn payload) = written (Says conn payload) ∷ []
+plain (reply.Close conn code) = written (Closes conn code) ∷ []
+plain (reply.Text conn text) = Send conn text ∷ []
+plain (reply.Begin n) = []
 
 -- what goes out after a frame
-abbrev pub kept_frame_sends : KeptWorker → ℕ → Move → List Output
+abbrev pub kept_frame_sends : KeptWorker → ℕ → Move → List Written
 kept_frame_sends k conn Nothing = []
-kept_frame_sends k conn Answers = Says conn Ack ∷ []
-kept_frame_sends k conn (Shuts code) = Closes conn code ∷ []
-kept_frame_sends k conn (Begins bot v) = sends (Attached conn) 0 (kept_first k v bot.name (k.core.made + 1))
+kept_frame_sends k conn Answers = written (Says conn Ack) ∷ []
+kept_frame_sends k conn (Shuts code) = written (Closes conn code) ∷ []
+kept_frame_sends k conn (Begins bot v) = all_written (sends (Attached conn) 0 (kept_first k v bot.name (k.core.made + 1)))
+kept_frame_sends k conn Denies = written (Says conn (Invalid false)) ∷ []
+kept_frame_sends k conn (Resumes number older seq held) = flat_map plain (resume_replies conn older seq held)
 
 -- a step on what is kept is that of every worker that it stands for: what it becomes, what goes out, and
 -- whether a count would go past what its type holds
-abbrev pub IsStep : Worker → Input → KeptWorker → List Output → Bool → Type 0
-IsStep w i new sent spent = Stands new (taken w i) × ((outputs w i ≡ sent) × (spends w i ≡ spent))
+abbrev pub IsStep : Worker → Input → KeptWorker → List Written → Bool → Type 0
+IsStep w i new sent spent = Stands new (taken w i) × ((all_written (outputs w i) ≡ sent) × (spends w i ≡ spent))
 
 unfoldable pub LooksStand : Type 0
 LooksStand = (k : KeptWorker) (w : Worker) → Stands k w → (g : ℕ) (es : List Edit) (r : Replica) → find_id replica_id g k.replicas ≡ Some r
-    → IsStep w (Look g es) (after_look k r es) (kept_sends r.guild es k.core.sessions) (kept_spends r.guild es k.core.sessions)
+    → IsStep w (Look g es) (after_look k r es) (all_written (kept_sends r.guild es k.core.sessions)) (kept_spends r.guild es k.core.sessions)
 
 -- a look at a guild that is not there
 unfoldable pub LooksPast : Type 0
@@ -124,11 +144,11 @@ LooksPast = (k : KeptWorker) (w : Worker) → Stands k w → (g : ℕ) (es : Lis
 
 unfoldable pub OpensStand : Type 0
 OpensStand = (k : KeptWorker) (w : Worker) → Stands k w → (conn : ℕ)
-    → IsStep w (Open conn) (after_open k conn) (open_sends conn k.core) false
+    → IsStep w (Open conn) (after_open k conn) (all_written (open_sends conn k.core)) false
 
 unfoldable pub FramesStand : Type 0
-FramesStand = (k : KeptWorker) (w : Worker) → Stands k w → (conn : ℕ) (text : List ℕ) → let move = move_of k.core k.now conn text in
-    IsStep w (Frame conn text) (after_frame k conn move (kept_count k)) (kept_frame_sends k conn move) (kept_frame_spends k move)
+FramesStand = (k : KeptWorker) (w : Worker) → Stands k w → (conn : ℕ) (text : List ℕ) → let move = move_of as_kept k.core k.now conn text in
+    IsStep w (Frame conn text) (after_frame k conn move (kept_start k)) (kept_frame_sends k conn move) (kept_frame_spends k move)
 
 unfoldable pub LossesStand : Type 0
 LossesStand = (k : KeptWorker) (w : Worker) → Stands k w → (conn : ℕ) → IsStep w (Lost conn) (after_lost k conn) [] false
@@ -138,7 +158,7 @@ LeavesStand = (k : KeptWorker) (w : Worker) → Stands k w → (conn code : ℕ)
 
 unfoldable pub TicksStand : Type 0
 TicksStand = (k : KeptWorker) (w : Worker) → Stands k w → (now : ℕ) → let moment = max k.now now in
-    IsStep w (Tick now) (after_tick k moment) (tick_sends moment k.core) false
+    IsStep w (Tick now) (after_tick k moment) (all_written (tick_sends moment k.core)) false
 
 -- the value of a worker, and what goes out, after a step
 abbrev pub Steps : Worker → Input → KeptWorker → List Written → Type 0
@@ -148,35 +168,26 @@ abbrev pub Fails : Worker → Input → StepFault → Type 0
 Fails w i fault = FaultBy (spends w i) fault
 
 -- what a session that has begun is sent first, on what is kept: it is the last one, and its name is its bot's
-abbrev pub greeted : KeptWorker → ℕ → Session ℕ → List Dispatch
+abbrev pub greeted : KeptWorker → ℕ → Session Replay → List Dispatch
 greeted k n x = kept_first k x.viewer x.name n
 
 abbrev pub Greets : KeptWorker → ℕ → KeptWorker → List Written → List Written → Type 0
-Greets old n new before out = (front : List (Session ℕ)) (x : Session ℕ) → old.core.sessions ≡ front ++ x ∷ []
-    → (new ≡ record old { core = kept_with (front ++ further (length (greeted old n x)) x ∷ []) old.core })
-    × ((out ≡ before ++ all_written (sends x.place x.sent (greeted old n x))) × (is_past x.sent (length (greeted old n x)) ≡ false))
+Greets old n new before out = (front : List (Session Replay)) (x : Session Replay) → old.core.sessions ≡ front ++ x ∷ []
+    → (new ≡ record old { core = kept_with (front ++ further (greeted old n x) x ∷ []) old.core })
+    × ((out ≡ before ++ all_written (sends x.place x.sent.last (greeted old n x))) × (is_past x.sent.last (length (greeted old n x)) ≡ false))
 
 abbrev pub GreetsNot : KeptWorker → ℕ → StepFault → Type 0
-GreetsNot old n fault = (front : List (Session ℕ)) (x : Session ℕ) → old.core.sessions ≡ front ++ x ∷ [] → FaultBy (is_past x.sent (length (greeted old n x))) fault
-
--- what goes out for replies by which no session begins
-abbrev pub is_plain : Reply → Bool
-is_plain (reply.Send conn payload) = true
-is_plain (reply.Close conn code) = true
-is_plain (reply.Begin n) = false
-
-abbrev pub plain : Reply → List Written
-plain (reply.Send conn payload) = written (Says conn payload) ∷ []
-plain (reply.Close conn code) = written (Closes conn code) ∷ []
-plain (reply.Begin n) = []
+GreetsNot old n fault = (front : List (Session Replay)) (x : Session Replay) → old.core.sessions ≡ front ++ x ∷ [] → FaultBy (is_past x.sent.last (length (greeted old n x))) fault
 
 -- what is left after one reply
 abbrev pub Replies : Reply → KeptWorker → KeptWorker → List Written → List Written → Type 0
 Replies (reply.Send conn payload) old new before out = (new ≡ old) × (out ≡ before ++ written (Says conn payload) ∷ [])
 Replies (reply.Close conn code) old new before out = (new ≡ old) × (out ≡ before ++ written (Closes conn code) ∷ [])
+Replies (reply.Text conn text) old new before out = (new ≡ old) × (out ≡ before ++ Send conn text ∷ [])
 Replies (reply.Begin n) old new before out = Greets old n new before out
 
 abbrev pub RepliesNot : Reply → KeptWorker → StepFault → Type 0
 RepliesNot (reply.Send conn payload) old fault = FaultBy false fault
 RepliesNot (reply.Close conn code) old fault = FaultBy false fault
+RepliesNot (reply.Text conn text) old fault = FaultBy false fault
 RepliesNot (reply.Begin n) old fault = GreetsNot old n fault

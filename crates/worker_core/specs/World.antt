@@ -1,6 +1,10 @@
 -- Workers that follow the logs of guilds, their sessions, and what a list of steps makes of them
 -- (Gateway, Connection Lifecycle).
-use Rattle.std.specs.Prelude.{ℕ, ◌+◌, List, [], ◌∷◌, ◌++◌, true, not, ◌==◌, ◌&&◌, Option, Some, None, if◌then◌else◌, length, nat_lt, max, map, filter, drop, flat_map, decimal, codes}
+use Rattle.std.specs.Prelude.{ℕ, ◌+◌, List, [], ◌∷◌, ◌++◌, true, false, not, ◌==◌, ◌&&◌, Option, Some, None, if◌then◌else◌, length, nat_lt, max, map, filter, drop, flat_map}
+use Rattle.std.specs.List.{find}
+use Rattle.serde_json.specs.Written.{compact_text}
+use Rattle.event_json.specs.Text.{data_of}
+use Rattle.replay_ring.specs.Replay.{Replay, replay_of}
 use Rattle.collections.specs.ById.{put_all}
 use Rattle.perm_bits.specs.Bits.{has_bit}
 use Rattle.intent_set.specs.Intents.{guilds}
@@ -17,12 +21,13 @@ use Rattle.edit_apply.specs.declared.Edit.{Edit}
 use Rattle.edit_events.specs.Greeting.{greeting}
 use Rattle.edit_events.specs.Due.{owed}
 use Rattle.gateway_frames.specs.declared.out.Out.{Out}
-use Rattle.gateway_frames.specs.declared.out.Out.TheVariants.{Hello, Ack}
+use Rattle.gateway_frames.specs.declared.out.Out.TheVariants.{Hello, Ack, Invalid, Resumed}
 use Rattle.session_core.specs.declared.bot.Bot.{Bot}
 use Rattle.session_core.specs.declared.reply.Mark.{Mark}
 use Rattle.session_core.specs.declared.reply.Mark.TheVariants.{Start, Entry}
 use Rattle.session_core.specs.State.{State, Session, Place, Attached, Detached, Ended, is_live, has_link, opened, no_sessions}
-use Rattle.session_core.specs.Frames.{Move, Nothing, Answers, Shuts, Begins, move_of, framed as with_frame}
+use Rattle.session_core.specs.Frames.{Move, Nothing, Answers, Shuts, Begins, Denies, Resumes, move_of, framed as with_frame}
+use Rattle.session_core.specs.Resume.{session_id}
 use Rattle.session_core.specs.Ends.{lost, client_closed, ticked, silent_of}
 
 -- the entries that a worker has handled, by guild
@@ -48,10 +53,25 @@ pub record Told : Type 0 where
 abbrev pub told : Mark → Cursors → Cursors → List Dispatch → List Told
 told mark before after ds = map (λ d. record { mark = mark; dispatch = d; before = before; after = after }) ds
 
+abbrev pub dispatch_of : Told → Dispatch
+dispatch_of t = t.dispatch
+
 -- all dispatches of a session, and the cursors of its worker as it ended
 pub record Sent : Type 0 where
   pub told : List Told
   pub end : Option Cursors
+
+abbrev pub dispatches : Sent → List Dispatch
+dispatches sent = map dispatch_of sent.told
+
+-- the texts of the dispatches of a session after its number n
+abbrev pub texts_from : ℕ → List Dispatch → List (List ℕ)
+texts_from n [] = []
+texts_from n (d ∷ ds) = compact_text (data_of d (n + 1)) ∷ texts_from (n + 1) ds
+
+-- what a resume needs of them: how many there are, and the latest texts within two limits
+abbrev pub replay : Sent → Replay
+replay sent = replay_of 1024 4194304 (texts_from 0 (dispatches sent))
 
 pub record Worker : Type 0 where
   pub url : List ℕ
@@ -102,9 +122,6 @@ look_sends w g [] = []
 look_sends w g (e ∷ es) = flat_map (entry_sends w.seen g e) w.core.sessions ++ look_sends (entered w g e) g es
 
 -- a session's first dispatches: READY, then each served guild that is available (Gateway Events, Ready)
-abbrev pub session_id : ℕ → ℕ → List ℕ
-session_id worker n = codes "w" ++ (decimal worker ++ (codes "s" ++ decimal n))
-
 abbrev pub greeting_for : Viewer → Record → Option Member → List Dispatch
 greeting_for viewer s None = []
 greeting_for viewer s (Some me) = if has_bit viewer.intents guilds && not s.outage then GuildCreate (greeting s viewer me) ∷ [] else []
@@ -150,11 +167,27 @@ pub data Input : Type 0 where
 abbrev pub framed : Worker → ℕ → Move → Worker
 framed w conn move = record w { core = with_frame conn w.now (begins_with w) move w.core }
 
+-- the connection that a resumed session had
+abbrev pub older_sends : Option ℕ → List Output
+older_sends None = []
+older_sends (Some conn) = Closes conn 4000 ∷ []
+
+-- the dispatches of a session after a number, again
+abbrev pub resent : ℕ → ℕ → Option (Session Sent) → List Output
+resent conn seq None = []
+resent conn seq (Some x) = sends (Attached conn) seq (drop seq (dispatches x.sent))
+
+-- the live session of a number
+abbrev pub numbered : ℕ → List (Session Sent) → Option (Session Sent)
+numbered number xs = find (λ (x : Session Sent). is_live x.place && (x.number == number)) xs
+
 abbrev pub frame_sends : Worker → ℕ → Move → List Output
 frame_sends w conn Nothing = []
 frame_sends w conn Answers = Says conn Ack ∷ []
 frame_sends w conn (Shuts code) = Closes conn code ∷ []
 frame_sends w conn (Begins bot viewer) = sends (Attached conn) 0 (first_dispatches w viewer bot (w.core.made + 1))
+frame_sends w conn Denies = Says conn (Invalid false) ∷ []
+frame_sends w conn (Resumes number older seq held) = older_sends older ++ (resent conn seq (numbered number w.core.sessions) ++ Says conn (Resumed held.last) ∷ [])
 
 abbrev pub open_sends : {A : Type 0} → ℕ → State A → List Output
 open_sends conn s = if has_link conn s then [] else (if nat_lt (length s.links) 64 then Says conn (Hello 41250) ∷ [] else Closes conn 4000 ∷ [])
@@ -169,7 +202,7 @@ tick_sends now s = map (λ conn. Closes conn 4000) (silent_of now s.links)
 abbrev pub taken : Worker → Input → Worker
 taken w (Look g es) = if contains g w.guilds then looked w g es else w
 taken w (Open conn) = record w { core = opened conn w.now w.core }
-taken w (Frame conn text) = framed w conn (move_of w.core w.now conn text)
+taken w (Frame conn text) = framed w conn (move_of replay w.core w.now conn text)
 taken w (Lost conn) = record w { core = lost conn w.now w.core }
 taken w (Closed conn code) = record w { core = client_closed (ended_at (cursors w.seen)) conn code w.now w.core }
 taken w (Tick now) = passed w (max w.now now)
@@ -177,7 +210,7 @@ taken w (Tick now) = passed w (max w.now now)
 abbrev pub outputs : Worker → Input → List Output
 outputs w (Look g es) = if contains g w.guilds then look_sends w g es else []
 outputs w (Open conn) = open_sends conn w.core
-outputs w (Frame conn text) = frame_sends w conn (move_of w.core w.now conn text)
+outputs w (Frame conn text) = frame_sends w conn (move_of replay w.core w.now conn text)
 outputs w (Lost conn) = []
 outputs w (Closed conn code) = []
 outputs w (Tick now) = tick_sends (max w.now now) w.core

@@ -4,15 +4,13 @@ ghost use Rattle.std.specs.Prelude.{◌≡◌, ◌++◌, [], map, filter, flat_m
 ghost use Rattle.perm_bits.specs.Bits.{has_bit};
 ghost use Rattle.intent_set.specs.Intents.{guilds};
 ghost use Rattle.dispatch_types.specs.Serves.{serves};
-ghost use Rattle.worker_core.specs.World.{session_id};
 ghost use Rattle.worker_core.specs.Stands.{replica_id, kept_greeting};
 
 use crate::replica::Replica;
-use collections::{Seq, Text};
+use collections::Seq;
 use dispatch_types::{Dispatch, Viewer, served, serves};
 use edit_events::greeting;
 use intent_set::Intents;
-use itoa::Buffer;
 use snowflake_id::Snowflake;
 use std::alloc::{AllocError, Global};
 
@@ -34,19 +32,6 @@ pub fn listed(
         }
     }
     Ok(ids)
-}
-
-/// The id of a session: of its worker, and of its number there.
-pub fn session_id(alloc: Global, worker: u8, number: u32) -> Result<Text, AllocError>
-    ensures { IfOk result (λ id. id ≡ session_id worker number) }
-{
-    let mut text = String::new(alloc);
-    let mut buffer = Buffer::new();
-    text.push_str("w")?;
-    text.push_str(buffer.format(worker))?;
-    text.push_str("s")?;
-    text.push_str(buffer.format(number))?;
-    Ok(Text::from_string(text))
 }
 
 /// GUILD_CREATE of each guild that the viewer is served and that is available, in their order.

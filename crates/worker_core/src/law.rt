@@ -1,5 +1,6 @@
 //! The laws over every run, as functions whose contracts are the statements.
 ghost use Rattle.worker_core.specs.Law.{EachRunHolds, EachSendHolds};
+ghost use Rattle.worker_core.specs.Resumes.{EachResumeHolds};
 ghost use Rattle.worker_core.specs.Stands.{LooksStand, LooksPast, OpensStand, FramesStand, LossesStand, LeavesStand, TicksStand};
 
 /// Whatever steps come, what a session was sent folds to the projection of one prefix of each log.
@@ -10,6 +11,12 @@ pub fn projection_of_a_prefix()
 /// Each dispatch that goes out is that of its number of the session that the connection has.
 pub fn sends_are_of_sessions()
     ensures { EachSendHolds }
+{}
+
+/// A resume goes on exactly where a live session of the worker has its id and token and covers its
+/// number, and then brings what the session was sent after it (Gateway, Resuming).
+pub fn resumes_go_on()
+    ensures { EachResumeHolds }
 {}
 
 /// A look, on what a worker keeps, is that of every worker that it stands for.

@@ -1,15 +1,31 @@
 //! Dispatches on their way to a session.
 
-ghost use Rattle.std.specs.Prelude.{◌≡◌, ◌∷◌, [], ◌<◌, length, MatchResult};
-ghost use Rattle.worker_core.specs.Telling.{TellsAt, FailsAt};
+ghost use Rattle.std.specs.Prelude.{◌≡◌, ◌∷◌, [], ◌++◌, ◌<◌, length, MatchResult, OnOk};
+ghost use Rattle.worker_core.specs.Telling.{TellsAt, FailsAt, sent_to};
 
 use crate::io::{Output, StepFault, put};
 use collections::Text;
 use dispatch_types::Dispatch;
 use session_core::Sessions;
-use std::alloc::Global;
+use std::alloc::{AllocError, Global};
 
-/// Counts the next dispatch of the session at a place, and sends it where the session is attached.
+/// Sends a text to a connection, where there is one.
+fn send_to(
+    alloc: Global,
+    conn: Option<u32>,
+    text: &str,
+    out: &mut Vec<Output>,
+) -> Result<(), AllocError>
+    ensures { OnOk result (out.new.items ≡ out.old.items ++ sent_to conn text.now) }
+{
+    let Some(conn) = conn else {
+        return Ok(());
+    };
+    put(out, Output::Send(conn, Text::new(alloc, text)?))?;
+    Ok(())
+}
+
+/// Keeps the next dispatch of the session at a place, and sends it where the session is attached.
 fn tell_one(
     alloc: Global,
     sessions: &mut Sessions,
@@ -20,12 +36,10 @@ fn tell_one(
     requires { place < length sessions.old.sessions }
     ensures { MatchResult result (λ _. TellsAt place (λ x. dispatch.now ∷ []) sessions.old sessions.new out.old.items out.new.items) (FailsAt place (λ x. dispatch.now ∷ []) sessions.old) }
 {
-    let pushed = sessions.push_at(place)?;
-    let Some(conn) = pushed.conn else {
-        return Ok(());
-    };
-    let text = event_json::write(alloc, dispatch, pushed.number)?;
-    put(out, Output::Send(conn, Text::from_string(text)))?;
+    let number = sessions.next_at(place)?;
+    let text = event_json::write(alloc, dispatch, number)?;
+    send_to(alloc, sessions.conn_at(place), text.as_str(), out)?;
+    sessions.push_at(place, text);
     Ok(())
 }
 

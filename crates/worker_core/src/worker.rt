@@ -9,7 +9,7 @@ ghost use Rattle.edit_apply.specs.Edits.{state_from};
 ghost use Rattle.session_core.specs.State.{open_replies};
 ghost use Rattle.session_core.specs.Ends.{tick_replies};
 ghost use Rattle.session_core.specs.declared.reply.Reply.TheVariants.{Begin};
-ghost use Rattle.session_core.specs.Frames.{move_of, move_replies, is_spent};
+ghost use Rattle.session_core.specs.Frames.{move_of, move_replies, is_spent, none_sent, as_kept};
 ghost use Rattle.session_core.specs.declared.fault.SessionFault.TheVariants as SessionFault;
 ghost use Rattle.worker_core.specs.World.{Worker as ModelWorker, Look as Looks, Open as Opens, Frame as Frames, Lost, Closed, Tick, Says, first_worker};
 ghost use Rattle.worker_core.specs.Kept.{kept_looked, kept_sends};
@@ -18,7 +18,7 @@ ghost use Rattle.worker_core.specs.Spent.{kept_spends};
 ghost use Rattle.worker_core.specs.Telling.{FaultBy, kept_with};
 ghost use Rattle.worker_core.specs.Stands.{Stands, Steps, Fails, Greets, GreetsNot, Replies, RepliesNot, greeted, kept_ready, replica_id, after_open, after_frame, after_lost, after_closed, after_tick, is_plain, plain};
 
-use crate::greet::{greetings, listed, session_id};
+use crate::greet::{greetings, listed};
 use crate::io::{Input, Output, StepFault, put};
 use crate::look::look;
 use crate::replica::Replica;
@@ -28,7 +28,7 @@ use dispatch_types::{Dispatch, Ready, Viewer};
 use edit_apply::Edit;
 use gateway_frames::Out;
 use guild_model::{Guild, User};
-use session_core::{Bot, Reply, SessionFault, Sessions};
+use session_core::{Bot, Reply, SessionFault, Sessions, session_id};
 use snowflake_id::Snowflake;
 use std::alloc::{AllocError, Global};
 use std::marker::Model;
@@ -180,10 +180,10 @@ impl Worker {
     }
 
     fn frame_session(&mut self, conn: u32, text: &str) -> Result<Vec<Reply>, SessionFault>
-        ensures replies { IfOk result (λ replies. replies.items ≡ move_replies conn (move_of self.old.core self.old.now conn text.now) self.old.core) }
-        ensures moved { OnOk result (self.new ≡ after_frame self.old conn (move_of self.old.core self.old.now conn text.now) (λ bot viewer n. 0)) }
-        ensures counted { OnOk result (is_spent (move_of self.old.core self.old.now conn text.now) self.old.core ≡ false) }
-        ensures spent { result ≡ Err SessionFault.Spent → is_spent (move_of self.old.core self.old.now conn text.now) self.old.core ≡ true }
+        ensures replies { IfOk result (λ replies. replies.items ≡ move_replies conn (move_of as_kept self.old.core self.old.now conn text.now) self.old.core) }
+        ensures moved { OnOk result (self.new ≡ after_frame self.old conn (move_of as_kept self.old.core self.old.now conn text.now) none_sent) }
+        ensures counted { OnOk result (is_spent (move_of as_kept self.old.core self.old.now conn text.now) self.old.core ≡ false) }
+        ensures spent { result ≡ Err SessionFault.Spent → is_spent (move_of as_kept self.old.core self.old.now conn text.now) self.old.core ≡ true }
     {
         self.sessions.frame(conn, text, self.clock)
     }
@@ -246,6 +246,7 @@ impl Worker {
     {
         match reply {
             Reply::Send(conn, payload) => put(out, said(self.alloc, conn, payload)?)?,
+            Reply::Text(conn, text) => put(out, Output::Send(conn, text))?,
             Reply::Close(conn, code) => put(out, Output::Close(conn, code))?,
             Reply::Begin(session) => self.greet(session, out)?,
         }

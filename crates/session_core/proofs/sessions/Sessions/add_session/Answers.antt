@@ -1,4 +1,4 @@
-use Rattle.std.proofs.Common.{◌≡◌, ◌+◌, nat_eq, None, Some, refl, sym, ◌∙◌, arith}
+use Rattle.std.proofs.Common.{◌≡◌, ◌+◌, ◌-◌, ◌<◌, ◌^◌, nat_eq, None, Some, refl, sym, ◌∙◌, arith}
 use Rattle.std.specs.Map.{lookup}
 use Rattle.indexmap.proofs.CallerLemmas.{insert_entry-new}
 use Rattle.session_core.specs.declared.kept.Line.{Line}
@@ -24,8 +24,10 @@ invariant_of-self-2 c =
     let h = c.in_ok-insert.ensures in
     let free : session_at c.self.inside.links.entries c.args.conn ≡ None =
     free-kept c.self.inside.made c.self.inside.links.entries c.self.inside.live.entries c.self.invariant c.args.conn (rw (← c.self.view_is) at c.requires.free) in
+    let below : c.self.inside.made < 2 ^ 32 - 1 = rw (← c.self.view_is) at c.requires.counted in
+    let room : c.self.inside.made + 1 < 2 ^ 32 = omega (arith, below) in
     IsKept-tie c.self.inside.made c.self.inside.links.entries (c.get_mut.follows.lender l).entries c.self.inside.live.entries c.insert.new.self.entries
-    c.args.conn l c.new.result c.self.invariant free refl (rw c.new.ensures refl) w.4 (w.3 (rw there refl)).0 h.unique h.updates.0
+    c.args.conn l c.in_ok-session.session c.self.invariant room free refl (rw c.in_ok-session.ensures refl) w.4 (w.3 (rw there refl)).0 h.unique h.updates.0
 
 pub returns-clause-ok : goal.returns-clause-ok
 returns-clause-ok c =
@@ -34,6 +36,6 @@ returns-clause-ok c =
     let w = c.get_mut.follows.holds l in
     let h = c.in_ok-insert.ensures in
     let new : lookup (nat_eq (c.self.inside.made + 1)) c.self.inside.live.entries ≡ None = c.self.invariant.counted (c.self.inside.made + 1) (omega arith) in
-    let sessions = added-kept session_of c.self.inside.live.entries c.insert.new.self.entries (c.self.inside.made + 1, c.new.result)
-    (h.entries ∙ insert_entry-new nat_eq c.self.inside.live (c.self.inside.made + 1) c.new.result new) in
-    rw (← c.self.view_is, w.0, tied-kept c.self.inside.links.entries c.args.conn c.in-Some.line.now (Some (c.self.inside.made + 1)) there, sessions, c.new.ensures) refl
+    let sessions = added-kept session_of c.self.inside.live.entries c.insert.new.self.entries (c.self.inside.made + 1, c.in_ok-session.session)
+    (h.entries ∙ insert_entry-new nat_eq c.self.inside.live (c.self.inside.made + 1) c.in_ok-session.session new) in
+    rw (← c.self.view_is, w.0, tied-kept c.self.inside.links.entries c.args.conn c.in-Some.line.now (Some (c.self.inside.made + 1)) there, sessions, c.in_ok-session.ensures) refl

@@ -8,7 +8,6 @@ use Rattle.worker_core.specs.Telling.{kept_with}
 use Rattle.worker_core.specs.declared.replica.Replica.{Replica}
 use Rattle.worker_core.specs.declared.io.StepFault.{StepFault}
 use Rattle.worker_core.specs.World.{Look, taken}
-use Rattle.worker_core.specs.Outputs.{all_written}
 use Rattle.worker_core.specs.Stands.{KeptWorker, Stands, Fails, replica_id}
 use Rattle.worker_core.proofs.Standing.{looks_at_none}
 use Rattle.worker_core.proofs.Moving.{look_made, look_fails, is_there, empty}
@@ -17,7 +16,7 @@ use Rattle.worker_core.proofs.worker.Worker.look.Goals as goal
 pub returns-in_default : goal.returns-in_default
 returns-in_default c w stands =
     let step = looks_at_none c.args.self.now w stands c.args.guild c.args.entries.now (sym c.take_replica.ensures.found ∙ c.in_default.is) in
-    (subst (λ (k : KeptWorker). Stands k (taken w (Look c.args.guild c.args.entries.now))) (sym (c.in_default.ensures.none refl)) step.0, (c.new.ensures.items ∙ ap all_written (sym step.1.0), step.1.1))
+    (subst (λ (k : KeptWorker). Stands k (taken w (Look c.args.guild c.args.entries.now))) (sym (c.in_default.ensures.none refl)) step.0, (c.new.ensures.items ∙ sym step.1.0, step.1.1))
 
 pub returns-in_err-out : goal.returns-in_err-out
 returns-in_err-out c w stands =

@@ -1,0 +1,197 @@
+-- A session that goes on: which it is, and what goes out again.
+use Rattle.std.proofs.Common.{◌≡◌, ℕ, ◌+◌, ◌-◌, ◌≤◌, zero, suc, List, [], ◌∷◌, ◌++◌, Bool, true, false, not, Option, Some, None, Result, Ok, Err, if◌then◌else◌, length, map, drop, refl, sym, ap, subst, ◌∙◌, arith}
+use Rattle.std.specs.Prelude.{◌==◌, ◌&&◌, flat_map, nat_lt}
+use Rattle.std.specs.List.{find}
+use Rattle.std.specs.Str.{bytes_eq}
+use Rattle.std.proofs.lemmas.Option.{same_Some}
+use Rattle.std.proofs.lemmas.Bool.Decides.{nat_tests}
+use Rattle.std.proofs.lemmas.Bool.{eqb-true}
+use Rattle.serde_json.specs.Written.{compact_text}
+use Rattle.event_json.specs.Text.{data_of}
+use Rattle.dispatch_types.specs.declared.dispatch.Dispatch.{Dispatch}
+use Rattle.gateway_frames.specs.declared.frame.Frame.{Frame}
+use Rattle.gateway_frames.specs.declared.frame.Frame.TheVariants as frame
+use Rattle.gateway_frames.specs.declared.frame.Identify.{Identify}
+use Rattle.gateway_frames.specs.declared.frame.Resume.{Resume}
+use Rattle.gateway_frames.specs.declared.fault.FrameFault.{FrameFault}
+use Rattle.gateway_frames.specs.declared.out.Out.TheVariants.{Resumed}
+use Rattle.gateway_frames.specs.Read.{frame_of}
+use Rattle.replay_ring.specs.Replay.{Replay, replay_of, texts_after, longest_suffix}
+use Rattle.replay_ring.proofs.Suffixes.{texts_after-replay_of}
+use Rattle.session_core.specs.declared.bot.Bot.{Bot}
+use Rattle.session_core.specs.declared.reply.Reply.{Reply}
+use Rattle.session_core.specs.declared.reply.Reply.TheVariants as reply
+use Rattle.session_core.specs.State.{State, Session, Attached, is_live, attached, has_link, has_session}
+use Rattle.session_core.specs.Identify.{identified}
+use Rattle.session_core.specs.Rate.{is_rated}
+use Rattle.session_core.specs.Frames.{Move, Nothing, Answers, Shuts, Begins, Denies, Resumes, identify_move, resume_move, later_move, first_move, read_move, move_of}
+use Rattle.session_core.specs.Resume.{Answer, Unknown, Beyond, Goes, session_id, session_named, resume_by, older_closes, resume_replies}
+use Rattle.worker_core.specs.World.{Sent, dispatches, texts_from, replay, Worker, Output, Says, Closes, sends, older_sends, resent, numbered, frame_sends}
+use Rattle.worker_core.specs.Outputs.{written, all_written}
+use Rattle.worker_core.specs.Stands.{plain}
+use Rattle.worker_core.specs.declared.io.Output.{Output as Written}
+use Rattle.worker_core.specs.declared.io.Output.TheVariants.{Send}
+use Rattle.worker_core.proofs.Lists.{map_join}
+use Rattle.worker_core.proofs.Kept.{flat_map_join}
+
+-- ---- which session goes on
+
+-- the first that meets one test is also the first that meets a stricter one that it meets
+module _ {A : Type 0} (p q : A → Bool) (stricter : (y : A) → q y ≡ true → p y ≡ true) (x : A) (is : q x ≡ true) where
+  pub first_of_fewer : (ys : List A) → find p ys ≡ Some x → find q ys ≡ Some x
+  first_of_fewer [] found = absurd (cc found)
+  first_of_fewer (y ∷ ys) found = by_tests (q y) (p y) refl refl found (first_of_fewer ys)
+    where
+      by_tests : (b c : Bool) → q y ≡ b → p y ≡ c → (if c then Some y else find p ys) ≡ Some x → (find p ys ≡ Some x → find q ys ≡ Some x)
+          → (if b then Some y else find q ys) ≡ Some x
+      by_tests true true strict here found rest = found
+      by_tests true false strict here found rest = absurd (cc (stricter y strict, here))
+      by_tests false true strict here found rest = let same : y ≡ x = same_Some y x found in absurd (cc (ap q same, strict, is))
+      by_tests false false strict here found rest = rest found
+
+-- what is found meets the test
+pub found_meets : {A : Type 0} (p : A → Bool) (ys : List A) (x : A) → find p ys ≡ Some x → p x ≡ true
+found_meets p [] x found = absurd (cc found)
+found_meets p (y ∷ ys) x found = by_test (p y) refl found (found_meets p ys x)
+  where
+    by_test : (b : Bool) → p y ≡ b → (if b then Some y else find p ys) ≡ Some x → (find p ys ≡ Some x → p x ≡ true) → p x ≡ true
+    by_test true here found rest = let same : y ≡ x = same_Some y x found in ap p (sym same) ∙ here
+    by_test false other found rest = rest found
+
+both_true : (b c : Bool) → (b && c) ≡ true → (b ≡ true) × (c ≡ true)
+both_true true true e = (refl, refl)
+both_true true false e = absurd (cc e)
+both_true false c e = absurd (cc e)
+
+-- the session of an id is the one of its number
+pub named_number : (s : State Sent) (id : List ℕ) (x : Session Sent) → session_named id s ≡ Some x → numbered x.number s.sessions ≡ Some x
+named_number s id x found =
+    let meets = both_true (is_live x.place) (bytes_eq (session_id s.worker x.number) id)
+    (found_meets (λ (y : Session Sent). is_live y.place && bytes_eq (session_id s.worker y.number) id) s.sessions x found) in
+    let own : (x.number == x.number) ≡ true = grind (arith, nat_tests) in
+    let itself : (is_live x.place && (x.number == x.number)) ≡ true = grind (arith, meets.0, own) in
+    first_of_fewer
+    (λ (y : Session Sent). is_live y.place && bytes_eq (session_id s.worker y.number) id)
+    (λ (y : Session Sent). is_live y.place && (y.number == x.number))
+    (λ y strict.
+      let both = both_true (is_live y.place) (y.number == x.number) strict in
+      let same : y.number ≡ x.number = eqb-true y.number x.number both.1 in
+      let named : bytes_eq (session_id s.worker y.number) id ≡ true = ap (λ n. bytes_eq (session_id s.worker n) id) same ∙ meets.1 in
+      grind (arith, both.0, named))
+    x itself s.sessions found
+
+-- a resume that goes on is of a session that has this kept
+pub record IsOf (s : State Sent) (number seq : ℕ) (held : Replay) : Type 0 where
+  pub session : Session Sent
+  pub found : numbered number s.sessions ≡ Some session
+  pub same : replay session.sent ≡ held
+  pub low : held.last - length held.held ≤ seq
+  pub high : seq ≤ held.last
+
+abbrev pub Fits : State Sent → Move → Type 0
+Fits s Nothing = Unit {0}
+Fits s Answers = Unit {0}
+Fits s (Shuts code) = Unit {0}
+Fits s (Begins bot v) = Unit {0}
+Fits s Denies = Unit {0}
+Fits s (Resumes number older seq held) = IsOf s number seq held
+
+fits_named : (s : State Sent) (r : Resume) (o : Option (Session Sent)) → session_named r.session s ≡ o → Fits s (resume_move (resume_by replay r o))
+fits_named s r None none = tt
+fits_named s r (Some x) found = by_tests (bytes_eq x.token r.token) (nat_lt (replay x.sent).last r.seq) (nat_lt r.seq ((replay x.sent).last - length (replay x.sent).held)) refl refl
+  where
+    by_tests : (own past below : Bool) → nat_lt (replay x.sent).last r.seq ≡ past → nat_lt r.seq ((replay x.sent).last - length (replay x.sent).held) ≡ below
+        → Fits s (resume_move (if not own then Unknown else (if past then Beyond else (if below then Unknown else Goes x.number (attached x.place) r.seq (replay x.sent)))))
+    by_tests false past below p b = tt
+    by_tests true true below p b = tt
+    by_tests true false true p b = tt
+    by_tests true false false p b = record {
+      session = x;
+      found = named_number s r.session x found;
+      same = refl;
+      low = at_least r.seq ((replay x.sent).last - length (replay x.sent).held) b;
+      high = at_least (replay x.sent).last r.seq p;
+    }
+      where
+        at_least : (n m : ℕ) → nat_lt n m ≡ false → m ≤ n
+        at_least n m e = grind (arith, nat_tests, e)
+
+pub fits_text : (w : Worker) (conn : ℕ) (text : List ℕ) → Fits w.core (move_of replay w.core w.now conn text)
+fits_text w conn text = by_link (has_link conn w.core) (is_rated conn w.now w.core)
+  where
+    by_start : (i : Identify) (r : Result Bot ℕ) → Fits w.core (identify_move i r)
+    by_start i (Ok bot) = tt
+    by_start i (Err code) = tt
+
+    by_first : (f : Frame) → Fits w.core (first_move replay w.core f)
+    by_first (frame.Heartbeat seq) = tt
+    by_first (frame.Identify i) = by_start i (identified w.core i)
+    by_first (frame.Resume r) = fits_named w.core r (session_named r.session w.core) refl
+    by_first (frame.Presence status) = tt
+    by_first (frame.Voice ask) = tt
+    by_first (frame.Ask ask) = tt
+
+    by_later : (f : Frame) → Fits w.core (later_move f)
+    by_later (frame.Heartbeat seq) = tt
+    by_later (frame.Identify i) = tt
+    by_later (frame.Resume r) = tt
+    by_later (frame.Presence status) = tt
+    by_later (frame.Voice ask) = tt
+    by_later (frame.Ask ask) = tt
+
+    by_read : (has : Bool) (r : Result Frame FrameFault) → Fits w.core (read_move replay w.core has r)
+    by_read has (Err fault) = tt
+    by_read true (Ok f) = by_later f
+    by_read false (Ok f) = by_first f
+
+    by_link : (b rated : Bool) → Fits w.core (if b then (if rated then Shuts 4008 else read_move replay w.core (has_session conn w.core) (frame_of text)) else Nothing)
+    by_link false rated = tt
+    by_link true true = tt
+    by_link true false = by_read (has_session conn w.core) (frame_of text)
+
+-- ---- what goes out again
+
+-- texts after a number
+drop_texts : (n q : ℕ) (ds : List Dispatch) → texts_from (n + q) (drop q ds) ≡ drop q (texts_from n ds)
+drop_texts n zero [] = refl
+drop_texts n zero (d ∷ ds) = ap (λ m. texts_from m (d ∷ ds)) (omega arith)
+drop_texts n (suc q) [] = refl
+drop_texts n (suc q) (d ∷ ds) = ap (λ m. texts_from m (drop q ds)) (omega arith) ∙ drop_texts (n + 1) q ds
+
+resend : (conn n : ℕ) (ds : List Dispatch) → all_written (sends (Attached conn) n ds) ≡ flat_map plain (map (λ text. reply.Text conn text) (texts_from n ds))
+resend conn n [] = refl
+resend conn n (d ∷ ds) = ap (λ out. Send conn (compact_text (data_of d (n + 1))) ∷ out) (resend conn (n + 1) ds)
+
+-- the texts that are held are those of the dispatches after the number
+resent_texts : (sent : Sent) (seq : ℕ) → (replay sent).last - length (replay sent).held ≤ seq → seq ≤ (replay sent).last
+    → texts_from seq (drop seq (dispatches sent)) ≡ texts_after (replay sent) seq
+resent_texts sent seq low high =
+    ap (λ n. texts_from n (drop seq (dispatches sent))) (none_before seq)
+    ∙ (drop_texts 0 seq (dispatches sent) ∙ sym (texts_after-replay_of 1024 4194304 (texts_from 0 (dispatches sent)) seq low high))
+  where
+    none_before : (n : ℕ) → n ≡ 0 + n
+    none_before n = omega arith
+
+older_out : (older : Option ℕ) → all_written (older_sends older) ≡ flat_map plain (older_closes older)
+older_out None = refl
+older_out (Some c) = refl
+
+pub resumes_out : (w : Worker) (conn number : ℕ) (older : Option ℕ) (seq : ℕ) (held : Replay) → IsOf w.core number seq held
+    → all_written (frame_sends w conn (Resumes number older seq held)) ≡ flat_map plain (resume_replies conn older seq held)
+resumes_out w conn number older seq held of =
+    let Low : Replay → Type 0 = λ r. r.last - length r.held ≤ seq in
+    let High : Replay → Type 0 = λ r. seq ≤ r.last in
+    let x : Session Sent = of.session in
+    let again : List Output = sends (Attached conn) seq (drop seq (dispatches x.sent)) in
+    let end : List Output = Says conn (Resumed held.last) ∷ [] in
+    let texts : List Reply = map (λ text. reply.Text conn text) (texts_after held seq) in
+    let done : List Reply = reply.Send conn (Resumed held.last) ∷ [] in
+    let is : texts_from seq (drop seq (dispatches x.sent)) ≡ texts_after held seq =
+    resent_texts x.sent seq (subst Low (sym of.same) of.low) (subst High (sym of.same) of.high) ∙ ap (λ r. texts_after r seq) of.same in
+    ap (λ o. all_written (older_sends older ++ (resent conn seq o ++ end))) of.found
+    ∙ (map_join written (older_sends older) (again ++ end)
+    ∙ (ap (λ out. all_written (older_sends older) ++ out) (map_join written again end)
+    ∙ (ap (λ out. out ++ (all_written again ++ all_written end)) (older_out older)
+    ∙ (ap (λ out. flat_map plain (older_closes older) ++ (out ++ all_written end)) (resend conn seq (drop seq (dispatches x.sent)) ∙ ap (λ ts. flat_map plain (map (λ text. reply.Text conn text) ts)) is)
+    ∙ (ap (λ out. flat_map plain (older_closes older) ++ out) (sym (flat_map_join plain texts done))
+    ∙ sym (flat_map_join plain (older_closes older) (texts ++ done)))))))
