@@ -85,6 +85,10 @@ module _ (conn number : ℕ) where
   numbered_joined [] x found = absurd (cc found)
   numbered_joined (y ∷ ys) x found = by_test (is_live y.place) (y.number == number) refl refl found (numbered_joined ys x)
     where
+      no_both : (b : Bool) (y : Session Sent) → (if b && false then Some y else numbered number (map (joined conn number) ys)) ≡ numbered number (map (joined conn number) ys)
+      no_both true y = refl
+      no_both false y = refl
+
       by_test : (live own : Bool) → is_live y.place ≡ live → (y.number == number) ≡ own → (if live && own then Some y else numbered number ys) ≡ Some x
           → (numbered number ys ≡ Some x → numbered number (map (joined conn number) ys) ≡ Some (record x { place = Attached conn }))
           → let z : Session Sent = if live && own then record y { place = Attached conn } else y in
@@ -97,10 +101,6 @@ module _ (conn number : ℕ) where
           ap (λ b. if is_live y.place && b then Some y else numbered number (map (joined conn number) ys)) own ∙ (no_both (is_live y.place) y ∙ rest found)
       by_test false own live is found rest =
           ap (λ b. if b && (y.number == number) then Some y else numbered number (map (joined conn number) ys)) live ∙ rest found
-
-      no_both : (b : Bool) (y : Session Sent) → (if b && false then Some y else numbered number (map (joined conn number) ys)) ≡ numbered number (map (joined conn number) ys)
-      no_both true y = refl
-      no_both false y = refl
 
   joined_sent : (xs : List (Session Sent)) → map sent_of (map (joined conn number) xs) ≡ map sent_of xs
   joined_sent [] = refl

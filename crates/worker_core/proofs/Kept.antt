@@ -173,21 +173,18 @@ named_kept : (worker : ℕ) (id : List ℕ) (xs : List (Session Sent)) → optio
 named_kept worker id [] = refl
 named_kept worker id (x ∷ xs) = by_place x.place (named_kept worker id xs)
   where
-    abbrev rest : Option (Session Sent)
-    rest = find (λ (x : Session Sent). is_live x.place && bytes_eq (session_id worker x.number) id) xs
+    by_test : (y : Session Sent) (b : Bool) (rest : Option (Session Sent)) (kept_rest : Option (Session Replay)) → option_map counted rest ≡ kept_rest
+        → option_map counted (if b then Some y else rest) ≡ (if b then Some (counted y) else kept_rest)
+    by_test y true rest kept_rest same = refl
+    by_test y false rest kept_rest same = same
 
-    abbrev kept_rest : Option (Session Replay)
-    kept_rest = find (λ (x : Session Replay). is_live x.place && bytes_eq (session_id worker x.number) id) (flat_map kept_session xs)
-
-    by_test : (y : Session Sent) (b : Bool) → option_map counted rest ≡ kept_rest → option_map counted (if b then Some y else rest) ≡ (if b then Some (counted y) else kept_rest)
-    by_test y true same = refl
-    by_test y false same = same
-
-    by_place : (place : Place) → option_map counted rest ≡ kept_rest
+    by_place : (place : Place)
+        → option_map counted (find (λ (x : Session Sent). is_live x.place && bytes_eq (session_id worker x.number) id) xs)
+        ≡ find (λ (x : Session Replay). is_live x.place && bytes_eq (session_id worker x.number) id) (flat_map kept_session xs)
         → option_map counted (find (λ (x : Session Sent). is_live x.place && bytes_eq (session_id worker x.number) id) (record x { place = place } ∷ xs))
         ≡ find (λ (x : Session Replay). is_live x.place && bytes_eq (session_id worker x.number) id) (kept_session (record x { place = place }) ++ flat_map kept_session xs)
-    by_place (Attached c) same = by_test (record x { place = Attached c }) (bytes_eq (session_id worker x.number) id) same
-    by_place (Detached since) same = by_test (record x { place = Detached since }) (bytes_eq (session_id worker x.number) id) same
+    by_place (Attached c) same = by_test (record x { place = Attached c }) (bytes_eq (session_id worker x.number) id) _ _ same
+    by_place (Detached since) same = by_test (record x { place = Detached since }) (bytes_eq (session_id worker x.number) id) _ _ same
     by_place Ended same = same
 
 resume_by_kept : (r : Resume) (o : Option (Session Sent)) → resume_by replay r o ≡ resume_by as_kept r (option_map counted o)

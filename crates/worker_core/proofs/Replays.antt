@@ -31,6 +31,9 @@ replay_join i b before later =
 pub last_is : (sent : Sent) → (replay sent).last ≡ length sent.told
 last_is sent = length_texts 0 (dispatches sent) ∙ length-map sent.told dispatch_of
 
+none_before : (n : ℕ) → 0 + n ≡ n
+none_before n = omega arith
+
 -- of dispatches that follow, what is kept is what pushes of their texts leave
 pub replay_told : (ts : List Told) (end : Option Cursors) (mark : Mark) (b a : Cursors) (ds : List Dispatch)
     → let old : Sent = record { told = ts; end = end } in
@@ -38,7 +41,7 @@ pub replay_told : (ts : List Told) (end : Option Cursors) (mark : Mark) (b a : C
 replay_told ts end mark b a ds =
     let all : map dispatch_of (ts ++ told mark b a ds) ≡ map dispatch_of ts ++ ds =
     map_join dispatch_of ts (told mark b a ds) ∙ ap (λ xs. map dispatch_of ts ++ xs) (dispatches_told mark b a ds) in
-    let count : 0 + length (map dispatch_of ts) ≡ length (texts_from 0 (map dispatch_of ts)) = sym (length_texts 0 (map dispatch_of ts)) in
+    let count : 0 + length (map dispatch_of ts) ≡ length (texts_from 0 (map dispatch_of ts)) = none_before (length (map dispatch_of ts)) ∙ sym (length_texts 0 (map dispatch_of ts)) in
     ap (λ xs. replay_of 1024 4194304 (texts_from 0 xs)) all
     ∙ (ap (λ ts. replay_of 1024 4194304 ts) (texts_join 0 (map dispatch_of ts) ds)
     ∙ (ap (λ n. replay_of 1024 4194304 (texts_from 0 (map dispatch_of ts) ++ texts_from n ds)) count
