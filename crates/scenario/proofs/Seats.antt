@@ -13,8 +13,8 @@ use Rattle.dispatch_types.specs.declared.viewer.Viewer.{Viewer}
 use Rattle.session_core.specs.declared.bot.Bot.{Bot}
 use Rattle.session_core.specs.State.{State, Session, Detached, opened, has_link, with_link, gone}
 use Rattle.session_core.specs.Ends.{is_final, silent_of, lost, all_gone, left, client_closed}
-use Rattle.session_core.specs.Frames.{Move, Nothing, Answers, Shuts, Begins, framed as after_move, move_of}
-use Rattle.worker_core.specs.World.{Worker, Input, Look, Open, Frame, Lost, Closed, Tick, cursors, ended_at, taken, outputs, Output, looked, entered, Sent, begins_with}
+use Rattle.session_core.specs.Frames.{Move, Nothing, Answers, Shuts, Begins, Denies, Resumes, framed as after_move, move_of}
+use Rattle.worker_core.specs.World.{Worker, Input, Look, Open, Frame, Lost, Closed, Tick, cursors, ended_at, taken, outputs, Output, looked, entered, Sent, replay, begins_with}
 use Rattle.worker_core.specs.Spent.{spends}
 use Rattle.worker_core.specs.Outputs.{all_written}
 use Rattle.worker_core.specs.Telling.{FaultBy}
@@ -141,6 +141,9 @@ moved_number conn now sent Nothing s = refl
 moved_number conn now sent Answers s = refl
 moved_number conn now sent (Shuts code) s = refl
 moved_number conn now sent (Begins bot viewer) s = refl
+moved_number conn now sent Denies s = refl
+moved_number conn now sent (Resumes number None seq held) s = refl
+moved_number conn now sent (Resumes number (Some older) seq held) s = refl
 
 all_gone_number : (conns : List ℕ) (now : ℕ) (s : State Sent) → (all_gone conns now s).worker ≡ s.worker
 all_gone_number [] now s = refl
@@ -164,7 +167,7 @@ closed_number ended conn code now s = by_code (is_final code) (has_link conn s)
 taken_number : (i : Input) (w : Worker) → is_look i ≡ false → (taken w i).core.worker ≡ w.core.worker
 taken_number (Look g es) w calm = absurd (cc calm)
 taken_number (Open conn) w calm = opened_number conn w.now w.core
-taken_number (Frame conn text) w calm = moved_number conn w.now (begins_with w) (move_of w.core w.now conn text) w.core
+taken_number (Frame conn text) w calm = moved_number conn w.now (begins_with w) (move_of replay w.core w.now conn text) w.core
 taken_number (Lost conn) w calm = lost_number conn w.now w.core
 taken_number (Closed conn code) w calm = closed_number (ended_at (cursors w.seen)) conn code w.now w.core
 taken_number (Tick now) w calm = all_gone_number (silent_of (max w.now now) w.core.links) (max w.now now) w.core

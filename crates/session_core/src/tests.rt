@@ -36,8 +36,22 @@ fn second_reply(alloc: Global, first: &str, second: &str) -> Result<Option<Reply
     Ok(replies.pop())
 }
 
-fn closed(code: u16) -> Option<Reply> {
-    Some(Reply::Close(1, code))
+fn closes(reply: Option<Reply>, code: u16) -> bool {
+    match reply {
+        Some(Reply::Close(1, given)) => given == code,
+        _ => false,
+    }
+}
+
+fn sends(reply: Option<Reply>, conn: u32, payload: Out) -> bool {
+    match reply {
+        Some(Reply::Send(to, given)) => to == conn && given == payload,
+        _ => false,
+    }
+}
+
+fn begins(reply: Option<Reply>) -> bool {
+    matches!(&reply, Some(Reply::Begin(1)))
 }
 
 // A heartbeat with blanks up to this length.
@@ -52,13 +66,12 @@ fn padded(alloc: Global, length: usize) -> Result<String, Fail> {
 #[test]
 fn heartbeats(rt: HostRuntime) -> Result<(), Fail> {
     let alloc = rt.alloc();
-    let ack = Some(Reply::Send(1, Out::Ack));
     let short = padded(alloc, 4096)?;
     let long = padded(alloc, 4097)?;
-    assert_eq!(rt; reply(alloc, 0, "{\"op\":1}")?, ack);
-    assert_eq!(rt; reply(alloc, 0, short.as_str())?, ack);
-    assert_eq!(rt; reply(alloc, 0, long.as_str())?, closed(4002));
-    assert_eq!(rt; second_reply(alloc, "{\"op\":7}", "{\"op\":1}")?, None);
+    assert!(rt; sends(reply(alloc, 0, "{\"op\":1}")?, 1, Out::Ack));
+    assert!(rt; sends(reply(alloc, 0, short.as_str())?, 1, Out::Ack));
+    assert!(rt; closes(reply(alloc, 0, long.as_str())?, 4002));
+    assert!(rt; second_reply(alloc, "{\"op\":7}", "{\"op\":1}")?.is_none());
     Ok(())
 }
 
@@ -66,10 +79,10 @@ fn heartbeats(rt: HostRuntime) -> Result<(), Fail> {
 fn refused_texts(rt: HostRuntime) -> Result<(), Fail> {
     let alloc = rt.alloc();
     let idle = "{\"op\":3,\"d\":{\"status\":\"idle\"}}";
-    assert_eq!(rt; reply(alloc, 0, "{")?, closed(4002));
-    assert_eq!(rt; reply(alloc, 0, "{\"op\":7}")?, closed(4001));
-    assert_eq!(rt; reply(alloc, 0, idle)?, closed(4003));
-    assert_eq!(rt; second_reply(alloc, IDENTIFY, IDENTIFY)?, closed(4005));
+    assert!(rt; closes(reply(alloc, 0, "{")?, 4002));
+    assert!(rt; closes(reply(alloc, 0, "{\"op\":7}")?, 4001));
+    assert!(rt; closes(reply(alloc, 0, idle)?, 4003));
+    assert!(rt; closes(second_reply(alloc, IDENTIFY, IDENTIFY)?, 4005));
     Ok(())
 }
 
@@ -79,9 +92,9 @@ fn refused_identifies(rt: HostRuntime) -> Result<(), Fail> {
     let stranger = "{\"op\":2,\"d\":{\"token\":\"zz\",\"intents\":1}}";
     let bit_30 = "{\"op\":2,\"d\":{\"token\":\"t1\",\"intents\":1073741824}}";
     let shard = "{\"op\":2,\"d\":{\"token\":\"t1\",\"intents\":1,\"shard\":[1,1]}}";
-    assert_eq!(rt; reply(alloc, 0, stranger)?, closed(4004));
-    assert_eq!(rt; reply(alloc, 0, bit_30)?, closed(4013));
-    assert_eq!(rt; reply(alloc, 0, shard)?, closed(4010));
+    assert!(rt; closes(reply(alloc, 0, stranger)?, 4004));
+    assert!(rt; closes(reply(alloc, 0, bit_30)?, 4013));
+    assert!(rt; closes(reply(alloc, 0, shard)?, 4010));
     Ok(())
 }
 
@@ -89,10 +102,9 @@ fn refused_identifies(rt: HostRuntime) -> Result<(), Fail> {
 fn sessions_begin(rt: HostRuntime) -> Result<(), Fail> {
     let alloc = rt.alloc();
     let members = "{\"op\":2,\"d\":{\"token\":\"t1\",\"intents\":2}}";
-    let begun = Some(Reply::Begin(1));
-    assert_eq!(rt; reply(alloc, 0, IDENTIFY)?, begun);
-    assert_eq!(rt; reply(alloc, 0, members)?, closed(4014));
-    assert_eq!(rt; reply(alloc, 33026, members)?, begun);
+    assert!(rt; begins(reply(alloc, 0, IDENTIFY)?));
+    assert!(rt; closes(reply(alloc, 0, members)?, 4014));
+    assert!(rt; begins(reply(alloc, 33026, members)?));
     Ok(())
 }
 
@@ -111,12 +123,11 @@ fn sessions_by_place(rt: HostRuntime) -> Result<(), Fail> {
     let viewer = sessions.viewer_at(0).ok_or("no session")?;
     assert_eq!(rt; viewer.threshold, 250);
     assert_eq!(rt; sessions.len(), 1);
-    let first = sessions.push_at(0)?;
-    assert_eq!(rt; (first.number, first.conn), (1, Some(7)));
+    assert_eq!(rt; (sessions.next_at(0)?, sessions.conn_at(0)), (1, Some(7)));
+    sessions.push_at(0, "a".to_string(rt.alloc())?);
     sessions.frame(7, "{\"op\":7}", 5)?;
     assert_eq!(rt; sessions.len(), 1);
-    let second = sessions.push_at(0)?;
-    assert_eq!(rt; (second.number, second.conn), (2, None));
+    assert_eq!(rt; (sessions.next_at(0)?, sessions.conn_at(0)), (2, None));
     Ok(())
 }
 
@@ -125,12 +136,12 @@ fn room_for_64_connections(rt: HostRuntime) -> Result<(), Fail> {
     let mut sessions = worker(rt.alloc(), 0)?;
     for conn in 1..65 {
         let mut replies = sessions.open(conn, 0)?;
-        assert_eq!(rt; replies.pop(), Some(Reply::Send(conn, Out::Hello(41250))));
+        assert!(rt; sends(replies.pop(), conn, Out::Hello(41250)));
     }
     let mut replies = sessions.open(65, 0)?;
-    assert_eq!(rt; replies.pop(), Some(Reply::Close(65, 4000)));
+    assert!(rt; matches!(replies.as_slice(), [Reply::Close(65, 4000)]));
     let mut again = sessions.open(1, 0)?;
-    assert_eq!(rt; again.pop(), None);
+    assert!(rt; again.pop().is_none());
     Ok(())
 }
 
@@ -141,10 +152,7 @@ fn silent_connections_close(rt: HostRuntime) -> Result<(), Fail> {
     sessions.open(1, 0)?;
     assert_eq!(rt; sessions.tick(82_499)?.len(), 0);
     let replies = sessions.tick(82_500)?;
-    assert_eq!(rt;
-        replies.as_slice(),
-        [Reply::Close(1, 4000), Reply::Close(2, 4000)].as_slice()
-    );
+    assert!(rt; matches!(replies.as_slice(), [Reply::Close(1, 4000), Reply::Close(2, 4000)]));
     Ok(())
 }
 
@@ -175,8 +183,27 @@ fn too_many_frames(rt: HostRuntime) -> Result<(), Fail> {
         sessions.frame(2, "{\"op\":1}", 0)?;
     }
     let mut early = sessions.frame(1, "{\"op\":1}", 59_999)?;
-    assert_eq!(rt; early.pop(), closed(4008));
+    assert!(rt; closes(early.pop(), 4008));
     let mut later = sessions.frame(2, "{\"op\":1}", 60_000)?;
-    assert_eq!(rt; later.pop(), Some(Reply::Send(2, Out::Ack)));
+    assert!(rt; sends(later.pop(), 2, Out::Ack));
+    Ok(())
+}
+
+const RESUME: &str = "{\"op\":6,\"d\":{\"token\":\"t1\",\"session_id\":\"w0s1\",\"seq\":1}}";
+
+#[test]
+fn a_session_goes_on(rt: HostRuntime) -> Result<(), Fail> {
+    let mut sessions = worker(rt.alloc(), 0)?;
+    sessions.open(1, 0)?;
+    sessions.frame(1, IDENTIFY, 0)?;
+    sessions.push_at(0, "a".to_string(rt.alloc())?);
+    sessions.push_at(0, "b".to_string(rt.alloc())?);
+    sessions.open(2, 0)?;
+    let replies = sessions.frame(2, RESUME, 0)?;
+    assert_eq!(rt; replies.len(), 3);
+    assert!(rt; matches!(&replies[0], Reply::Close(1, 4000)));
+    assert!(rt; matches!(&replies[1], Reply::Text(2, text) if text.is("b")));
+    assert!(rt; matches!(&replies[2], Reply::Send(2, Out::Resumed(2))));
+    assert_eq!(rt; sessions.conn_at(0), Some(2));
     Ok(())
 }
