@@ -141,11 +141,11 @@ module _ (s : Record) (e : Edit) (old : State Replay) where
 
       silent : (ys : List (Session Replay)) → flat_map (told_sends s e) ys ≡ []
       silent [] = refl
-      silent (y ∷ ys) = ap (λ os. os ++ flat_map (told_sends s e) ys) (ap (λ ds. sends y.place y.sent ds) (owed_refused s e y.viewer refused) ∙ nothing y.place y.sent) ∙ silent ys
+      silent (y ∷ ys) = ap (λ os. os ++ flat_map (told_sends s e) ys) (ap (λ ds. sends y.place y.sent.last ds) (owed_refused s e y.viewer refused) ∙ nothing y.place y.sent.last) ∙ silent ys
 
       uncounted : (ys : List (Session Replay)) → list_any (told_spends s e) ys ≡ false
       uncounted [] = refl
-      uncounted (y ∷ ys) = ap (λ b. b || list_any (told_spends s e) ys) (ap (λ ds. is_past y.sent (length ds)) (owed_refused s e y.viewer refused) ∙ past_no y.sent) ∙ uncounted ys
+      uncounted (y ∷ ys) = ap (λ b. b || list_any (told_spends s e) ys) (ap (λ ds. is_past y.sent.last (length ds)) (owed_refused s e y.viewer refused) ∙ past_no y.sent.last) ∙ uncounted ys
 
 -- one entry more
 module _ (g : Record) (e : Edit) (es : List Edit) (old new : State Replay) (before out : List Written) (told : TellsEach g e old new before out) where
