@@ -15,7 +15,7 @@ use Rattle.dispatch_types.specs.Fold.{Held, contains, purge, fold_from}
 use Rattle.edit_apply.specs.Edits.{after, state}
 use Rattle.edit_apply.specs.declared.Edit.{Edit}
 use Rattle.edit_events.specs.Due.{owed}
-use Rattle.edit_events.specs.Law.{Agrees, is_built}
+use Rattle.edit_events.specs.Law.{Agrees}
 use Rattle.session_core.specs.declared.bot.Bot.{Bot}
 use Rattle.session_core.specs.declared.reply.Mark.{Mark}
 use Rattle.session_core.specs.declared.reply.Mark.TheVariants.{Start, Entry}
@@ -55,7 +55,7 @@ module _ (seen : Seen) (g : ℕ) (e : Edit) where
       by_id false le = inl le
 
   -- a client that held the projection holds that of the longer log
-  module _ (v : Viewer) (sent : List Told) (mark : Mark) (built : is_built e ≡ true) (old : Meets seen (cursors seen) v sent) where
+  module _ (v : Viewer) (sent : List Told) (mark : Mark) (old : Meets seen (cursors seen) v sent) where
     abbrev pub ds : List Dispatch
     ds = owed (state g (seen g)) e v
 
@@ -66,7 +66,7 @@ module _ (seen : Seen) (g : ℕ) (e : Edit) where
     own_more =
         let s : Record = state g (seen g) in
         let P : ℕ → Type 0 = λ n. Agrees (after s e) v (fold_from v.intents n (held v g sent) ds) in
-        let kept : P s.id = edit_keeps s e v (held v g sent) (state_is_well g (seen g)) built (held_now g) in
+        let kept : P s.id = edit_keeps s e v (held v g sent) (state_is_well g (seen g)) (held_now g) in
         let here : P g = subst P (state_id g (seen g)) kept in
         subst (λ (t : Record). Agrees t v (fold_from v.intents g (held v g sent) ds)) (sym (state_join (closed g) (seen g) (e ∷ []))) here
 
@@ -75,7 +75,7 @@ module _ (seen : Seen) (g : ℕ) (e : Edit) where
         let Q : ℕ → Type 0 = λ n. purge v.intents n (held v h sent) ≡ held v h sent in
         let still : Q h = subst Q (state_id h (seen h)) (projection_stays (state h (seen h)) v (held v h sent) (state_is_well h (seen h)) (held_now h)) in
         let apart : ((state g (seen g)).id == h) ≡ false = ap (λ n. n == h) (state_id g (seen g)) ∙ differ in
-        subst (λ (hd : Held). Agrees (state h (seen h)) v hd) (sym (others_stay (state g (seen g)) e v h (held v h sent) built apart still)) (held_now h)
+        subst (λ (hd : Held). Agrees (state h (seen h)) v hd) (sym (others_stay (state g (seen g)) e v h (held v h sent) apart still)) (held_now h)
 
     held_more : (h : ℕ) (b : Bool) → (g == h) ≡ b → Agrees (state h (if b then seen h ++ e ∷ [] else seen h)) v (fold_from v.intents h (held v h sent) ds)
     held_more h true same =
@@ -102,12 +102,12 @@ pub record SessionMeets (seen : Seen) (x : Session Sent) : Type 0 where
 abbrev at : Session Sent → Place → Option Cursors → Session Sent
 at x place end = record x { place = place; sent = record { told = x.sent.told; end = end } }
 
-session_entered : (seen : Seen) (g : ℕ) (e : Edit) → is_built e ≡ true → (x : Session Sent) → SessionMeets seen x → SessionMeets (seen_with seen g e) (after_entry seen g e x)
-session_entered seen g e built x = by_place x.place x.sent.end
+session_entered : (seen : Seen) (g : ℕ) (e : Edit) → (x : Session Sent) → SessionMeets seen x → SessionMeets (seen_with seen g e) (after_entry seen g e x)
+session_entered seen g e x = by_place x.place x.sent.end
   where
     live_on : (place : Place) → is_live place ≡ true → IsMarked place None → Meets seen (cursors seen) x.viewer x.sent.told → SessionMeets (seen_with seen g e) (after_entry seen g e (at x place None))
-    live_on (Attached conn) live marked old = record { meets = after_more seen g e x.viewer x.sent.told (Entry g (length (seen g) + 1)) built old; marked = refl }
-    live_on (Detached since) live marked old = record { meets = after_more seen g e x.viewer x.sent.told (Entry g (length (seen g) + 1)) built old; marked = refl }
+    live_on (Attached conn) live marked old = record { meets = after_more seen g e x.viewer x.sent.told (Entry g (length (seen g) + 1)) old; marked = refl }
+    live_on (Detached since) live marked old = record { meets = after_more seen g e x.viewer x.sent.told (Entry g (length (seen g) + 1)) old; marked = refl }
     live_on Ended live marked old = absurd (cc live)
 
     by_place : (place : Place) (end : Option Cursors) → SessionMeets seen (at x place end) → SessionMeets (seen_with seen g e) (after_entry seen g e (at x place end))
@@ -127,10 +127,10 @@ pub record Follows (w : Worker) : Type 0 where
   pub sessions : All (SessionMeets w.seen) w.core.sessions
   pub strangers : (g : ℕ) → contains g w.guilds ≡ false → w.seen g ≡ []
 
-entered_follows : (w : Worker) (g : ℕ) (e : Edit) → is_built e ≡ true → contains g w.guilds ≡ true → Follows w → Follows (entered w g e)
-entered_follows w g e built there old = record {
+entered_follows : (w : Worker) (g : ℕ) (e : Edit) → contains g w.guilds ≡ true → Follows w → Follows (entered w g e)
+entered_follows w g e there old = record {
   sessions = All-map (SessionMeets (seen_with w.seen g e)) (after_entry w.seen g e) w.core.sessions
-      (All-weaker (SessionMeets w.seen) (λ x. SessionMeets (seen_with w.seen g e) (after_entry w.seen g e x)) (session_entered w.seen g e built) w.core.sessions old.sessions);
+      (All-weaker (SessionMeets w.seen) (λ x. SessionMeets (seen_with w.seen g e) (after_entry w.seen g e x)) (session_entered w.seen g e) w.core.sessions old.sessions);
   strangers = λ h none. by_id h none (g == h) refl;
 }
   where
@@ -138,13 +138,9 @@ entered_follows w g e built there old = record {
     by_id h none true same = let here : g ≡ h = eqb-true g h same in absurd (cc (ap (λ n. contains n w.guilds) here))
     by_id h none false differ = old.strangers h none
 
-pub AreBuilt : List Edit → Type 0
-AreBuilt es = All (λ e. is_built e ≡ true) es
-
-looked_follows : (es : List Edit) (w : Worker) (g : ℕ) → All (λ e. is_built e ≡ true) es → contains g w.guilds ≡ true → Follows w → Follows (looked w g es)
-looked_follows [] w g built there old = old
-looked_follows (e ∷ es) w g built there old = looked_follows es (entered w g e) g (All-tail (λ e. is_built e ≡ true) e es built) there
-    (entered_follows w g e (All-head (λ e. is_built e ≡ true) e es built) there old)
+looked_follows : (es : List Edit) (w : Worker) (g : ℕ) → contains g w.guilds ≡ true → Follows w → Follows (looked w g es)
+looked_follows [] w g there old = old
+looked_follows (e ∷ es) w g there old = looked_follows es (entered w g e) g there (entered_follows w g e there old)
 
 -- a session whose connection is gone goes on detached
 released_meets : (seen : Seen) (conn now : ℕ) (x : Session Sent) → SessionMeets seen x → SessionMeets seen (released conn (Detached now) x)
@@ -303,23 +299,14 @@ ticked_follows w now old =
       strangers = old.strangers;
     }
 
--- of a look, that its entries are built
-abbrev pub InputIsBuilt : Input → Type 0
-InputIsBuilt (Look g es) = All (λ e. is_built e ≡ true) es
-InputIsBuilt (Open conn) = Unit {0}
-InputIsBuilt (Frame conn text) = Unit {0}
-InputIsBuilt (Lost conn) = Unit {0}
-InputIsBuilt (Closed conn code) = Unit {0}
-InputIsBuilt (Tick now) = Unit {0}
-
-pub taken_follows : (i : Input) (w : Worker) → InputIsBuilt i → Follows w → Follows (taken w i)
-taken_follows (Look g es) w built old = by_there (contains g w.guilds) refl
+pub taken_follows : (i : Input) (w : Worker) → Follows w → Follows (taken w i)
+taken_follows (Look g es) w old = by_there (contains g w.guilds) refl
   where
     by_there : (b : Bool) → contains g w.guilds ≡ b → Follows (if b then looked w g es else w)
-    by_there true there = looked_follows es w g built there old
+    by_there true there = looked_follows es w g there old
     by_there false none = old
-taken_follows (Open conn) w built old = opened_follows w conn old
-taken_follows (Frame conn text) w built old = framed_follows w conn (move_of replay w.core w.now conn text) old
-taken_follows (Lost conn) w built old = lost_follows w conn old
-taken_follows (Closed conn code) w built old = closed_follows w conn code old
-taken_follows (Tick now) w built old = ticked_follows w (max w.now now) old
+taken_follows (Open conn) w old = opened_follows w conn old
+taken_follows (Frame conn text) w old = framed_follows w conn (move_of replay w.core w.now conn text) old
+taken_follows (Lost conn) w old = lost_follows w conn old
+taken_follows (Closed conn code) w old = closed_follows w conn code old
+taken_follows (Tick now) w old = ticked_follows w (max w.now now) old

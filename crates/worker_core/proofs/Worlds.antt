@@ -1,24 +1,20 @@
 -- What was sent to each session of each worker holds in each world that a list of steps makes.
 use Rattle.std.proofs.Common.{◌≡◌, ℕ, ◌≤◌, List, [], ◌∷◌, ◌++◌, Bool, true, false, if◌then◌else◌, length, take, drop, refl, sym, ap, subst, ◌∙◌, append_assoc, arith}
 use Rattle.std.specs.Prelude.{All, ◌==◌}
-use Rattle.std.proofs.lemmas.List.Elements.{All-map, All-weaker, All-nil, All-append, All-cons, All-drop, All-head, All-tail}
+use Rattle.std.proofs.lemmas.List.Elements.{All-map, All-weaker, All-nil}
 use Rattle.std.proofs.lemmas.List.{take-append-le, length-append}
 use Rattle.std.proofs.Math.Seq.{drop-append_seam}
 use Rattle.std.proofs.lemmas.Bool.{eqb-true}
 use Rattle.dispatch_types.specs.Fold.{contains}
 use Rattle.edit_apply.specs.declared.Edit.{Edit}
-use Rattle.edit_events.specs.Law.{is_built}
 use Rattle.session_core.specs.declared.bot.Bot.{Bot}
 use Rattle.session_core.specs.State.{Session}
 use Rattle.session_core.specs.Frames.{Move}
 use Rattle.worker_core.specs.World.{Seen, Cursors, cursors, seen_with, Sent, Worker, entered, looked, Look, Open, Frame, Lost, Closed, Tick, framed, taken, World, Step, Edits, Looks, Opens, Frames, Loses, Leaves, Ticks, at_worker, stepped, run}
-use Rattle.worker_core.specs.Law.{SessionHolds, WorkerHolds, EachRunHolds, last_cursors, IsBuilt, first_of, first_world}
+use Rattle.worker_core.specs.Law.{SessionHolds, WorkerHolds, EachRunHolds, last_cursors, first_of, first_world}
 use Rattle.worker_core.proofs.Lists.{append_none}
 use Rattle.worker_core.proofs.Sessions.{Meets, grown}
 use Rattle.worker_core.proofs.Workers.{SessionMeets, Follows, taken_follows}
-
-abbrev AreBuilt : List Edit → Type 0
-AreBuilt es = All (λ e. is_built e ≡ true) es
 
 -- what a worker has looked at is the front of each log
 abbrev pub IsFront : Seen → Seen → Type 0
@@ -75,65 +71,28 @@ moved_stays n f m keeps old = All-map (Stays m.logs) (λ (w : Worker). if w.core
     by_number w h true = keeps w h
     by_number w h false = h
 
--- every log has built edits alone
-abbrev LogsAreBuilt : Seen → Type 0
-LogsAreBuilt logs = (g : ℕ) → All (λ e. is_built e ≡ true) (logs g)
+abbrev pub WorldStays : World → Type 0
+WorldStays m = All (Stays m.logs) m.workers
 
-logs_stay_built : (logs : Seen) (g : ℕ) (e : Edit) → is_built e ≡ true → LogsAreBuilt logs → LogsAreBuilt (seen_with logs g e)
-logs_stay_built logs g e built old h = by_id (g == h)
-  where
-    by_id : (b : Bool) → All (λ e. is_built e ≡ true) (if b then logs h ++ e ∷ [] else logs h)
-    by_id true = All-append (λ e. is_built e ≡ true) (logs h) (e ∷ []) (old h) (All-cons (λ e. is_built e ≡ true) e [] built (All-nil (λ e. is_built e ≡ true)))
-    by_id false = old h
+stepped_stays : (s : Step) (m : World) → WorldStays m → WorldStays (stepped m s)
+stepped_stays (Edits g e) m old = All-weaker (Stays m.logs) (Stays (seen_with m.logs g e)) (logged m.logs g e) m.workers old
+stepped_stays (Looks n g) m old =
+    moved_stays n (λ w. taken w (Look g (drop (length (w.seen g)) (m.logs g)))) m
+    (λ w h. record { follows = taken_follows (Look g (drop (length (w.seen g)) (m.logs g))) w h.follows; front = look_front m.logs g w h.front }) old
+stepped_stays (Opens n conn) m old = moved_stays n (λ w. taken w (Open conn)) m (λ w h. record { follows = taken_follows (Open conn) w h.follows; front = h.front }) old
+stepped_stays (Frames n conn text) m old = moved_stays n (λ w. taken w (Frame conn text)) m (λ w h. record { follows = taken_follows (Frame conn text) w h.follows; front = h.front }) old
+stepped_stays (Loses n conn) m old = moved_stays n (λ w. taken w (Lost conn)) m (λ w h. record { follows = taken_follows (Lost conn) w h.follows; front = h.front }) old
+stepped_stays (Leaves n conn code) m old = moved_stays n (λ w. taken w (Closed conn code)) m (λ w h. record { follows = taken_follows (Closed conn code) w h.follows; front = h.front }) old
+stepped_stays (Ticks n now) m old = moved_stays n (λ w. taken w (Tick now)) m (λ w h. record { follows = taken_follows (Tick now) w h.follows; front = h.front }) old
 
-pub record WorldStays (m : World) : Type 0 where
-  pub logs : LogsAreBuilt m.logs
-  pub workers : All (Stays m.logs) m.workers
-
-stepped_stays : (s : Step) (m : World) → IsBuilt s → WorldStays m → WorldStays (stepped m s)
-stepped_stays (Edits g e) m built old = record {
-  logs = logs_stay_built m.logs g e built old.logs;
-  workers = All-weaker (Stays m.logs) (Stays (seen_with m.logs g e)) (logged m.logs g e) m.workers old.workers;
-}
-stepped_stays (Looks n g) m built old = record {
-  logs = old.logs;
-  workers = moved_stays n (λ w. taken w (Look g (drop (length (w.seen g)) (m.logs g)))) m
-      (λ w h. record {
-        follows = taken_follows (Look g (drop (length (w.seen g)) (m.logs g))) w (All-drop (λ e. is_built e ≡ true) (length (w.seen g)) (m.logs g) (old.logs g)) h.follows;
-        front = look_front m.logs g w h.front;
-      }) old.workers;
-}
-stepped_stays (Opens n conn) m built old = record {
-  logs = old.logs;
-  workers = moved_stays n (λ w. taken w (Open conn)) m (λ w h. record { follows = taken_follows (Open conn) w tt h.follows; front = h.front }) old.workers;
-}
-stepped_stays (Frames n conn text) m built old = record {
-  logs = old.logs;
-  workers = moved_stays n (λ w. taken w (Frame conn text)) m (λ w h. record { follows = taken_follows (Frame conn text) w tt h.follows; front = h.front }) old.workers;
-}
-stepped_stays (Loses n conn) m built old = record {
-  logs = old.logs;
-  workers = moved_stays n (λ w. taken w (Lost conn)) m (λ w h. record { follows = taken_follows (Lost conn) w tt h.follows; front = h.front }) old.workers;
-}
-stepped_stays (Leaves n conn code) m built old = record {
-  logs = old.logs;
-  workers = moved_stays n (λ w. taken w (Closed conn code)) m (λ w h. record { follows = taken_follows (Closed conn code) w tt h.follows; front = h.front }) old.workers;
-}
-stepped_stays (Ticks n now) m built old = record {
-  logs = old.logs;
-  workers = moved_stays n (λ w. taken w (Tick now)) m (λ w h. record { follows = taken_follows (Tick now) w tt h.follows; front = h.front }) old.workers;
-}
-
-run_stays : (steps : List Step) (m : World) → All IsBuilt steps → WorldStays m → WorldStays (run m steps)
-run_stays [] m built old = old
-run_stays (s ∷ steps) m built old = run_stays steps (stepped m s) (All-tail IsBuilt s steps built) (stepped_stays s m (All-head IsBuilt s steps built) old)
+run_stays : (steps : List Step) (m : World) → WorldStays m → WorldStays (run m steps)
+run_stays [] m old = old
+run_stays (s ∷ steps) m old = run_stays steps (stepped m s) (stepped_stays s m old)
 
 first_stays : (bots : List Bot) (guilds : List ℕ) (places : List (ℕ × List ℕ)) → WorldStays (first_world bots guilds places)
-first_stays bots guilds places = record {
-  logs = λ g. All-nil (λ e. is_built e ≡ true);
-  workers = All-map (Stays (λ g. [])) (first_of bots guilds) places
-      (λ k d h. record { follows = record { sessions = All-nil (SessionMeets (λ g. [])); strangers = λ g none. refl }; front = λ g. ([], refl) });
-}
+first_stays bots guilds places =
+    All-map (Stays (λ g. [])) (first_of bots guilds) places
+    (λ k d h. record { follows = record { sessions = All-nil (SessionMeets (λ g. [])); strangers = λ g none. refl }; front = λ g. ([], refl) })
 
 -- in the words of the law
 session_holds : (logs seen : Seen) (x : Session Sent) → IsFront seen logs → SessionMeets seen x → SessionHolds logs (cursors seen) x
@@ -150,6 +109,6 @@ worker_holds logs w old = All-weaker (SessionMeets w.seen) (SessionHolds logs (c
 
 pub each_run_holds : EachRunHolds
 unfolding EachRunHolds
-each_run_holds bots guilds places steps built =
+each_run_holds bots guilds places steps =
     let m : World = run (first_world bots guilds places) steps in
-    All-weaker (Stays m.logs) (WorkerHolds m.logs) (worker_holds m.logs) m.workers (run_stays steps (first_world bots guilds places) built (first_stays bots guilds places)).workers
+    All-weaker (Stays m.logs) (WorkerHolds m.logs) (worker_holds m.logs) m.workers (run_stays steps (first_world bots guilds places) (first_stays bots guilds places))

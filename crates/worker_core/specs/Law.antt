@@ -5,10 +5,10 @@ use Rattle.dispatch_types.specs.declared.dispatch.Dispatch.{Dispatch}
 use Rattle.dispatch_types.specs.Fold.{Held, fold}
 use Rattle.edit_apply.specs.Edits.{state}
 use Rattle.edit_apply.specs.declared.Edit.{Edit}
-use Rattle.edit_events.specs.Law.{Agrees, is_built}
+use Rattle.edit_events.specs.Law.{Agrees}
 use Rattle.session_core.specs.declared.bot.Bot.{Bot}
 use Rattle.session_core.specs.State.{Session, is_on}
-use Rattle.worker_core.specs.World.{Cursors, cursors, Told, dispatch_of, Sent, Worker, World, Step, Edits, Looks, Opens, Frames, Loses, Leaves, Ticks, Output, Says, Tells, Closes, Input, taken, outputs, run, first_worker}
+use Rattle.worker_core.specs.World.{Cursors, cursors, Told, dispatch_of, Sent, Worker, World, Step, Output, Says, Tells, Closes, Input, taken, outputs, run, first_worker}
 
 -- what a client holds of a guild after all of these
 abbrev pub held : Viewer → ℕ → List Told → Held
@@ -48,16 +48,6 @@ pub record SessionHolds (logs : ℕ → List Edit) (now : Cursors) (x : Session 
 abbrev pub WorkerHolds : (ℕ → List Edit) → Worker → Type 0
 WorkerHolds logs w = All (SessionHolds logs (cursors w.seen)) w.core.sessions
 
--- a step of an edit whose events are built
-abbrev pub IsBuilt : Step → Type 0
-IsBuilt (Edits g e) = is_built e ≡ true
-IsBuilt (Looks n g) = Unit {0}
-IsBuilt (Opens n conn) = Unit {0}
-IsBuilt (Frames n conn text) = Unit {0}
-IsBuilt (Loses n conn) = Unit {0}
-IsBuilt (Leaves n conn code) = Unit {0}
-IsBuilt (Ticks n now) = Unit {0}
-
 -- a first worker by its number and its URL
 abbrev pub first_of : List Bot → List ℕ → ℕ × List ℕ → Worker
 first_of bots guilds place = first_worker bots guilds place.0 place.1
@@ -67,7 +57,7 @@ first_world bots guilds places = record { logs = λ g. []; workers = map (first_
 
 -- whatever steps come, what a session was sent folds to the projection of one prefix of each log
 unfoldable pub EachRunHolds : Type 0
-EachRunHolds = (bots : List Bot) (guilds : List ℕ) (places : List (ℕ × List ℕ)) (steps : List Step) → All IsBuilt steps
+EachRunHolds = (bots : List Bot) (guilds : List ℕ) (places : List (ℕ × List ℕ)) (steps : List Step)
     → let world = run (first_world bots guilds places) steps in All (WorkerHolds world.logs) world.workers
 
 -- the dispatch of this number, from 1
