@@ -14,3 +14,4 @@ pub mod Standing
 pub mod Telling
 pub mod Looking
 pub mod Moving
+pub mod Entries

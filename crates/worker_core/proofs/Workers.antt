@@ -11,6 +11,7 @@ use Rattle.std.proofs.lemmas.Bool.{eqb-true}
 use Rattle.guild_model.specs.Record.{Record, closed}
 use Rattle.dispatch_types.specs.declared.viewer.Viewer.{Viewer}
 use Rattle.dispatch_types.specs.declared.dispatch.Dispatch.{Dispatch}
+use Rattle.dispatch_types.specs.declared.dispatch.Dispatch.TheVariants.{Ready}
 use Rattle.dispatch_types.specs.Fold.{Held, contains, purge, fold_from}
 use Rattle.edit_apply.specs.Edits.{after, state}
 use Rattle.edit_apply.specs.declared.Edit.{Edit}
@@ -23,11 +24,13 @@ use Rattle.session_core.specs.State.{State, Session, Place, Attached, Detached, 
 use Rattle.session_core.specs.Frames.{Move, Nothing, Answers, Shuts, Begins, Denies, Resumes, move_of}
 use Rattle.session_core.specs.Resume.{joined, attached_to, resumed}
 use Rattle.session_core.specs.Ends.{is_final, lost, all_gone, left_of, left, client_closed, kept_for, silent_of}
-use Rattle.worker_core.specs.World.{Seen, Cursors, cursors, seen_with, Told, told, Sent, replay, Worker, after_entry, entered, looked, first_dispatches, begins_with, Input, Look, Open, Frame, Lost, Closed, Tick, ended_at, framed, passed, taken}
+use Rattle.worker_core.specs.World.{Seen, Cursors, cursors, seen_with, Told, told, Sent, replay, Worker, after_entry, entered, looked, greeting_of, ready, first_dispatches, begins_with, Input, Look, Open, Frame, Lost, Closed, Tick, ended_at, framed, passed, taken}
 use Rattle.worker_core.specs.Law.{held, last_cursors}
+use Rattle.worker_core.specs.Entries.{first_cursors}
 use Rattle.worker_core.proofs.Folds.{held_join, state_join}
 use Rattle.worker_core.proofs.Sessions.{Meets, grown, more_sent}
 use Rattle.worker_core.proofs.Greetings.{first_agrees}
+use Rattle.worker_core.proofs.Entries.{Entries, entries_grown, entries_first, entries_after}
 
 module _ (seen : Seen) (g : ℕ) (e : Edit) where
   abbrev pub is : Seen
@@ -98,6 +101,7 @@ IsMarked Ended end = (last : Cursors) × (end ≡ Some last)
 pub record SessionMeets (seen : Seen) (x : Session Sent) : Type 0 where
   pub meets : Meets seen (last_cursors (cursors seen) x) x.viewer x.sent.told
   pub marked : IsMarked x.place x.sent.end
+  pub entries : Entries seen (last_cursors (cursors seen) x) x.viewer x.sent.told
 
 abbrev at : Session Sent → Place → Option Cursors → Session Sent
 at x place end = record x { place = place; sent = record { told = x.sent.told; end = end } }
@@ -105,15 +109,15 @@ at x place end = record x { place = place; sent = record { told = x.sent.told; e
 session_entered : (seen : Seen) (g : ℕ) (e : Edit) → (x : Session Sent) → SessionMeets seen x → SessionMeets (seen_with seen g e) (after_entry seen g e x)
 session_entered seen g e x = by_place x.place x.sent.end
   where
-    live_on : (place : Place) → is_live place ≡ true → IsMarked place None → Meets seen (cursors seen) x.viewer x.sent.told → SessionMeets (seen_with seen g e) (after_entry seen g e (at x place None))
-    live_on (Attached conn) live marked old = record { meets = after_more seen g e x.viewer x.sent.told (Entry g (length (seen g) + 1)) old; marked = refl }
-    live_on (Detached since) live marked old = record { meets = after_more seen g e x.viewer x.sent.told (Entry g (length (seen g) + 1)) old; marked = refl }
-    live_on Ended live marked old = absurd (cc live)
+    live_on : (place : Place) → is_live place ≡ true → IsMarked place None → Meets seen (cursors seen) x.viewer x.sent.told → Entries seen (cursors seen) x.viewer x.sent.told → SessionMeets (seen_with seen g e) (after_entry seen g e (at x place None))
+    live_on (Attached conn) live marked old entries = record { meets = after_more seen g e x.viewer x.sent.told (Entry g (length (seen g) + 1)) old; marked = refl; entries = entries_after seen g e x.viewer x.sent.told entries }
+    live_on (Detached since) live marked old entries = record { meets = after_more seen g e x.viewer x.sent.told (Entry g (length (seen g) + 1)) old; marked = refl; entries = entries_after seen g e x.viewer x.sent.told entries }
+    live_on Ended live marked old entries = absurd (cc live)
 
     by_place : (place : Place) (end : Option Cursors) → SessionMeets seen (at x place end) → SessionMeets (seen_with seen g e) (after_entry seen g e (at x place end))
-    by_place (Attached conn) None old = live_on (Attached conn) refl refl old.meets
+    by_place (Attached conn) None old = live_on (Attached conn) refl refl old.meets old.entries
     by_place (Attached conn) (Some last) old = absurd (cc (old.marked))
-    by_place (Detached since) None old = live_on (Detached since) refl refl old.meets
+    by_place (Detached since) None old = live_on (Detached since) refl refl old.meets old.entries
     by_place (Detached since) (Some last) old = absurd (cc (old.marked))
     by_place Ended None old = absurd (cc (old.marked.1))
     by_place Ended (Some last) old = record {
@@ -121,6 +125,11 @@ session_entered seen g e x = by_place x.place x.sent.end
           (λ h p le. prefix_kept seen g e h p (omega (arith, old.meets.within h, le)))
           (λ h. omega (arith, old.meets.within h, longer seen g e h)) old.meets;
       marked = old.marked;
+      entries = record {
+        starts = old.entries.starts;
+        holds = entries_grown seen (seen_with seen g e) (first_cursors x.sent.told) last x.viewer x.sent.told
+            (λ h p le. prefix_kept seen g e h p (omega (arith, old.meets.within h, le))) old.entries.holds;
+      };
     }
 
 pub record Follows (w : Worker) : Type 0 where
@@ -147,7 +156,7 @@ released_meets : (seen : Seen) (conn now : ℕ) (x : Session Sent) → SessionMe
 released_meets seen conn now x = by_place x.place
   where
     choose : (b : Bool) (c : ℕ) → SessionMeets seen (record x { place = Attached c }) → SessionMeets seen (if b then record x { place = Detached now } else record x { place = Attached c })
-    choose true c old = record { meets = old.meets; marked = old.marked }
+    choose true c old = record { meets = old.meets; marked = old.marked; entries = old.entries }
     choose false c old = old
 
     by_place : (place : Place) → SessionMeets seen (record x { place = place }) → SessionMeets seen (released conn (Detached now) (record x { place = place }))
@@ -170,6 +179,7 @@ begun_follows w conn bot v old = record {
         (λ h. subst (λ (hd : Held). Agrees (state h (w.seen h)) v hd) (sym (held_join v h [] Start (cursors w.seen) (cursors w.seen) (first_dispatches w v bot (w.core.made + 1))))
         (first_agrees w v h bot (w.core.made + 1) (old.strangers h)));
     marked = refl;
+    entries = entries_first w.seen v (Ready (ready w v bot (w.core.made + 1))) (flat_map (greeting_of w v) w.guilds);
   });
   strangers = old.strangers;
 }
@@ -230,14 +240,14 @@ single : (seen : Seen) (x : Session Sent) → SessionMeets seen x → All (Sessi
 single seen x old = All-cons (SessionMeets seen) x [] old (All-nil (SessionMeets seen))
 
 -- a session that has not ended, as it ends
-ended_meets : (seen : Seen) (x : Session Sent) (place : Place) → Meets seen (cursors seen) x.viewer x.sent.told → All (SessionMeets seen) (ended_at (cursors seen) (at x place None))
-ended_meets seen x place old = All-cons (SessionMeets seen) _ [] (record { meets = old; marked = (cursors seen, refl) }) (All-nil (SessionMeets seen))
+ended_meets : (seen : Seen) (x : Session Sent) (place : Place) → Meets seen (cursors seen) x.viewer x.sent.told → Entries seen (cursors seen) x.viewer x.sent.told → All (SessionMeets seen) (ended_at (cursors seen) (at x place None))
+ended_meets seen x place old entries = All-cons (SessionMeets seen) _ [] (record { meets = old; marked = (cursors seen, refl); entries = entries }) (All-nil (SessionMeets seen))
 
 left_meets : (seen : Seen) (conn : ℕ) (x : Session Sent) → SessionMeets seen x → All (SessionMeets seen) (left_of (ended_at (cursors seen)) conn x)
 left_meets seen conn x = by_place x.place x.sent.end
   where
     choose : (b : Bool) (c : ℕ) → SessionMeets seen (at x (Attached c) None) → All (SessionMeets seen) (if b then ended_at (cursors seen) (at x (Attached c) None) else at x (Attached c) None ∷ [])
-    choose true c old = ended_meets seen x (Attached c) old.meets
+    choose true c old = ended_meets seen x (Attached c) old.meets old.entries
     choose false c old = single seen (at x (Attached c) None) old
 
     by_place : (place : Place) (end : Option Cursors) → SessionMeets seen (at x place end) → All (SessionMeets seen) (left_of (ended_at (cursors seen)) conn (at x place end))
@@ -250,7 +260,7 @@ kept_meets : (seen : Seen) (now : ℕ) (x : Session Sent) → SessionMeets seen 
 kept_meets seen now x = by_place x.place x.sent.end
   where
     choose : (b : Bool) (since : ℕ) → SessionMeets seen (at x (Detached since) None) → All (SessionMeets seen) (if b then ended_at (cursors seen) (at x (Detached since) None) else at x (Detached since) None ∷ [])
-    choose true since old = ended_meets seen x (Detached since) old.meets
+    choose true since old = ended_meets seen x (Detached since) old.meets old.entries
     choose false since old = single seen (at x (Detached since) None) old
 
     by_place : (place : Place) (end : Option Cursors) → SessionMeets seen (at x place end) → All (SessionMeets seen) (kept_for (ended_at (cursors seen)) now (at x place end))

@@ -7,12 +7,17 @@ use Rattle.std.proofs.Math.Seq.{drop-append_seam}
 use Rattle.std.proofs.lemmas.Bool.{eqb-true}
 use Rattle.dispatch_types.specs.Fold.{contains}
 use Rattle.edit_apply.specs.declared.Edit.{Edit}
+use Rattle.edit_apply.specs.declared.Edit.TheVariants as edit
+use Rattle.edit_apply.specs.Edits.{state}
+use Rattle.edit_events.proofs.Messages.{messages-shown}
 use Rattle.session_core.specs.declared.bot.Bot.{Bot}
 use Rattle.session_core.specs.State.{Session}
 use Rattle.session_core.specs.Frames.{Move}
 use Rattle.worker_core.specs.World.{Seen, Cursors, cursors, seen_with, Sent, Worker, entered, looked, Look, Open, Frame, Lost, Closed, Tick, framed, taken, World, Step, Edits, Looks, Opens, Frames, Loses, Leaves, Ticks, at_worker, stepped, run}
 use Rattle.worker_core.specs.Law.{SessionHolds, WorkerHolds, EachRunHolds, last_cursors, first_of, first_world}
+use Rattle.worker_core.specs.Entries.{first_cursors, SessionEntriesHold, EachEntryHolds, MessagesHold, EachMessageHolds}
 use Rattle.worker_core.proofs.Lists.{append_none}
+use Rattle.worker_core.proofs.Entries.{entries_grown}
 use Rattle.worker_core.proofs.Sessions.{Meets, grown}
 use Rattle.worker_core.proofs.Workers.{SessionMeets, Follows, taken_follows}
 
@@ -112,3 +117,35 @@ unfolding EachRunHolds
 each_run_holds bots guilds places steps =
     let m : World = run (first_world bots guilds places) steps in
     All-weaker (Stays m.logs) (WorkerHolds m.logs) (worker_holds m.logs) m.workers (run_stays steps (first_world bots guilds places) (first_stays bots guilds places))
+
+-- ---- what was made for each entry
+
+session_entries : (logs seen : Seen) (x : Session Sent) → IsFront seen logs → SessionMeets seen x → SessionEntriesHold logs (cursors seen) x
+session_entries logs seen x front old =
+    entries_grown seen logs (first_cursors x.sent.told) (last_cursors (cursors seen) x) x.viewer x.sent.told
+    (λ g p le. ap (λ es. take p es) (front g).1 ∙ take-append-le p (seen g) (front g).0 (omega (arith, old.meets.within g, le))) old.entries.holds
+
+worker_entries : (logs : Seen) (w : Worker) → Stays logs w → All (SessionEntriesHold logs (cursors w.seen)) w.core.sessions
+worker_entries logs w old =
+    All-weaker (SessionMeets w.seen) (SessionEntriesHold logs (cursors w.seen)) (λ x. session_entries logs w.seen x old.front) w.core.sessions old.follows.sessions
+
+pub each_entry_holds : EachEntryHolds
+unfolding EachEntryHolds
+each_entry_holds bots guilds places steps =
+    let m : World = run (first_world bots guilds places) steps in
+    All-weaker (Stays m.logs) (λ (w : Worker). All (SessionEntriesHold m.logs (cursors w.seen)) w.core.sessions) (worker_entries m.logs) m.workers
+    (run_stays steps (first_world bots guilds places) (first_stays bots guilds places))
+
+session_messages : (logs : Seen) (now : Cursors) (x : Session Sent) → SessionEntriesHold logs now x → MessagesHold logs now x
+session_messages logs now x old g front e is from upto accepted = old.handled g front (edit.Message e) is from upto ∙ (messages-shown (state g front) e x.viewer accepted).1
+
+worker_messages : (logs : Seen) (w : Worker) → Stays logs w → All (MessagesHold logs (cursors w.seen)) w.core.sessions
+worker_messages logs w old =
+    All-weaker (SessionEntriesHold logs (cursors w.seen)) (MessagesHold logs (cursors w.seen)) (session_messages logs (cursors w.seen)) w.core.sessions (worker_entries logs w old)
+
+pub each_message_holds : EachMessageHolds
+unfolding EachMessageHolds
+each_message_holds bots guilds places steps =
+    let m : World = run (first_world bots guilds places) steps in
+    All-weaker (Stays m.logs) (λ (w : Worker). All (MessagesHold m.logs (cursors w.seen)) w.core.sessions) (worker_messages m.logs) m.workers
+    (run_stays steps (first_world bots guilds places) (first_stays bots guilds places))

@@ -1,5 +1,6 @@
 pub mod World
 pub mod Law
+pub mod Entries
 pub mod Kept
 pub mod Stands
 pub mod Spent

@@ -1,11 +1,23 @@
 //! The laws over every run, as functions whose contracts are the statements.
 ghost use Rattle.worker_core.specs.Law.{EachRunHolds, EachSendHolds};
 ghost use Rattle.worker_core.specs.Resumes.{EachResumeHolds};
+ghost use Rattle.worker_core.specs.Entries.{EachEntryHolds, EachMessageHolds};
 ghost use Rattle.worker_core.specs.Stands.{LooksStand, LooksPast, OpensStand, FramesStand, LossesStand, LeavesStand, TicksStand};
 
 /// Whatever steps come, what a session was sent folds to the projection of one prefix of each log.
 pub fn projection_of_a_prefix()
     ensures { EachRunHolds }
+{}
+
+/// What a session was sent for an entry that was handled while it was there is exactly what that entry
+/// owed, and nothing was sent for any other.
+pub fn entries_are_told()
+    ensures { EachEntryHolds }
+{}
+
+/// The dispatch of an edit of messages was sent, once, exactly where it is shown after that very entry.
+pub fn messages_are_told()
+    ensures { EachMessageHolds }
 {}
 
 /// Each dispatch that goes out is that of its number of the session that the connection has.
