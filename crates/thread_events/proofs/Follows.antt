@@ -19,7 +19,7 @@ use Rattle.guild_model.specs.Ascending.{IsWell}
 use Rattle.guild_model.specs.Consistent.{is_place}
 use Rattle.guild_model.specs.Sight.{member_sees}
 use Rattle.guild_model.specs.Tests.{refused_if, first_of, too_long, too_many, unknown_member, unknown_channel}
-use Rattle.guild_model.proofs.Tests.{first_passes, not_refused}
+use Rattle.guild_model.proofs.Tests.{first_passes, not_refused, passed}
 use Rattle.dispatch_types.specs.declared.viewer.Viewer.{Viewer}
 use Rattle.dispatch_types.specs.declared.dispatch.Dispatch.{Dispatch}
 use Rattle.dispatch_types.specs.declared.dispatch.Dispatch.TheVariants as dispatch
@@ -56,15 +56,11 @@ found_one s thread active has state = by_case (find_id thread_id thread s.thread
     by_case (Some x) e there =
         record { there = x; found = e; is = subst (λ (o : Option Thread). not (option_map_or (λ (t : Thread). t.archived) o false) ≡ active) e state }
 
-truth : (b : Bool) → not b ≡ false → b ≡ true
-truth true e = refl
-truth false e = absurd (cc)
-
 -- what the tests let through
 known : (s : Record) (thread : ℕ) (tests : List (Option Verdict)) → first_of (unknown_thread s thread ∷ tests) ≡ None → (has_id thread_id thread s.threads ≡ true) × (first_of tests ≡ None)
 known s thread tests e =
     let both = first_passes (unknown_thread s thread) tests e in
-    (truth (has_id thread_id thread s.threads) (not_refused (not (has_id thread_id thread s.threads)) UnknownThread both.0), both.1)
+    (passed (has_id thread_id thread s.threads) UnknownThread both.0, both.1)
 
 active_now : (s : Record) (thread : ℕ) (tests : List (Option Verdict)) → first_of (not_active s thread ∷ tests) ≡ None → not (is_archived s thread) ≡ true
 active_now s thread tests e = ap not (not_refused (is_archived s thread) Archived (first_passes (not_active s thread) tests e).0)
