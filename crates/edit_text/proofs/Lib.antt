@@ -1,4 +1,3 @@
-pub mod Built
 pub mod EditsBack
 pub mod IntentBits
 pub mod LinesBack

@@ -27,7 +27,7 @@ use Rattle.edit_text.specs.declared.names.MessageEditName.TheVariants.{MessageCr
 use Rattle.edit_text.specs.declared.reader.StepReader.{StepReader}
 use Rattle.edit_text.specs.Fields.{text_at}
 use Rattle.edit_text.specs.Names.{step_named, connection_step_named, any_step_named, step_text, guild_edit_named, role_edit_named, member_edit_named, channel_edit_named, thread_edit_named, thread_state_edit_named, voice_presence_edit_named, message_edit_named, reaction_edit_named, edit_named, name_text}
-use Rattle.edit_text.specs.Edits.{edit_name, is_built_edit}
+use Rattle.edit_text.specs.Edits.{edit_name}
 use Rattle.edit_text.specs.Fits.{LineFits}
 use Rattle.edit_text.specs.Lines.{is_allowed, is_blank, fields_from, line_from, line_of}
 use Rattle.edit_text.specs.Written.{step_name, line_data, edit_within, line_within, allows}
@@ -102,9 +102,9 @@ not_true : (b : Bool) → not b ≡ true → b ≡ false
 not_true true h = sym h
 not_true false h = refl
 
-edit_line_back : (gs : List ℕ) (guild : ℕ) (e : Edit) → Back guild e → is_built_edit e ≡ true
+edit_line_back : (gs : List ℕ) (guild : ℕ) (e : Edit) → Back guild e
     → fields_from gs step.Edit (line_data (EditLine guild e)) ≡ Ok (EditLine guild e)
-edit_line_back gs guild e back built = rw (back.1, back.2, named_back (edit_name e), built, back.3) refl
+edit_line_back gs guild e back = rw (back.1, back.2, named_back (edit_name e), back.3) refl
 
 below : (n limit : ℕ) → n < limit → nat_lt n limit ≡ true
 below n limit h = grind (arith, nat_tests, h)
@@ -118,8 +118,8 @@ unfolding serde_json_on_literals
 line_back gs (Bot token user name privileged) w f = (refl, rw (not_true _ w, id_of_decimal user f.0, f.1) refl)
 line_back gs (Guild id) w f = (refl, rw (id_of_decimal id f, w) refl)
 line_back gs (EditLine guild e) w f =
-    let back : Back guild e = edit_back guild e f.0 f.1 (second_true (is_built_edit e) (edit_within e) w) in
-    (back.0, edit_line_back gs guild e back (first_true (is_built_edit e) (edit_within e) w))
+    let back : Back guild e = edit_back guild e f.0 f.1 w in
+    (back.0, edit_line_back gs guild e back)
 line_back gs (Look worker guild) w f = (refl, rw (w, id_of_decimal guild f) refl)
 line_back gs (Open worker conn) w f = (refl, rw (w, below conn (2 ^ 32) f) refl)
 line_back gs (Frame conn text) w f = (refl, rw (below conn (2 ^ 32) f) refl)

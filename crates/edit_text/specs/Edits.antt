@@ -1,5 +1,5 @@
 -- Edits by their names.
-use Rattle.std.specs.Prelude.{ℕ, List, Bool, Result, Ok}
+use Rattle.std.specs.Prelude.{ℕ, List, Result, Ok}
 use Rattle.serde_json.specs.Data.{Data}
 use Rattle.json_view.specs.Fields.{and_then}
 use Rattle.edit_apply.specs.declared.Edit.{Edit}
@@ -7,7 +7,6 @@ use Rattle.edit_apply.specs.declared.Edit.TheVariants.{Guild, RoleMember, Channe
 use Rattle.edit_text.specs.declared.fault.LineFault.{LineFault}
 use Rattle.edit_text.specs.declared.names.EditName.{EditName}
 use Rattle.edit_text.specs.declared.names.EditName.TheVariants as name
-use Rattle.edit_text.specs.Names.{is_built}
 use Rattle.edit_text.specs.GuildEdits.{guild_edit_from, guild_edit_name, guild_edit_fields}
 use Rattle.edit_text.specs.RoleMemberEdits.{role_member_edit_from, role_member_edit_name, role_member_edit_fields}
 use Rattle.edit_text.specs.ChannelEdits.{channel_edit_from, channel_edit_name, channel_edit_fields}
@@ -40,7 +39,3 @@ edit_fields (Channel edit) = channel_edit_fields edit
 edit_fields (Thread edit) = thread_edit_fields edit
 edit_fields (VoicePresence edit) = voice_presence_edit_fields edit
 edit_fields (Message edit) = message_edit_fields edit
-
--- whether the edit has a name that may be used
-abbrev pub is_built_edit : Edit → Bool
-is_built_edit edit = is_built (edit_name edit)

@@ -12,4 +12,3 @@ pub mod Edits
 pub mod Lines
 pub mod Written
 pub mod Fits
-pub mod Built

@@ -16,7 +16,7 @@ use Rattle.edit_text.specs.declared.names.StepName.{StepName}
 use Rattle.edit_text.specs.declared.names.StepName.TheVariants as step
 use Rattle.edit_text.specs.declared.reader.StepReader.{StepReader}
 use Rattle.edit_text.specs.Fields.{text_at, id_at, number_below, intents_at}
-use Rattle.edit_text.specs.Names.{any_step_named, is_head, is_built_step, built_edit}
+use Rattle.edit_text.specs.Names.{any_step_named, is_head, is_built_step, edit_named}
 use Rattle.edit_text.specs.Edits.{edit_from}
 
 -- ---- head lines
@@ -57,7 +57,7 @@ abbrev pub edit_line_from : Data → Result Line LineFault
 edit_line_from d =
     and_then (id_at (codes "guild") d) (λ guild.
     and_then (text_at (codes "do") d) (λ text.
-    and_then (ok_or (built_edit text) NoSuchStep) (λ name.
+    and_then (ok_or (edit_named text) NoSuchStep) (λ name.
     and_then (edit_from name d) (λ edit.
     Ok (Edit guild edit)))))
 

@@ -1,5 +1,5 @@
 -- The names of steps and of edits, and which of them may be used.
-use Rattle.std.specs.Prelude.{ℕ, List, Bool, true, false, Option, Some, None, option_map, option_and_then, if◌then◌else◌, codes}
+use Rattle.std.specs.Prelude.{ℕ, List, Bool, true, false, Option, Some, None, option_map, if◌then◌else◌, codes}
 use Rattle.std.specs.Str.{bytes_eq}
 use Rattle.edit_text.specs.declared.names.StepName.{StepName}
 use Rattle.edit_text.specs.declared.names.StepName.TheVariants as step
@@ -213,47 +213,3 @@ name_text (Channel name) = channel_edit_text name
 name_text (Thread name) = thread_edit_text name
 name_text (VoicePresence name) = voice_presence_edit_text name
 name_text (Message name) = message_edit_text name
-
--- the edits that may be used
-abbrev pub is_built : EditName → Bool
-is_built (Guild GuildOpen) = true
-is_built (Guild GuildRename) = true
-is_built (Guild GuildOwner) = true
-is_built (Guild GuildOutage) = false
-is_built (Guild GuildBack) = false
-is_built (RoleMember RoleCreate) = true
-is_built (RoleMember RoleUpdate) = true
-is_built (RoleMember RoleDelete) = true
-is_built (RoleMember MemberAdd) = true
-is_built (RoleMember MemberRemove) = true
-is_built (RoleMember MemberNick) = true
-is_built (RoleMember MemberTimeout) = true
-is_built (RoleMember MemberRoleAdd) = true
-is_built (RoleMember MemberRoleRemove) = true
-is_built (Channel ChannelCreate) = true
-is_built (Channel ChannelUpdate) = true
-is_built (Channel ChannelDelete) = true
-is_built (Channel OverwriteSet) = true
-is_built (Channel OverwriteDelete) = true
-is_built (Thread ThreadCreate) = true
-is_built (Thread ThreadRename) = true
-is_built (Thread ThreadArchive) = true
-is_built (Thread ThreadUnarchive) = true
-is_built (Thread ThreadDelete) = true
-is_built (Thread ThreadJoin) = true
-is_built (Thread ThreadLeave) = true
-is_built (VoicePresence VoiceSet) = false
-is_built (VoicePresence PresenceSet) = false
-is_built (Message MessageCreate) = false
-is_built (Message MessageUpdate) = false
-is_built (Message MessageDelete) = false
-is_built (Message ReactionAdd) = false
-is_built (Message ReactionRemove) = false
-is_built (Message Typing) = false
-
-abbrev pub if_built : EditName → Option EditName
-if_built name = if is_built name then Some name else None
-
--- the edit of a name, where it may be used
-abbrev pub built_edit : List ℕ → Option EditName
-built_edit s = option_and_then if_built (edit_named s)

@@ -17,7 +17,7 @@ use Rattle.edit_text.specs.declared.names.StepName.TheVariants as step
 use Rattle.edit_text.specs.declared.reader.StepReader.{StepReader}
 use Rattle.edit_text.specs.Members.{count, id_data, put_all}
 use Rattle.edit_text.specs.Names.{step_text, name_text}
-use Rattle.edit_text.specs.Edits.{edit_name, edit_fields, is_built_edit}
+use Rattle.edit_text.specs.Edits.{edit_name, edit_fields}
 use Rattle.edit_text.specs.Lines.{has_room, is_allowed}
 
 abbrev pub step_name : Line → StepName
@@ -98,7 +98,7 @@ edit_within (edit.Message e) = message_within e
 abbrev pub line_within : List ℕ → Line → Bool
 line_within guilds (Bot token user name privileged) = not (nat_lt 100 (length token))
 line_within guilds (Guild id) = has_room guilds id
-line_within guilds (EditLine guild edit) = is_built_edit edit && edit_within edit
+line_within guilds (EditLine guild edit) = edit_within edit
 line_within guilds (Look worker guild) = nat_lt worker 4
 line_within guilds (Open worker conn) = nat_lt worker 4
 line_within guilds (Frame conn text) = true

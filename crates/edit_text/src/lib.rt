@@ -1,8 +1,6 @@
 //! Step files: what each line means, and the line of each step.
 #![tactic(auto)]
 
-ghost use Rattle.edit_text.specs.Built.{GivesBuiltEdits};
-
 mod edits;
 mod fault;
 mod fields;
@@ -19,8 +17,3 @@ pub use fault::LineFault;
 pub use line::{FileKind, Line};
 pub use names::{ChannelEditName, EditName, GuildEditName, RoleMemberEditName};
 pub use reader::{MAX_LINE_BYTES, MAX_LINES, StepReader};
-
-/// Whatever a reader was given before, an edit of a line has a name that may be used.
-pub fn gives_built_edits()
-    ensures { GivesBuiltEdits }
-{}

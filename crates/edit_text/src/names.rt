@@ -1,7 +1,7 @@
 //! The names of steps and of edits, and which of them may be used.
 
 ghost use Rattle.std.specs.Prelude.{◌≡◌};
-ghost use Rattle.edit_text.specs.Names.{first_named, step_named, connection_step_named, any_step_named, step_text, is_head, is_built_step, guild_edit_named, role_edit_named, member_edit_named, channel_edit_named, thread_edit_named, thread_state_edit_named, voice_presence_edit_named, message_edit_named, reaction_edit_named, edit_named, guild_edit_text, role_member_edit_text, channel_edit_text, thread_edit_text, voice_presence_edit_text, message_edit_text, name_text, is_built, built_edit};
+ghost use Rattle.edit_text.specs.Names.{first_named, step_named, connection_step_named, any_step_named, step_text, is_head, is_built_step, guild_edit_named, role_edit_named, member_edit_named, channel_edit_named, thread_edit_named, thread_state_edit_named, voice_presence_edit_named, message_edit_named, reaction_edit_named, edit_named, guild_edit_text, role_member_edit_text, channel_edit_text, thread_edit_text, voice_presence_edit_text, message_edit_text, name_text};
 
 /// A step, by its name.
 #[derive(Clone, Copy, PartialEq, Eq, Debug)]
@@ -481,30 +481,6 @@ impl EditName {
             EditName::Thread(edit) => edit.text(),
             EditName::VoicePresence(edit) => edit.text(),
             EditName::Message(edit) => edit.text(),
-        }
-    }
-
-    /// Whether edits of this name may be used.
-    pub fn is_built(self) -> bool
-        ensures { result ≡ is_built self }
-    {
-        match self {
-            EditName::Guild(edit) => matches!(
-                edit,
-                GuildEditName::GuildOpen | GuildEditName::GuildRename | GuildEditName::GuildOwner
-            ),
-            EditName::RoleMember(_) | EditName::Channel(_) | EditName::Thread(_) => true,
-            EditName::VoicePresence(_) | EditName::Message(_) => false,
-        }
-    }
-
-    /// The edit of a name that may be used.
-    pub fn built(name: &str) -> Option<EditName>
-        ensures { result ≡ built_edit name.now }
-    {
-        match EditName::of(name) {
-            None => None,
-            Some(edit) => { if edit.is_built() { Some(edit) } else { None } }
         }
     }
 }

@@ -95,7 +95,7 @@ fn edit_line_from(alloc: Global, object: &Value) -> Result<Line, LineFault>
 {
     let guild = id_at(object, "guild")?;
     let name = text_at(object, "do")?;
-    let Some(name) = EditName::built(name) else {
+    let Some(name) = EditName::of(name) else {
         return Err(LineFault::NoSuchStep);
     };
     let edit = edits::read(alloc, name, object)?;
