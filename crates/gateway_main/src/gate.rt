@@ -1,6 +1,8 @@
 //! The command, over a house that gives sources by their names.
 ghost use Rattle.std.specs.Prelude.{◌≡◌, ℕ, List, Result, Some, None, true, is_some, map, string_bytes};
 ghost use Rattle.worker_core.specs.Law.{EachRunHolds, EachSendHolds};
+ghost use Rattle.worker_core.specs.Entries.{EachEntryHolds, EachMessageHolds};
+ghost use Rattle.worker_core.specs.Resumes.{EachResumeHolds};
 ghost use Rattle.gate_outside.specs.Causes.{FaultHasCause};
 ghost use Rattle.scenario.specs.declared.fault.PlayFault.{PlayFault as Fault};
 ghost use Rattle.scenario.specs.Played.{PlayCause};
@@ -12,7 +14,10 @@ use gate_outside::houses::House;
 use gate_outside::streams::{Sink, write_all};
 use scenario::{PlayFault, play};
 use std::alloc::Global;
-use worker_core::law::{projection_of_a_prefix, sends_are_of_sessions};
+use worker_core::law::{
+    entries_are_told, messages_are_told, projection_of_a_prefix, resumes_go_on,
+    sends_are_of_sessions,
+};
 
 /// The words that the command takes.
 pub const USAGE: &str =
@@ -110,9 +115,15 @@ pub fn gate<H: House>(alloc: Global, words: &[String], house: &mut H, sink: &mut
         × PlayCause (H.source_faults house.old) (H.source_faults house.new) (H.Out.faults sink.old) (H.Out.faults sink.new) played }
     ensures folds { EachRunHolds }
     ensures sends { EachSendHolds }
+    ensures entries { EachEntryHolds }
+    ensures messages { EachMessageHolds }
+    ensures resumes { EachResumeHolds }
 {
     projection_of_a_prefix();
     sends_are_of_sessions();
+    entries_are_told();
+    messages_are_told();
+    resumes_go_on();
     if !is_run(words) {
         return refuse(sink);
     }

@@ -1,6 +1,7 @@
 //! A step file played from its source to a sink.
 ghost use Rattle.std.specs.Prelude.{◌≡◌, true, OnOk, MatchResult};
 ghost use Rattle.worker_core.specs.Law.{EachRunHolds, EachSendHolds};
+ghost use Rattle.worker_core.specs.Entries.{EachEntryHolds, EachMessageHolds};
 ghost use Rattle.worker_core.specs.Resumes.{EachResumeHolds};
 ghost use Rattle.scenario.specs.Played.{PlaysAll, PlaysTo, PlayCause};
 
@@ -9,7 +10,10 @@ use crate::player::Play;
 use gate_outside::piece::Piece;
 use gate_outside::streams::{Sink, Source};
 use std::alloc::Global;
-use worker_core::law::{projection_of_a_prefix, resumes_go_on, sends_are_of_sessions};
+use worker_core::law::{
+    entries_are_told, messages_are_told, projection_of_a_prefix, resumes_go_on,
+    sends_are_of_sessions,
+};
 
 /// Plays a step file on four workers, from its source to its end, and writes its transcript: a line
 /// for each text that goes out, for each edit that is refused, and for a line that is refused, which
@@ -30,10 +34,14 @@ pub fn play<S: Source, K: Sink>(
     ensures cause { PlayCause (S.faults source.old) (S.faults source.new) (K.faults sink.old) (K.faults sink.new) result }
     ensures folds { EachRunHolds }
     ensures sends { EachSendHolds }
+    ensures entries { EachEntryHolds }
+    ensures messages { EachMessageHolds }
     ensures resumes { EachResumeHolds }
 {
     projection_of_a_prefix();
     sends_are_of_sessions();
+    entries_are_told();
+    messages_are_told();
     resumes_go_on();
     let mut play = Play::new(alloc);
     let mut piece = Piece::new(alloc)?;
