@@ -16,7 +16,7 @@ use Rattle.edit_text.specs.declared.names.StepName.{StepName}
 use Rattle.edit_text.specs.declared.names.StepName.TheVariants as step
 use Rattle.edit_text.specs.declared.reader.StepReader.{StepReader}
 use Rattle.edit_text.specs.Fields.{text_at, id_at, number_below, intents_at}
-use Rattle.edit_text.specs.Names.{any_step_named, is_head, is_built_step, edit_named}
+use Rattle.edit_text.specs.Names.{any_step_named, is_head, edit_named}
 use Rattle.edit_text.specs.Edits.{edit_from}
 
 -- ---- head lines
@@ -125,11 +125,8 @@ is_edit step.Closed = false
 is_edit step.Tick = false
 
 -- head lines come first, and a script has no other step than edits
-abbrev pub may_stand : FileKind → Bool → StepName → Bool
-may_stand kind stepped name = if is_head name then not stepped else (is_run kind || is_edit name)
-
 abbrev pub is_allowed : StepReader → StepName → Bool
-is_allowed reader name = is_built_step name && may_stand reader.kind reader.stepped name
+is_allowed reader name = if is_head name then not reader.stepped else (is_run reader.kind || is_edit name)
 
 abbrev pub step_of : StepReader → List ℕ → Option StepName
 step_of reader text = option_and_then (λ name. if is_allowed reader name then Some name else None) (any_step_named text)

@@ -68,18 +68,6 @@ is_head step.Lost = false
 is_head step.Closed = false
 is_head step.Tick = false
 
--- the steps that may be used
-abbrev pub is_built_step : StepName → Bool
-is_built_step step.Bot = true
-is_built_step step.Guild = true
-is_built_step step.Edit = true
-is_built_step step.Look = true
-is_built_step step.Open = true
-is_built_step step.Frame = true
-is_built_step step.Lost = false
-is_built_step step.Closed = false
-is_built_step step.Tick = false
-
 -- ---- edits
 
 unfoldable pub guild_edit_named : List ℕ → Option GuildEditName

@@ -1,7 +1,7 @@
 //! The names of steps and of edits, and which of them may be used.
 
 ghost use Rattle.std.specs.Prelude.{◌≡◌};
-ghost use Rattle.edit_text.specs.Names.{first_named, step_named, connection_step_named, any_step_named, step_text, is_head, is_built_step, guild_edit_named, role_edit_named, member_edit_named, channel_edit_named, thread_edit_named, thread_state_edit_named, voice_presence_edit_named, message_edit_named, reaction_edit_named, edit_named, guild_edit_text, role_member_edit_text, channel_edit_text, thread_edit_text, voice_presence_edit_text, message_edit_text, name_text};
+ghost use Rattle.edit_text.specs.Names.{first_named, step_named, connection_step_named, any_step_named, step_text, is_head, guild_edit_named, role_edit_named, member_edit_named, channel_edit_named, thread_edit_named, thread_state_edit_named, voice_presence_edit_named, message_edit_named, reaction_edit_named, edit_named, guild_edit_text, role_member_edit_text, channel_edit_text, thread_edit_text, voice_presence_edit_text, message_edit_text, name_text};
 
 /// A step, by its name.
 #[derive(Clone, Copy, PartialEq, Eq, Debug)]
@@ -166,13 +166,6 @@ impl StepName {
         ensures { result ≡ is_head self }
     {
         matches!(self, StepName::Bot | StepName::Guild)
-    }
-
-    /// Whether lines of this step may be used.
-    pub fn is_built(self) -> bool
-        ensures { result ≡ is_built_step self }
-    {
-        !matches!(self, StepName::Lost | StepName::Closed | StepName::Tick)
     }
 }
 

@@ -55,9 +55,6 @@ impl StepReader {
     fn is_allowed(&self, name: StepName) -> bool
         ensures { result ≡ is_allowed self.now name }
     {
-        if !name.is_built() {
-            return false;
-        }
         if name.is_head() {
             return !self.stepped;
         }
