@@ -1,7 +1,11 @@
 -- What the calls of a step leave, taken together, is the step.
 use Rattle.std.proofs.Common.{◌≡◌, ℕ, ◌+◌, ◌≤◌, List, [], ◌∷◌, ◌++◌, suc, zero, Bool, true, false, Option, Some, None, Result, Ok, Err, if◌then◌else◌, length, map, drop, refl, sym, ap, subst, ◌∙◌, arith}
-use Rattle.std.specs.Prelude.{◌==◌, ◌||◌, nat_lt, max, flat_map, IsSome, is_some, MatchResult}
+use Rattle.std.specs.Prelude.{◌==◌, ◌&&◌, ◌||◌, nat_lt, max, flat_map, IsSome, is_some, MatchResult, slice_get}
 use Rattle.std.specs.List.{list_all}
+use Rattle.std.specs.Option.{option_map_or}
+use Rattle.std.proofs.lemmas.List.{length-append}
+use Rattle.dispatch_types.specs.declared.dispatch.Dispatch.{Dispatch}
+use Rattle.worker_core.proofs.Telling.{found_at}
 use Rattle.std.proofs.lemmas.Bool.Decides.{nat_tests}
 use Rattle.collections.specs.ById.{find_id, put_id, put_all, IsById}
 use Rattle.collections.proofs.Ids.{IsById-put}
@@ -15,7 +19,7 @@ use Rattle.session_core.specs.declared.fault.SessionFault.{SessionFault}
 use Rattle.session_core.specs.declared.fault.SessionFault.TheVariants as session
 use Rattle.session_core.specs.declared.reply.Reply.{Reply}
 use Rattle.session_core.specs.declared.reply.Reply.TheVariants as reply
-use Rattle.session_core.specs.State.{Session, Attached, has_link, open_replies}
+use Rattle.session_core.specs.State.{State, Session, Attached, has_link, open_replies}
 use Rattle.session_core.specs.Ends.{closes, silent_of, tick_replies}
 use Rattle.session_core.specs.Frames.{Move, Nothing, Answers, Shuts, Begins, Denies, Resumes, move_of, move_replies, is_spent, none_sent, as_kept}
 use Rattle.session_core.specs.Resume.{resume_replies}
@@ -24,13 +28,13 @@ use Rattle.worker_core.specs.declared.replica.Replica.{Replica}
 use Rattle.worker_core.specs.declared.io.Output.{Output as Written}
 use Rattle.worker_core.specs.declared.io.StepFault.{StepFault}
 use Rattle.worker_core.specs.declared.io.StepFault.TheVariants.{Spent}
-use Rattle.worker_core.specs.World.{Worker, Look, Open, Frame, Lost, Closed, Tick, tick_sends, taken, Says, Closes}
+use Rattle.worker_core.specs.World.{Worker, Look, Open, Frame, Lost, Closed, Tick, tick_sends, taken, Says, Closes, sends}
 use Rattle.worker_core.specs.Faults.{step_fault}
 use Rattle.worker_core.specs.Kept.{kept_looked, kept_sends}
 use Rattle.worker_core.specs.Outputs.{written, all_written}
 use Rattle.worker_core.specs.Spent.{is_past, kept_spends}
-use Rattle.worker_core.specs.Telling.{FaultBy, kept_with}
-use Rattle.worker_core.specs.Stands.{replica_id, replica, looked_replica, KeptWorker, Stands, Steps, Fails, after_look, after_open, after_frame, kept_first, kept_start, kept_frame_sends, kept_frame_spends, after_lost, after_closed, after_tick, Greets, GreetsNot, Replies, RepliesNot, is_plain, plain}
+use Rattle.worker_core.specs.Telling.{FaultBy, kept_with, further, TellsAt, FailsAt}
+use Rattle.worker_core.specs.Stands.{replica_id, replica, looked_replica, KeptWorker, Stands, Steps, Fails, after_look, after_open, after_frame, kept_first, kept_start, kept_frame_sends, kept_frame_spends, after_lost, after_closed, after_tick, greeted, Greets, GreetsNot, Replies, RepliesNot, is_plain, plain}
 use Rattle.worker_core.proofs.Logs.{from_id}
 use Rattle.worker_core.proofs.Standing.{by_id_replicas, looks_at_one, opens, frames, losses, leaves, ticks}
 
@@ -123,6 +127,17 @@ plain_fails (reply.Close conn code) old fault is done = done
 plain_fails (reply.Text conn text) old fault is done = done
 plain_fails (reply.Begin n) old fault is done = absurd (cc is)
 
+-- the last of some replies
+pub plain_last : (before : List Reply) (r : Reply) → list_all is_plain (before ++ r ∷ []) ≡ true → (list_all is_plain before ≡ true) × (is_plain r ≡ true)
+plain_last [] r all = (refl, grind (arith, all))
+plain_last (b ∷ before) r all = by_test (is_plain b) all (plain_last before r)
+  where
+    by_test : (own : Bool) → (own && list_all is_plain (before ++ r ∷ [])) ≡ true
+        → (list_all is_plain (before ++ r ∷ []) ≡ true → (list_all is_plain before ≡ true) × (is_plain r ≡ true))
+        → ((own && list_all is_plain before) ≡ true) × (is_plain r ≡ true)
+    by_test true all rest = rest all
+    by_test false all rest = absurd (cc all)
+
 -- a session that begins is the only reply
 pub alone : (before rest : List Reply) (r : Reply) (n : ℕ) → before ++ r ∷ rest ≡ reply.Begin n ∷ [] → (before ≡ []) × (r ≡ reply.Begin n)
 alone [] rest r n is = (refl, cc)
@@ -135,6 +150,26 @@ still_first before now old none same = same (ap (list_all is_plain) none)
 pub nothing_left : {A : Type 0} (xs : List A) → length xs ≡ 0 → xs ≡ []
 nothing_left [] none = refl
 nothing_left (x ∷ xs) none = absurd (omega arith)
+
+-- the session that has begun is the last one, and is told its first dispatches
+pub greet_made : {V : Type 0} (old : KeptWorker) (n place : ℕ) (list : List Dispatch) (new : State Replay) (before out : List Written) (result : Result V StepFault)
+    → place + 1 ≡ length old.core.sessions → option_map_or (greeted old n) (slice_get old.core.sessions place) [] ≡ list
+    → MatchResult result (λ v. TellsAt place (λ x. list) old.core new before out) (FailsAt place (λ x. list) old.core)
+    → MatchResult result (λ v. Greets old n (record old { core = new }) before out) (GreetsNot old n)
+greet_made old n place list new before out (Ok v) last first told = λ front x is.
+    let at : place ≡ length front = omega (arith, last, ap length is, length-append front (x ∷ [])) in
+    let here : list ≡ greeted old n x = sym first ∙ ap (λ o. option_map_or (greeted old n) o []) (found_at place front x [] old.core (is, at)) in
+    let all = told front [] x (is, at) in (
+      ap (λ (s : State Replay). record old { core = s }) all.0 ∙ ap (λ ds. record old { core = kept_with (front ++ further ds x ∷ []) old.core }) here,
+      (
+        all.1.0 ∙ ap (λ ds. before ++ all_written (sends x.place x.sent.last ds)) here,
+        ap (λ ds. is_past x.sent.last (length ds)) (sym here) ∙ all.1.1,
+      ),
+    )
+greet_made old n place list new before out (Err fault) last first told = λ front x is.
+    let at : place ≡ length front = omega (arith, last, ap length is, length-append front (x ∷ [])) in
+    let here : list ≡ greeted old n x = sym first ∙ ap (λ o. option_map_or (greeted old n) o []) (found_at place front x [] old.core (is, at)) in
+    subst (λ ds. FaultBy (is_past x.sent.last (length ds)) fault) here (told front [] x (is, at))
 
 -- a connection that opens
 module _ (k : KeptWorker) (w : Worker) (stands : Stands k w) (conn : ℕ) (k1 : KeptWorker) (moved_to : k1 ≡ after_open k conn) where

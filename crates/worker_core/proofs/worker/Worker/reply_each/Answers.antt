@@ -1,12 +1,17 @@
 -- What goes out for a session that begins.
-use Rattle.std.proofs.Common.{◌≡◌, ℕ, List, [], ◌∷◌, ◌++◌, refl, sym, ap, subst, ◌∙◌, append-nil}
+use Rattle.std.proofs.Common.{rules, ◌≡◌, ℕ, List, [], ◌∷◌, ◌++◌, refl, sym, ap, subst, ◌∙◌, append-nil, append_assoc}
 use Rattle.std.proofs.lemmas.Result.{err_from_is_err_and}
 use Rattle.std.specs.Vec.Iter.{into_iter_items}
 use Rattle.session_core.specs.declared.reply.Reply.{Reply}
 use Rattle.session_core.specs.declared.reply.Reply.TheVariants.{Begin}
 use Rattle.worker_core.specs.declared.io.StepFault.{StepFault}
-use Rattle.worker_core.specs.Stands.{KeptWorker, GreetsNot, RepliesNot}
-use Rattle.worker_core.proofs.Moving.{alone, nothing_left, still_first}
+use Rattle.worker_core.specs.Stands.{KeptWorker, Greets, GreetsNot, Replies, RepliesNot, is_plain, plain}
+use Rattle.worker_core.proofs.Moving.{alone, nothing_left, still_first, plain_reply, plain_last}
+use Rattle.worker_core.proofs.Lists.{append_none}
+use Rattle.worker_core.proofs.Kept.{flat_map_join}
+use Rattle.std.specs.Prelude.{flat_map}
+use Rattle.std.specs.List.{list_all}
+use Rattle.worker_core.specs.declared.io.Output.{Output as Written}
 use Rattle.worker_core.proofs.worker.Worker.reply_each.Goals as goal
 
 pub returns-in_err-reply-clause-begins : goal.returns-in_err-reply-clause-begins
@@ -28,3 +33,24 @@ returns-clause-begins c n is =
     let empty : into_iter_items at.reply-iterator ≡ [] = nothing_left _ (sym at.invariant.count ∙ c.in-None.ensures.steps.0) in
     let all = sym (append-nil at.yielded) ∙ rw empty at at.invariant.all ∙ c.into_iter-reply-iterator.ensures.into_iter_gives.0 in
     at.invariant.begins n (all ∙ is)
+
+pub loop-reply-preserved : goal.loop-reply-preserved
+loop-reply-preserved c =
+    let at = c.loop-reply in
+    let r : Reply = c.in-Some.reply in
+    let later : List Reply = into_iter_items c.next.new.self in
+    record {
+      all = append_assoc at.yielded (r ∷ []) later ∙ (ap (λ rs. at.yielded ++ rs) (sym c.in-Some.ensures.steps.0) ∙ at.invariant.all);
+      count = search rules;
+      plain = λ e.
+          let both = plain_last at.yielded r e in
+          let before = at.invariant.plain both.0 in
+          let one = plain_reply r at.self c.reply.new.self at.out.items c.reply.new.out.items both.1 c.in_ok-reply.ensures in
+          (one.0 ∙ before.0, one.1 ∙ (ap (λ out. out ++ plain r) before.1 ∙ (ap (λ out. flat_map plain at.yielded ++ out) (sym (append_none (plain r))) ∙ sym (flat_map_join plain at.yielded (r ∷ [])))));
+      begins = λ n e.
+          let one = alone at.yielded [] r n e in
+          let empty = at.invariant.plain (ap (list_all is_plain) one.0) in
+          let told : Greets at.self n c.reply.new.self at.out.items c.reply.new.out.items = subst (λ (r : Reply). Replies r at.self c.reply.new.self at.out.items c.reply.new.out.items) one.1 c.in_ok-reply.ensures in
+          subst (λ (k : KeptWorker). Greets k n c.reply.new.self [] c.reply.new.out.items) empty.0
+          (subst (λ (out : List Written). Greets at.self n c.reply.new.self out c.reply.new.out.items) (empty.1 ∙ ap (flat_map plain) one.0) told);
+    }
