@@ -9,7 +9,8 @@ ghost use Rattle.session_core.specs.Resume.{resume_answer};
 ghost use Rattle.session_core.specs.Identify.{identified};
 
 use crate::close::{
-    ALREADY_AUTHENTICATED, DECODE_ERROR, INVALID_SEQ, NOT_AUTHENTICATED, RATE_LIMITED, UNKNOWN_OPCODE,
+    ALREADY_AUTHENTICATED, DECODE_ERROR, INVALID_SEQ, NOT_AUTHENTICATED, RATE_LIMITED,
+    UNKNOWN_OPCODE,
 };
 use crate::resume::Resumption;
 use crate::sessions::{Sessions, one};

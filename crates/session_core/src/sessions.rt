@@ -44,7 +44,6 @@ pub struct Sessions {
 impl Model for Sessions {
     ghost use Rattle.std.specs.Prelude.{ℕ, map};
     ghost use Rattle.session_core.specs.State.{State};
-
     ghost use Rattle.replay_ring.specs.Replay.{Replay};
 
     ghost Value = { State Replay };

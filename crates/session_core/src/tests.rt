@@ -152,7 +152,12 @@ fn silent_connections_close(rt: HostRuntime) -> Result<(), Fail> {
     sessions.open(1, 0)?;
     assert_eq!(rt; sessions.tick(82_499)?.len(), 0);
     let replies = sessions.tick(82_500)?;
-    assert!(rt; matches!(replies.as_slice(), [Reply::Close(1, 4000), Reply::Close(2, 4000)]));
+    assert!(rt;
+        matches!(
+            replies.as_slice(),
+            [Reply::Close(1, 4000), Reply::Close(2, 4000)]
+        )
+    );
     Ok(())
 }
 

@@ -74,10 +74,10 @@ named_number s id x found =
     (λ (y : Session Sent). is_live y.place && bytes_eq (session_id s.worker y.number) id)
     (λ (y : Session Sent). is_live y.place && (y.number == x.number))
     (λ y strict.
-      let both = both_true (is_live y.place) (y.number == x.number) strict in
-      let same : y.number ≡ x.number = eqb-true y.number x.number both.1 in
-      let named : bytes_eq (session_id s.worker y.number) id ≡ true = ap (λ n. bytes_eq (session_id s.worker n) id) same ∙ meets.1 in
-      grind (arith, both.0, named))
+    let both = both_true (is_live y.place) (y.number == x.number) strict in
+    let same : y.number ≡ x.number = eqb-true y.number x.number both.1 in
+    let named : bytes_eq (session_id s.worker y.number) id ≡ true = ap (λ n. bytes_eq (session_id s.worker n) id) same ∙ meets.1 in
+    grind (arith, both.0, named))
     x itself s.sessions found
 
 -- a resume that goes on is of a session that has this kept
