@@ -5,7 +5,8 @@ use Rattle.std.specs.List.{find, filter_map}
 use Rattle.std.proofs.lemmas.List.Elements.{All-filter}
 use Rattle.collections.specs.ById.{find_id, has_id, put_all, IsById, keep_if}
 use Rattle.collections.proofs.Finds.{key-found, find-filter, find-map, IsById-filter, IsById-map}
-use Rattle.collections.proofs.Mapped.{put_all-nil, all-found, filter-same, map-after, find-mapped, filter-all}
+use Rattle.collections.proofs.Has.{All-found}
+use Rattle.collections.proofs.Mapped.{put_all-nil, filter-same, map-after, find-mapped, filter-all}
 use Rattle.perm_bits.specs.Bits.{has_bit}
 use Rattle.intent_set.specs.Intents.{guilds, guild_members, guild_voice_states, guild_presences}
 use Rattle.guild_model.specs.declared.member.Member.{Member}
@@ -15,7 +16,7 @@ use Rattle.guild_model.specs.declared.thread.ThreadMember.{ThreadMember}
 use Rattle.guild_model.specs.declared.voice.Voice.{Voice}
 use Rattle.guild_model.specs.declared.presence.Presence.{Presence}
 use Rattle.guild_model.specs.Record.{Record, own_id, role_id, member_id, channel_id, thread_id, thread_member_id, voice_id, presence_id}
-use Rattle.guild_model.specs.Ascending.{IsAscending, IsWell}
+use Rattle.guild_model.specs.Ascending.{IsAscending, IsWell, HoldsInOrder}
 use Rattle.dispatch_types.specs.declared.viewer.Viewer.{Viewer}
 use Rattle.dispatch_types.specs.declared.members.MemberObject.{MemberObject}
 use Rattle.dispatch_types.specs.declared.threads.JoinedThread.{JoinedThread}
@@ -53,7 +54,7 @@ module _ (s : Record) (v : Viewer) (me : Member) (ascends : IsAscending s) (foun
   own = key-found member_id v.user s.members me found
 
   held-roles : IsById own_id me.roles
-  held-roles = all-found member_id (λ (m : Member). IsById own_id m.roles) v.user s.members me ascends.held found
+  held-roles = All-found member_id HoldsInOrder v.user s.members me ascends.held found
 
   abbrev pub shown : List Member
   shown = filter (is_shown s v) s.members
@@ -107,7 +108,7 @@ module _ (s : Record) (v : Viewer) (me : Member) (ascends : IsAscending s) (foun
   members-told : listed v.intents guild_members (put_all member_id [] (map member_of (greeting s v me).members)) ≡ listed v.intents guild_members (filter (is_known told_users) s.members)
   unfolding greeting
   members-told = listed-same v.intents guild_members _ _ (λ asked.
-      ap (put_all member_id []) (members-back shown (All-filter (is_shown s v) (λ (m : Member). IsById own_id m.roles) s.members ascends.held))
+      ap (put_all member_id []) (members-back shown (All-filter (is_shown s v) HoldsInOrder s.members ascends.held))
       ∙ (put_all-nil member_id shown ascends-shown
       ∙ filter-same member_id (is_shown s v) (is_known told_users) s.members ascends.members known-shown))
 

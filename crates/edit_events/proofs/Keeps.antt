@@ -11,7 +11,7 @@ use Rattle.guild_model.specs.declared.verdict.Verdict.TheVariants.{NotOpen, Alre
 use Rattle.guild_model.specs.Record.{Record, member_id}
 use Rattle.guild_model.specs.Tests.{first_of, refused_if, too_long, unknown_member}
 use Rattle.guild_model.specs.Ascending.{IsAscending, IsWell}
-use Rattle.guild_model.proofs.Tests.{first_passes, not_refused}
+use Rattle.guild_model.proofs.Tests.{first_passes, not_refused, passed}
 use Rattle.dispatch_types.specs.declared.viewer.Viewer.{Viewer}
 use Rattle.dispatch_types.specs.declared.view.GuildView.{GuildView}
 use Rattle.dispatch_types.specs.declared.view.GuildView.TheVariants as view
@@ -75,15 +75,11 @@ use Rattle.edit_events.proofs.Others.{id-kept, row-of}
 
 -- ---- what the tests of an accepted edit say
 
-opens : (b : Bool) → not b ≡ false → b ≡ true
-opens true e = refl
-opens false e = absurd (cc)
-
 -- in a guild that is open and available
 in_service : (s : Record) → out_of_service s ≡ None → (s.opened ≡ true) × (s.outage ≡ false)
 in_service s e =
     let tests = first_passes (refused_if (not s.opened) NotOpen) (refused_if s.outage Unavailable ∷ []) e in
-    (opens s.opened (not_refused (not s.opened) NotOpen tests.0), not_refused s.outage Unavailable (first_passes (refused_if s.outage Unavailable) [] tests.1).0)
+    (passed s.opened NotOpen tests.0, not_refused s.outage Unavailable (first_passes (refused_if s.outage Unavailable) [] tests.1).0)
 
 -- ---- who is served
 

@@ -12,7 +12,7 @@ use crate::create::greeting;
 use channel_events::ChannelNote;
 use dispatch_types::{Dispatch, Viewer, served};
 use edit_apply::{Edit, GuildEdit};
-use event_views::one;
+use event_views::{add_sync, one};
 use guild_model::{Guild, Member};
 use intent_set::Kind;
 use message_events::MessageNote;
@@ -21,7 +21,6 @@ use std::alloc::{AllocError, Global};
 use thread_events::ThreadNote;
 use thread_sync::Seen;
 use thread_sync::seen::visible_to;
-use thread_sync::sync::sync;
 
 /// What is noted for a viewer that is served before an edit, by the kind of edit.
 #[derive(Drop)]
@@ -145,11 +144,7 @@ fn owner_updated(
     ensures { IfOk result (λ list. list.items ≡ guild_updated after.now viewer.now ++ told_if viewer.now (sync was.now after.now me.now)) }
 {
     let mut list = updated(alloc, after, viewer)?;
-    if viewer.intents.asks(Kind::ThreadListSync, false) {
-        if let Some(gains) = sync(alloc, was, after, me)? {
-            list.push(gains)?;
-        }
-    }
+    add_sync(alloc, was, after, viewer, me, &mut list)?;
     Ok(list)
 }
 
