@@ -1,5 +1,5 @@
 -- What a dispatch makes of what is held of each guild.
-use Rattle.std.proofs.Common.{◌≡◌, ℕ, Bool, true, false, List, [], map, Option, Some, None, if◌then◌else◌, refl, sym, ap, ◌∙◌, eq-eqb}
+use Rattle.std.proofs.Common.{◌≡◌, ℕ, Bool, true, false, List, map, Option, Some, None, if◌then◌else◌, refl, sym, ap, ◌∙◌}
 use Rattle.std.specs.Prelude.{◌==◌, option_map}
 use Rattle.collections.specs.ById.{put_id, put_all, without_id}
 use Rattle.guild_model.specs.Record.{own_id}
@@ -9,7 +9,7 @@ use Rattle.dispatch_types.specs.declared.view.OpenView.{OpenView}
 use Rattle.dispatch_types.specs.declared.dispatch.Ready.{Ready as ReadyOf}
 use Rattle.dispatch_types.specs.declared.dispatch.Dispatch.{Dispatch}
 use Rattle.dispatch_types.specs.declared.dispatch.Dispatch.TheVariants.{Ready, Resumed, GuildCreate, GuildUpdate, GuildDelete, GuildRoleCreate, GuildRoleUpdate, GuildRoleDelete, ChannelCreate, ChannelUpdate, ChannelDelete, ThreadCreate, ThreadUpdate, ThreadDelete, ThreadListSync, ThreadMembersUpdate, GuildMemberAdd, GuildMemberUpdate, GuildMemberRemove, GuildMembersChunk, VoiceStateUpdate, PresenceUpdate, MessageCreate, MessageUpdate, MessageDelete, MessageReactionAdd, MessageReactionRemove, TypingStart}
-use Rattle.dispatch_types.specs.Fold.{Held, user_id, on_open, seen_by, knows, begun, changed, purged, purge, purged_after, folded}
+use Rattle.dispatch_types.specs.Fold.{Held, user_id, on_open, seen_by, knows, changed, purged, purge, purged_after, folded}
 use Rattle.client_cache.specs.declared.held.HeldGuild.{HeldGuild}
 use Rattle.client_cache.specs.Told.{guild_of, ready_of, leaves_over, known_after, open_after, view_after}
 use Rattle.client_cache.specs.Cached.{held_by, entry_purged}

@@ -1,6 +1,6 @@
 -- The entries of a client after one of them has changed, after all are purged, and after READY.
 use Rattle.std.proofs.Common.{◌≡◌, ℕ, Bool, true, false, ◌||◌, ◌&&◌, not, List, [], ◌∷◌, map, Option, Some, None, Result, Ok, Err, OnOk, OnErr, IsSome, if◌then◌else◌, refl, sym, ap, ◌∙◌, eqb-true, eq-eqb}
-use Rattle.std.specs.Prelude.{◌==◌, is_some, option_map, unwrap_or}
+use Rattle.std.specs.Prelude.{◌==◌, is_some, unwrap_or}
 use Rattle.collections.specs.ById.{IsById, find_id, has_id, put_id, put_all, without_id}
 use Rattle.collections.proofs.Finds.{find-put, find-map, key-found}
 use Rattle.collections.proofs.Has.{has-put, has-without}
@@ -10,12 +10,11 @@ use Rattle.intent_set.specs.Intents.{guilds}
 use Rattle.guild_model.specs.Record.{own_id}
 use Rattle.dispatch_types.specs.declared.view.GuildView.{GuildView}
 use Rattle.dispatch_types.specs.declared.view.GuildView.TheVariants.{Unavailable, Open}
-use Rattle.dispatch_types.specs.declared.view.OpenView.{OpenView}
 use Rattle.dispatch_types.specs.declared.dispatch.Ready.{Ready as ReadyOf}
 use Rattle.dispatch_types.specs.declared.dispatch.Dispatch.{Dispatch}
 use Rattle.dispatch_types.specs.declared.dispatch.Dispatch.TheVariants.{Ready}
 use Rattle.dispatch_types.specs.Projection.{listed}
-use Rattle.dispatch_types.specs.Fold.{Held, contains, if_unavailable, on_open, changed, purge}
+use Rattle.dispatch_types.specs.Fold.{Held, contains, if_unavailable, changed, purge}
 use Rattle.client_cache.specs.declared.held.HeldGuild.{HeldGuild}
 use Rattle.client_cache.specs.Told.{guild_of}
 use Rattle.client_cache.specs.Cached.{held_id, held_by, held_in, entry_of, entry_after, entry_purged, unavailable_entry, AreViewed}

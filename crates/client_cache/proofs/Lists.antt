@@ -1,10 +1,10 @@
 -- Lists by id: many records that are put, one that is there, and one that is changed.
 use Rattle.std.proofs.Common.{◌≡◌, ℕ, Bool, true, false, ◌||◌, List, [], ◌∷◌, map, Option, Some, None, if◌then◌else◌, refl, sym, ap, ◌∙◌, arith}
-use Rattle.std.specs.Prelude.{◌==◌, filter, is_some, not, option_map, cond}
-use Rattle.std.specs.List.{find, list_any}
+use Rattle.std.specs.Prelude.{◌==◌, filter, is_some, option_map, cond}
+use Rattle.std.specs.List.{find}
 use Rattle.std.proofs.lemmas.Bool.Decides.{nat_tests}
 use Rattle.collections.specs.ById.{IsById, find_id, has_id, put_id, put_all, changed_id, keep_if, or_else}
-use Rattle.collections.proofs.Ids.{IsById-put, IsById-changed}
+use Rattle.collections.proofs.Ids.{IsById-changed}
 use Rattle.collections.proofs.Finds.{same_by_id, key-found, find-put, find-changed, find-filter, find-map, IsById-filter, IsById-map, IsById-put_all}
 use Rattle.collections.proofs.Has.{has-put}
 use Rattle.collections.proofs.Filters.{put-same}

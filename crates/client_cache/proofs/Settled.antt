@@ -17,7 +17,7 @@ use Rattle.dispatch_types.specs.declared.view.GuildView.TheVariants.{Unavailable
 use Rattle.dispatch_types.specs.declared.view.OpenView.{OpenView}
 use Rattle.dispatch_types.specs.declared.view.ThreadView.{ThreadView}
 use Rattle.dispatch_types.specs.Objects.{member_of, voice_of, presence_of}
-use Rattle.dispatch_types.specs.Fold.{Held, contains, if_unavailable, on_open, add_member, remove_member, set_members, set_voice, set_presence, view_sees, purged, purge}
+use Rattle.dispatch_types.specs.Fold.{Held, contains, on_open, add_member, remove_member, set_members, set_voice, set_presence, view_sees, purged}
 use Rattle.client_cache.specs.declared.held.HeldGuild.{HeldGuild}
 use Rattle.client_cache.specs.Told.{view_after}
 use Rattle.client_cache.specs.Cached.{held_id, held_by, held_in, entry_of, entry_after, entry_purged, unavailable_entry}

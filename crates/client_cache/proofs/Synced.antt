@@ -1,9 +1,9 @@
 -- The threads of a sync, and the own member of GUILD_CREATE.
-use Rattle.std.proofs.Common.{◌≡◌, ℕ, Bool, List, [], map, refl, sym, ap, ◌∙◌}
+use Rattle.std.proofs.Common.{◌≡◌, ℕ, List, [], map, refl, sym, ap, ◌∙◌}
 use Rattle.std.specs.Prelude.{◌==◌, filter, not}
 use Rattle.std.specs.List.{find}
 use Rattle.std.proofs.lemmas.List.Elements.{filter_agree}
-use Rattle.collections.specs.ById.{IsById, has_id, put_all}
+use Rattle.collections.specs.ById.{has_id, put_all}
 use Rattle.guild_model.specs.declared.member.Member.{Member}
 use Rattle.guild_model.specs.Record.{own_id, member_id}
 use Rattle.dispatch_types.specs.declared.members.MemberObject.{MemberObject}

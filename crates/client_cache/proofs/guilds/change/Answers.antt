@@ -1,9 +1,9 @@
-use Rattle.std.proofs.Common.{◌≡◌, ℕ, List, Some, sym, ap, subst, ◌∙◌}
+use Rattle.std.proofs.Common.{◌≡◌, ℕ, Some, sym, ap, subst, ◌∙◌}
 use Rattle.std.proofs.lemmas.Result.{on_ok_weaker, on_err_weaker}
 use Rattle.collections.specs.ById.{find_id, put_id}
 use Rattle.collections.proofs.Finds.{key-found}
 use Rattle.client_cache.specs.declared.held.HeldGuild.{HeldGuild}
-use Rattle.client_cache.specs.Cached.{held_id, entry_of, entry_after}
+use Rattle.client_cache.specs.Cached.{held_id, entry_after}
 use Rattle.client_cache.proofs.Entries.{entry-found, put-back, put-found, put-is-there}
 use Rattle.client_cache.proofs.guilds.change.Goals as goal
 

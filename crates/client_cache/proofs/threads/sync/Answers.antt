@@ -1,4 +1,4 @@
-use Rattle.std.proofs.Common.{◌≡◌, ℕ, Bool, List, [], map, ap, ◌∙◌}
+use Rattle.std.proofs.Common.{ℕ, Bool, List, [], map, ap, ◌∙◌}
 use Rattle.std.specs.Prelude.{filter, not, ◌||◌}
 use Rattle.collections.specs.ById.{has_id, put_all}
 use Rattle.guild_model.specs.Record.{own_id}

@@ -1,10 +1,10 @@
-use Rattle.std.proofs.Common.{◌≡◌, ℕ, List, map, ap, ◌∙◌}
+use Rattle.std.proofs.Common.{ℕ, List, map, ap, ◌∙◌}
 use Rattle.std.specs.Prelude.{filter, not}
 use Rattle.std.proofs.lemmas.Result.{on_ok_weaker}
 use Rattle.collections.specs.ById.{has_id, put_all}
 use Rattle.guild_model.specs.Record.{own_id}
 use Rattle.dispatch_types.specs.declared.view.ThreadView.{ThreadView}
-use Rattle.dispatch_types.specs.Fold.{thread_view_id, contains, synced_thread}
+use Rattle.dispatch_types.specs.Fold.{thread_view_id, synced_thread}
 use Rattle.client_cache.proofs.Synced.{other_parents}
 use Rattle.client_cache.proofs.threads.sync_threads.Goals as goal
 

@@ -1,6 +1,6 @@
 use Rattle.std.proofs.Common.{List, sym, ap, ◌∙◌}
 use Rattle.std.proofs.lemmas.Result.{on_ok_weaker}
-use Rattle.dispatch_types.specs.Fold.{Held, purge}
+use Rattle.dispatch_types.specs.Fold.{purge}
 use Rattle.client_cache.specs.declared.held.HeldGuild.{HeldGuild}
 use Rattle.client_cache.specs.Cached.{Cached, held_of, held_in}
 use Rattle.client_cache.proofs.Changes.{folded-late, folded-soon}

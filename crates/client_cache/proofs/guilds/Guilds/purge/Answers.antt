@@ -9,9 +9,10 @@ use Rattle.client_cache.proofs.guilds.Guilds.purge.Goals as goal
 pub invariant_of-self : goal.invariant_of-self
 invariant_of-self c =
     let old = c.self.inside.entries in
-    let now : c.purge_at.new.entries ≡ map entry_purged old = c.purge_at.ensures ∙ (ap (λ ids. purged_at ids old) c.as_slice.ensures.items ∙ all-settled c.self.inside.unsettled old c.as_slice-entries.ensures.ascending c.self.invariant.1) in
-    (subst (λ (es : List HeldGuild). AreViewed c.self.inside.viewed es) (sym now) (purged-viewed c.self.inside.viewed old c.self.invariant.0),
-     rw (now, c.settle.ensures) (none-unsettled old))
+    let now : c.purge_at.new.entries ≡ map entry_purged old = c.purge_at.ensures ∙ (ap (λ ids. purged_at ids old) c.as_slice.ensures.items ∙ all-settled c.self.inside.unsettled old c.as_slice-entries.ensures.ascending c.self.invariant.1) in (
+      subst (λ (es : List HeldGuild). AreViewed c.self.inside.viewed es) (sym now) (purged-viewed c.self.inside.viewed old c.self.invariant.0),
+      rw (now, c.settle.ensures) (none-unsettled old),
+    )
 
 pub returns : goal.returns
 returns c =
