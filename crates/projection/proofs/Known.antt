@@ -1,6 +1,7 @@
 -- Users in any order are known by the same ids when they are put in order.
 use Rattle.std.proofs.Common.{◌≡◌, ℕ, Bool, true, false, ◌||◌, List, [], ◌∷◌, Some, None, if◌then◌else◌, refl, ap, ◌∙◌}
 use Rattle.std.specs.Prelude.{◌==◌, filter, is_some, Option}
+use Rattle.std.proofs.Math.Bool.{or-false}
 use Rattle.collections.specs.ById.{IsById, find_id, has_id, put_id, put_all}
 use Rattle.collections.proofs.Has.{has-put}
 use Rattle.collections.proofs.Mapped.{filter-same}
@@ -20,10 +21,6 @@ has-put_all id xs (y ∷ ys) =
     ∙ (ap (λ b. has_id own_id id ys || b) (has-put own_id y id xs)
     ∙ either_way (y == id) y (find_id own_id id ys) (has_id own_id id xs))
 
-none_more : (b : Bool) → (b || false) ≡ b
-none_more true = refl
-none_more false = refl
-
 pub known-in_order : (known : List ℕ) (ms : List Member) → IsById member_id ms → filter (is_known (put_all own_id [] known)) ms ≡ filter (is_known known) ms
 known-in_order known ms h =
-    filter-same member_id _ _ ms h (λ id (m : Member) found. has-put_all m.user.id [] known ∙ none_more (has_id own_id m.user.id known))
+    filter-same member_id _ _ ms h (λ id (m : Member) found. has-put_all m.user.id [] known ∙ or-false (has_id own_id m.user.id known))

@@ -1,6 +1,7 @@
-ghost use Rattle.std.specs.Prelude.{◌≡◌, map, min, length, IfOk};
+ghost use Rattle.std.specs.Prelude.{◌≡◌, ◌&&◌, map, filter, min, length, IfOk};
+ghost use Rattle.guild_model.specs.Sight.{member_sees};
 ghost use Rattle.intent_set.specs.Intents.{guild_members};
-ghost use Rattle.dispatch_types.specs.Projection.{told, thread_view, seen_threads};
+ghost use Rattle.dispatch_types.specs.Projection.{told, is_active, thread_view, seen_threads};
 
 use collections::ById;
 use dispatch_types::{ThreadCount, ThreadView};
@@ -40,18 +41,18 @@ fn thread_view(
     })
 }
 
-// The views of the active threads that a member sees.
+// The views of those of the threads that are active and that a member sees.
 fn views(
     alloc: Global,
     guild: &Guild,
     intents: Intents,
     me: &Member,
+    threads: &[Thread],
 ) -> Result<Vec<ThreadView>, AllocError>
     ensures { IfOk result (λ views. views.items
-        ≡ map (thread_view intents me.now.user.id) (seen_threads guild.now me.now)) }
+        ≡ map (thread_view intents me.now.user.id) (filter (λ t. is_active t && member_sees guild.now me.now t) threads.now)) }
 {
     let standing = StandingRef::in_guild(guild, me);
-    let threads = guild.threads.as_slice();
     let mut views = Vec::new(alloc);
     for thread in threads {
         if !thread.archived && standing.sees_thread(thread) {
@@ -71,8 +72,7 @@ pub(crate) fn threads(
     ensures { IfOk result (λ threads. threads
         ≡ map (thread_view intents me.now.user.id) (seen_threads guild.now me.now)) }
 {
-    // The threads ascend, so do those that are seen.
-    let _threads = guild.threads.as_slice();
-    let views = views(alloc, guild, intents, me)?;
+    let threads = guild.threads.as_slice();
+    let views = views(alloc, guild, intents, me, threads)?;
     Ok(ById::from_ascending(views))
 }
