@@ -3,16 +3,16 @@ use Rattle.std.proofs.Common.{◌≡◌, ℕ, Bool, true, false, not, List, [], 
 use Rattle.std.specs.Prelude.{◌==◌}
 use Rattle.std.proofs.lemmas.Bool.Decides.{nat_tests}
 use Rattle.std.proofs.lemmas.List.Elements.{All-nil, All-cons}
-use Rattle.collections.specs.ById.{has_id, IsById}
+use Rattle.collections.specs.ById.{has_id}
 use Rattle.guild_model.specs.declared.member.Member.{Member}
 use Rattle.guild_model.specs.declared.thread.Thread.{Thread}
 use Rattle.guild_model.specs.declared.verdict.Verdict.{Verdict}
 use Rattle.guild_model.specs.declared.verdict.Verdict.TheVariants.{NotOpen, AlreadyOpen, Unavailable, UnknownMember}
-use Rattle.guild_model.specs.Record.{Record, closed, own_id, member_id, thread_member_id}
+use Rattle.guild_model.specs.Record.{Record, closed, own_id, member_id}
 use Rattle.guild_model.specs.Consistent.{IsConsistent}
-use Rattle.guild_model.specs.Ascending.{IsAscending, HasOrderedOverwrites, IsWell}
+use Rattle.guild_model.specs.Ascending.{IsAscending, HasOrderedOverwrites, IsWell, HasInOrder, HoldsInOrder}
 use Rattle.guild_model.specs.Tests.{refused_if, first_of, too_long, unknown_member}
-use Rattle.guild_model.proofs.Tests.{first_passes, not_refused}
+use Rattle.guild_model.proofs.Tests.{first_passes, not_refused, passed}
 use Rattle.guild_model.proofs.Kept.{renamed, in_outage, owned}
 use Rattle.role_member_edit.specs.Members.{new_member}
 use Rattle.role_member_edit.proofs.Well.{well as role_member_well}
@@ -67,9 +67,9 @@ module _ (guild : ℕ) (name : List ℕ) (owner : ℕ) (owner_name : List ℕ) (
     threads = tt;
     voices = tt;
     presences = tt;
-    held = All-cons (λ (m : Member). IsById own_id m.roles) first_member [] tt (All-nil _);
+    held = All-cons HoldsInOrder first_member [] tt (All-nil _);
     overwrites = All-nil HasOrderedOverwrites;
-    joined = All-nil (λ (t : Thread). IsById thread_member_id t.members);
+    joined = All-nil HasInOrder;
     messages = record { apart = tt; few = omega arith };
   }
 
@@ -80,12 +80,8 @@ opened_well g name owner owner_name perms at shut w =
     (record { ascending = opened_ascending g.id name owner owner_name perms at; consistent = opened_consistent g.id name owner owner_name perms at })
 
 -- an edit that only a guild in service accepts
-is_true : (b : Bool) → not b ≡ false → b ≡ true
-is_true true e = refl
-is_true false e = absurd (cc)
-
 in_service_open : (g : Record) (tests : List (Option Verdict)) → first_of (out_of_service g ∷ tests) ≡ None → g.opened ≡ true
-in_service_open g tests e = is_true g.opened (not_refused _ NotOpen (first_passes (refused_if (not g.opened) NotOpen) (refused_if g.outage Unavailable ∷ []) (first_passes (out_of_service g) tests e).0).0)
+in_service_open g tests e = passed g.opened NotOpen (first_passes (refused_if (not g.opened) NotOpen) (refused_if g.outage Unavailable ∷ []) (first_passes (out_of_service g) tests e).0).0
 
 -- the lists are the same
 same_lists : (g : Record) (opened outage : Bool) (name : List ℕ) (owner : ℕ) → IsAscending g → IsAscending (record g { opened = opened; outage = outage; name = name; owner = owner })
@@ -111,13 +107,13 @@ guild_well g (GuildRename name) w e =
 guild_well g (GuildOwner user) w e =
     let is_open = in_service_open g (unknown_member g user ∷ []) e in
     let rest = first_passes (unknown_member g user) [] (first_passes (out_of_service g) (unknown_member g user ∷ []) e).1 in
-    let there = is_true (has_id member_id user g.members) (not_refused _ UnknownMember rest.0) in
+    let there = passed (has_id member_id user g.members) UnknownMember rest.0 in
     record { ascending = same_lists g g.opened g.outage g.name user w.ascending; consistent = owned g is_open w.consistent user there }
 guild_well g GuildOutage w e =
-    let is_open = is_true g.opened (not_refused _ NotOpen (first_passes (refused_if (not g.opened) NotOpen) (refused_if g.outage Unavailable ∷ []) e).0) in
+    let is_open = passed g.opened NotOpen (first_passes (refused_if (not g.opened) NotOpen) (refused_if g.outage Unavailable ∷ []) e).0 in
     record { ascending = same_lists g g.opened true g.name g.owner w.ascending; consistent = in_outage g is_open w.consistent true }
 guild_well g GuildBack w e =
-    let is_open = is_true g.opened (not_refused _ NotOpen (first_passes (refused_if (not g.opened) NotOpen) (refused_if (not g.outage) AlreadyOpen ∷ []) e).0) in
+    let is_open = passed g.opened NotOpen (first_passes (refused_if (not g.opened) NotOpen) (refused_if (not g.outage) AlreadyOpen ∷ []) e).0 in
     record { ascending = same_lists g g.opened false g.name g.owner w.ascending; consistent = in_outage g is_open w.consistent false }
 
 -- an edit that is not refused
@@ -147,9 +143,9 @@ closed_well guild = record {
     threads = tt;
     voices = tt;
     presences = tt;
-    held = All-nil (λ (m : Member). IsById own_id m.roles);
+    held = All-nil HoldsInOrder;
     overwrites = All-nil HasOrderedOverwrites;
-    joined = All-nil (λ (t : Thread). IsById thread_member_id t.members);
+    joined = All-nil HasInOrder;
     messages = record { apart = tt; few = omega arith };
   };
   consistent = record {
