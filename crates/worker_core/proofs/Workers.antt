@@ -193,8 +193,8 @@ joined_meets : (seen : Seen) (conn number : ℕ) (x : Session Sent) → SessionM
 joined_meets seen conn number x = by_place x.place
   where
     choose : (b : Bool) (place : Place) → is_live place ≡ true → SessionMeets seen (record x { place = place }) → SessionMeets seen (if b then record x { place = Attached conn } else record x { place = place })
-    choose true (Attached c) live old = record { meets = old.meets; marked = old.marked }
-    choose true (Detached since) live old = record { meets = old.meets; marked = old.marked }
+    choose true (Attached c) live old = record { meets = old.meets; marked = old.marked; entries = old.entries }
+    choose true (Detached since) live old = record { meets = old.meets; marked = old.marked; entries = old.entries }
     choose true Ended live old = absurd (cc live)
     choose false place live old = old
 

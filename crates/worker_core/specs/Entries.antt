@@ -13,8 +13,8 @@ use Rattle.session_core.specs.declared.bot.Bot.{Bot}
 use Rattle.session_core.specs.declared.reply.Mark.{Mark}
 use Rattle.session_core.specs.declared.reply.Mark.TheVariants.{Entry}
 use Rattle.session_core.specs.State.{Session}
-use Rattle.worker_core.specs.World.{Cursors, cursors, Told, Sent, Worker, Step, run}
-use Rattle.worker_core.specs.Law.{dispatch_of, last_cursors, first_world}
+use Rattle.worker_core.specs.World.{Cursors, cursors, Told, dispatch_of, Sent, Worker, Step, run}
+use Rattle.worker_core.specs.Law.{last_cursors, first_world}
 
 abbrev pub is_for : ℕ → ℕ → Mark → Bool
 is_for g p (Entry h q) = (h == g) && (q == p)
