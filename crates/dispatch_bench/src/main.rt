@@ -5,7 +5,7 @@
 #![tactic(auto)]
 
 use dispatch_types::Dispatch;
-use event_json::{Body, append_framed, read, write};
+use event_json::{Body, DispatchFault, append_framed, read, write};
 use std::alloc::{AllocError, Global};
 use std::{env, fs};
 
@@ -68,12 +68,16 @@ fn lines_of(alloc: Global, text: &str) -> Result<Vec<String>, AllocError> {
     Ok(lines)
 }
 
+// The dispatch that a text is, as it is written.
+fn written(alloc: Global, line: &str) -> Result<String, DispatchFault> {
+    let (dispatch, number) = read(alloc, line)?;
+    let text = write(alloc, &dispatch, number)?;
+    Ok(text)
+}
+
 fn show(rt: &HostRuntime, line: &str) -> anyhow::Result<()> {
-    match read(rt.alloc(), line) {
-        Ok((dispatch, number)) => {
-            let text = write(rt.alloc(), &dispatch, number)?;
-            println!(rt; "{text}")?;
-        }
+    match written(rt.alloc(), line) {
+        Ok(text) => println!(rt; "{text}")?,
         Err(fault) => println!(rt; "{fault}")?,
     }
     Ok(())
@@ -87,8 +91,9 @@ fn show_all(rt: &HostRuntime, path: &str) -> anyhow::Result<()> {
     Ok(())
 }
 
-fn time(rt: &HostRuntime, way: &str, turns: u64, path: &str) -> anyhow::Result<()> {
+fn time(rt: &HostRuntime, way: &str, turns: &str, path: &str) -> anyhow::Result<()> {
     let alloc = rt.alloc();
+    let turns = turns.parse::<u64>()?;
     let text = fs::read_to_string(rt, path)?;
     let lines = lines_of(alloc, text.as_str())?;
     let size = if way == "read" {
@@ -101,14 +106,19 @@ fn time(rt: &HostRuntime, way: &str, turns: u64, path: &str) -> anyhow::Result<(
     Ok(())
 }
 
+fn words_of(rt: &HostRuntime) -> anyhow::Result<Vec<String>> {
+    let mut words = Vec::new(rt.alloc());
+    for word in env::args(rt)?.skip(1) {
+        words.push(word)?;
+    }
+    Ok(words)
+}
+
 fn main(rt: HostRuntime) -> anyhow::Result<()> {
-    let mut words = env::args(&rt)?.skip(1);
-    match (words.next(), words.next(), words.next()) {
-        (Some(way), Some(path), None) if way.as_str() == "show" => show_all(&rt, path.as_str()),
-        (Some(way), Some(turns), Some(path)) => {
-            let turns = turns.as_str().parse::<u64>()?;
-            time(&rt, way.as_str(), turns, path.as_str())
-        }
+    let words = words_of(&rt)?;
+    match words.as_slice() {
+        [way, path] if way.as_str() == "show" => show_all(&rt, path.as_str()),
+        [way, turns, path] => time(&rt, way.as_str(), turns.as_str(), path.as_str()),
         _ => {
             eprintln!(rt; "usage: dispatch_bench write|read TURNS FILE | show FILE")?;
             Ok(())
