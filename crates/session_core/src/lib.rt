@@ -20,6 +20,3 @@ pub use fault::{SessionFault, Spent};
 pub use ids::session_id;
 pub use reply::{Mark, Reply};
 pub use sessions::Sessions;
-
-#[cfg(test)]
-mod tests;

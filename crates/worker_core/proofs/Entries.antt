@@ -13,7 +13,6 @@ use Rattle.edit_events.specs.Due.{owed}
 use Rattle.session_core.specs.declared.reply.Mark.{Mark}
 use Rattle.session_core.specs.declared.reply.Mark.TheVariants.{Start, Entry}
 use Rattle.worker_core.specs.World.{Seen, Cursors, cursors, seen_with, Told, dispatch_of, told}
-
 use Rattle.worker_core.specs.Entries.{is_for, made_for, first_cursors, EntriesHold}
 use Rattle.worker_core.proofs.Lists.{append_none, by_split}
 use Rattle.worker_core.proofs.Folds.{same_id}

@@ -8,8 +8,6 @@ pub mod law;
 mod look;
 pub mod replica;
 mod tell;
-#[cfg(test)]
-mod tests;
 pub mod worker;
 
 pub use io::{Input, Output, StepFault};
