@@ -6,7 +6,7 @@ use Rattle.std.proofs.lemmas.Bool.Decides.{nat_tests}
 use Rattle.std.proofs.lemmas.List.Elements.{All-nil, All-cons, All-take, All-drop, All-filter, All-weaker}
 use Rattle.collections.specs.ById.{find_id, IsById}
 use Rattle.collections.proofs.Ids.{find_above}
-use Rattle.collections.proofs.Mapped.{all-found}
+use Rattle.collections.proofs.Has.{All-found}
 use Rattle.guild_model.specs.declared.member.Member.{Member}
 use Rattle.guild_model.specs.Record.{Record, member_id}
 use Rattle.gateway_frames.specs.declared.frame.Find.{Find}
@@ -20,7 +20,7 @@ module _ (s : Record) (P : Member → Type 0) (all : All P s.members) where
     where
       by_found : (o : Option Member) → find_id member_id id s.members ≡ o → All P (filter_map (λ id. find_id member_id id s.members) ids) → All P (cons_option o (filter_map (λ id. find_id member_id id s.members) ids))
       by_found None e rest = rest
-      by_found (Some m) e rest = All-cons P m (filter_map (λ id. find_id member_id id s.members) ids) (all-found member_id P id s.members m all e) rest
+      by_found (Some m) e rest = All-cons P m (filter_map (λ id. find_id member_id id s.members) ids) (All-found member_id P id s.members m all e) rest
 
   of_most : (n : Option ℕ) (ms : List Member) → All P ms → All P (at_most n ms)
   of_most None ms h = h
