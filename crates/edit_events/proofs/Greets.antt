@@ -1,7 +1,7 @@
 -- GUILD_CREATE brings the projection, whatever was held.
-use Rattle.std.proofs.Common.{◌≡◌, ℕ, Bool, true, false, List, [], ◌∷◌, map, Option, Some, None, if◌then◌else◌, refl, sym, ap, subst, ◌∙◌, eq-eqb}
-use Rattle.std.specs.Prelude.{◌==◌, ◌&&◌, ◌||◌, not, filter, length, min, is_some, option_map, option_and_then, All}
-use Rattle.std.specs.List.{find, filter_map}
+use Rattle.std.proofs.Common.{◌≡◌, ℕ, Bool, true, false, List, [], map, Option, Some, None, if◌then◌else◌, refl, sym, ap, subst, ◌∙◌, eq-eqb}
+use Rattle.std.specs.Prelude.{◌&&◌, ◌||◌, not, filter, is_some, option_map, option_and_then}
+use Rattle.std.specs.List.{filter_map}
 use Rattle.std.proofs.lemmas.List.Elements.{All-filter}
 use Rattle.collections.specs.ById.{find_id, has_id, put_all, IsById, keep_if}
 use Rattle.collections.proofs.Finds.{key-found, find-filter, find-map, IsById-filter, IsById-map}
@@ -10,27 +10,18 @@ use Rattle.collections.proofs.Mapped.{put_all-nil, filter-same, map-after, find-
 use Rattle.perm_bits.specs.Bits.{has_bit}
 use Rattle.intent_set.specs.Intents.{guilds, guild_members, guild_voice_states, guild_presences}
 use Rattle.guild_model.specs.declared.member.Member.{Member}
-use Rattle.guild_model.specs.declared.channel.Channel.{Channel}
 use Rattle.guild_model.specs.declared.thread.Thread.{Thread}
 use Rattle.guild_model.specs.declared.thread.ThreadMember.{ThreadMember}
-use Rattle.guild_model.specs.declared.voice.Voice.{Voice}
-use Rattle.guild_model.specs.declared.presence.Presence.{Presence}
 use Rattle.guild_model.specs.Record.{Record, own_id, role_id, member_id, channel_id, thread_id, thread_member_id, voice_id, presence_id}
-use Rattle.guild_model.specs.Ascending.{IsAscending, IsWell, HoldsInOrder}
+use Rattle.guild_model.specs.Ascending.{IsAscending, HoldsInOrder}
 use Rattle.dispatch_types.specs.declared.viewer.Viewer.{Viewer}
-use Rattle.dispatch_types.specs.declared.members.MemberObject.{MemberObject}
-use Rattle.dispatch_types.specs.declared.threads.JoinedThread.{JoinedThread}
-use Rattle.dispatch_types.specs.declared.view.GuildView.{GuildView}
-use Rattle.dispatch_types.specs.declared.view.GuildView.TheVariants.{Unavailable, Open}
+use Rattle.dispatch_types.specs.declared.view.GuildView.TheVariants.{Open}
 use Rattle.dispatch_types.specs.declared.view.OpenView.{OpenView}
-use Rattle.dispatch_types.specs.declared.view.ThreadView.{ThreadView}
-use Rattle.dispatch_types.specs.declared.dispatch.GuildCreate.{GuildCreate as Create}
-use Rattle.dispatch_types.specs.declared.dispatch.Dispatch.{Dispatch}
 use Rattle.dispatch_types.specs.declared.dispatch.Dispatch.TheVariants.{GuildCreate}
 use Rattle.dispatch_types.specs.Serves.{in_shard, served}
-use Rattle.dispatch_types.specs.Objects.{channel_object, channel_of, member_object, member_of, thread_object, voice_object, voice_of, presence_object, presence_of}
-use Rattle.dispatch_types.specs.Projection.{told, listed, is_active, thread_view, seen_threads, is_known, open_view, view_as, projection}
-use Rattle.dispatch_types.specs.Fold.{Held, thread_view_id, user_id, own_member, thread_of, joined_thread, created, created_view, on_open, begun, changed, purged, purge, folded}
+use Rattle.dispatch_types.specs.Objects.{channel_of, member_object, member_of, thread_object, voice_of, presence_of}
+use Rattle.dispatch_types.specs.Projection.{told, listed, thread_view, seen_threads, is_known, open_view, projection}
+use Rattle.dispatch_types.specs.Fold.{Held, thread_view_id, user_id, own_member, thread_of, joined_thread, created, created_view, on_open, begun, purged, purge, folded}
 use Rattle.dispatch_types.proofs.Objects.{channels-back, member-back, members-back, voices-back, presences-back}
 use Rattle.dispatch_types.proofs.Views.{purged-open, projection-open}
 use Rattle.event_views.proofs.Lists.{listed-same}

@@ -1,6 +1,6 @@
 -- After what an edit owes, a client holds the projection of the record after it.
 use Rattle.std.proofs.Common.{◌≡◌, ℕ, Bool, true, false, List, [], ◌∷◌, ◌++◌, Option, Some, None, if◌then◌else◌, refl, sym, ap, subst, ◌∙◌, eq-eqb}
-use Rattle.std.specs.Prelude.{◌==◌, ◌&&◌, not, is_some, option_map, All}
+use Rattle.std.specs.Prelude.{◌&&◌, not, is_some}
 use Rattle.std.specs.Option.{is_none}
 use Rattle.collections.specs.ById.{find_id}
 use Rattle.perm_bits.specs.Bits.{has_bit}
@@ -9,17 +9,15 @@ use Rattle.guild_model.specs.declared.member.Member.{Member}
 use Rattle.guild_model.specs.declared.verdict.Verdict.{Verdict}
 use Rattle.guild_model.specs.declared.verdict.Verdict.TheVariants.{NotOpen, AlreadyOpen, Unavailable}
 use Rattle.guild_model.specs.Record.{Record, member_id}
-use Rattle.guild_model.specs.Tests.{first_of, refused_if, too_long, unknown_member}
+use Rattle.guild_model.specs.Tests.{refused_if, too_long, unknown_member}
 use Rattle.guild_model.specs.Ascending.{IsAscending, IsWell}
 use Rattle.guild_model.proofs.Tests.{first_passes, not_refused, passed}
 use Rattle.dispatch_types.specs.declared.viewer.Viewer.{Viewer}
-use Rattle.dispatch_types.specs.declared.view.GuildView.{GuildView}
 use Rattle.dispatch_types.specs.declared.view.GuildView.TheVariants as view
-use Rattle.dispatch_types.specs.declared.view.OpenView.{OpenView}
 use Rattle.dispatch_types.specs.declared.dispatch.Dispatch.{Dispatch}
 use Rattle.dispatch_types.specs.declared.dispatch.Dispatch.TheVariants.{GuildCreate, GuildUpdate, GuildDelete}
-use Rattle.dispatch_types.specs.Serves.{in_shard, served, serves}
-use Rattle.dispatch_types.specs.Projection.{view_as, open_view, projection}
+use Rattle.dispatch_types.specs.Serves.{in_shard, served}
+use Rattle.dispatch_types.specs.Projection.{open_view}
 use Rattle.dispatch_types.specs.Fold.{Held, if_unavailable, on_open, begun, purged, purge, folded, fold_from}
 use Rattle.dispatch_types.proofs.Views.{projection-blind, projection-unserved, projection-open}
 use Rattle.edit_events.proofs.Out.{projection-out}
@@ -27,7 +25,7 @@ use Rattle.thread_sync.specs.Seen.{visible_to}
 use Rattle.thread_sync.specs.Sync.{sync}
 use Rattle.event_views.specs.Asked.{asked, told_if}
 use Rattle.event_views.specs.Has.{Has}
-use Rattle.event_views.proofs.Steps.{IsOf, whole, by_guilds, by_asked_then}
+use Rattle.event_views.proofs.Steps.{whole, by_guilds, by_asked_then}
 use Rattle.event_views.proofs.Told.{same, told-guild}
 use Rattle.event_views.proofs.Rights.{follows-rights}
 use Rattle.event_views.proofs.Blind.{IsBlind, blind-fold}
@@ -59,16 +57,15 @@ use Rattle.message_edit.specs.MessageEdits.{message_verdict, message_applied}
 use Rattle.message_events.specs.Notes.{message_note}
 use Rattle.message_events.specs.Rows.{message_row}
 use Rattle.message_events.proofs.Follows.{message-here, message-served, follows-message}
-use Rattle.edit_apply.specs.declared.guild.GuildEdit.{GuildEdit}
 use Rattle.edit_apply.specs.declared.guild.GuildEdit.TheVariants.{GuildOpen, GuildRename, GuildOwner, GuildOutage, GuildBack}
 use Rattle.edit_apply.specs.declared.Edit.{Edit}
 use Rattle.edit_apply.specs.declared.Edit.TheVariants as edit
 use Rattle.edit_apply.specs.Guilds.{out_of_service, guild_opened}
-use Rattle.edit_apply.specs.Edits.{verdict, applied, after, after_verdict, accepts}
+use Rattle.edit_apply.specs.Edits.{verdict, applied, after, after_verdict}
 use Rattle.edit_apply.proofs.Well.{keeps}
 use Rattle.edit_events.specs.Greeting.{greeting}
-use Rattle.edit_events.specs.Was.{note_of, was_of}
-use Rattle.edit_events.specs.Due.{guild_updated, row, due_to, due_between, due, owed}
+use Rattle.edit_events.specs.Was.{note_of}
+use Rattle.edit_events.specs.Due.{guild_updated, row, due_to, due, owed}
 use Rattle.edit_events.specs.Law.{Agrees, EditKeeps}
 use Rattle.edit_events.proofs.Greets.{greets, served-found}
 use Rattle.edit_events.proofs.Others.{id-kept, row-of}

@@ -1,6 +1,6 @@
 -- An edit of messages owes its dispatch exactly where it is shown.
-use Rattle.std.proofs.Common.{◌≡◌, Bool, true, false, List, [], ◌∷◌, Option, Some, None, if◌then◌else◌, refl, sym, ap, ◌∙◌}
-use Rattle.std.specs.Prelude.{is_some, ◌&&◌}
+use Rattle.std.proofs.Common.{◌≡◌, true, List, [], ◌∷◌, Option, Some, None, if◌then◌else◌, refl, sym, ap}
+use Rattle.std.specs.Prelude.{is_some}
 use Rattle.std.specs.Option.{is_none}
 use Rattle.guild_model.specs.declared.member.Member.{Member}
 use Rattle.guild_model.specs.declared.verdict.Verdict.{Verdict}
@@ -12,7 +12,6 @@ use Rattle.dispatch_types.specs.declared.viewer.Viewer.{Viewer}
 use Rattle.dispatch_types.specs.declared.dispatch.Dispatch.{Dispatch}
 use Rattle.dispatch_types.specs.Kinds.{kind_of}
 use Rattle.dispatch_types.specs.Serves.{served}
-use Rattle.message_gate.specs.Shows.{shows}
 use Rattle.message_gate.proofs.ByMember.{unshown}
 use Rattle.message_events.specs.Notes.{message_note}
 use Rattle.message_events.specs.Rows.{About, message_told, shown}
@@ -20,7 +19,7 @@ use Rattle.message_events.proofs.Follows.{message-served}
 use Rattle.message_events.proofs.Told.{told-accepted}
 use Rattle.edit_apply.specs.declared.Edit.TheVariants as edit
 use Rattle.edit_apply.specs.Guilds.{out_of_service}
-use Rattle.edit_apply.specs.Edits.{verdict, accepts, after, after_verdict}
+use Rattle.edit_apply.specs.Edits.{verdict, after_verdict}
 use Rattle.edit_events.specs.Was.{note_of}
 use Rattle.edit_events.specs.Due.{due_to, due, owed}
 use Rattle.edit_events.specs.Messages.{MessagesAreShown}

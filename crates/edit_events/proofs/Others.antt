@@ -1,17 +1,16 @@
 -- The laws of what an edit owes.
-use Rattle.std.proofs.Common.{◌≡◌, ℕ, Bool, true, false, List, [], ◌∷◌, Option, Some, None, if◌then◌else◌, refl, sym, ap, subst, ◌∙◌}
-use Rattle.std.specs.Prelude.{◌==◌, All}
-use Rattle.std.proofs.lemmas.List.Elements.{All-nil, All-cons}
+use Rattle.std.proofs.Common.{◌≡◌, ℕ, Bool, true, false, [], Option, Some, None, if◌then◌else◌, refl, ap, subst}
+use Rattle.std.specs.Prelude.{All}
+use Rattle.std.proofs.lemmas.List.Elements.{All-nil}
 use Rattle.guild_model.specs.declared.member.Member.{Member}
 use Rattle.guild_model.specs.declared.presence.Activity.{Activity}
 use Rattle.guild_model.specs.Record.{Record}
 use Rattle.guild_model.specs.Statuses.{status_activity}
 use Rattle.dispatch_types.specs.declared.viewer.Viewer.{Viewer}
-use Rattle.dispatch_types.specs.declared.dispatch.Dispatch.{Dispatch}
 use Rattle.dispatch_types.specs.declared.dispatch.Dispatch.TheVariants.{GuildCreate, GuildUpdate, GuildDelete}
-use Rattle.dispatch_types.specs.Serves.{served, serves}
+use Rattle.dispatch_types.specs.Serves.{served}
 use Rattle.dispatch_types.proofs.Views.{purge-stays}
-use Rattle.dispatch_types.proofs.Folds.{guild_of, folded-elsewhere, fold-elsewhere}
+use Rattle.dispatch_types.proofs.Folds.{folded-elsewhere, fold-elsewhere}
 use Rattle.channel_edit.specs.declared.ChannelEdit.TheVariants.{ChannelCreate, ChannelUpdate, ChannelDelete, OverwriteSet, OverwriteDelete}
 use Rattle.thread_edit.specs.declared.ThreadEdit.TheVariants.{ThreadCreate, ThreadRename, ThreadArchive, ThreadUnarchive, ThreadDelete, ThreadJoin, ThreadLeave}
 use Rattle.voice_presence.specs.declared.VoicePresenceEdit.TheVariants.{VoiceSet, PresenceSet}
@@ -32,7 +31,7 @@ use Rattle.voice_presence_events.proofs.Follows.{row-of as voice_presence-of}
 use Rattle.message_events.proofs.Of.{row-of as message-of}
 use Rattle.message_events.proofs.Follows.{id-kept as message-id}
 use Rattle.edit_events.specs.declared.due.Before.{Before}
-use Rattle.edit_events.specs.declared.due.Before.TheVariants.{Nothing, Owner, RoleMember, Channel, Thread, Message}
+use Rattle.edit_events.specs.declared.due.Before.TheVariants.{Owner, RoleMember, Channel, Thread, Message}
 use Rattle.edit_events.specs.declared.due.Was.{Was}
 use Rattle.edit_events.specs.Was.{was_of}
 use Rattle.edit_events.specs.Due.{row, due_to, due_between, due, owed}

@@ -1,5 +1,5 @@
 -- In an outage a viewer holds no more than that.
-use Rattle.std.proofs.Common.{◌≡◌, ℕ, Bool, true, false, List, Option, Some, None, if◌then◌else◌, refl, ap, ◌∙◌}
+use Rattle.std.proofs.Common.{◌≡◌, ℕ, true, List, Some, None, if◌then◌else◌, ap, ◌∙◌}
 use Rattle.perm_bits.specs.Bits.{has_bit}
 use Rattle.intent_set.specs.Intents.{guilds}
 use Rattle.guild_model.specs.declared.member.Member.{Member}

@@ -1,5 +1,5 @@
 -- What an accepted edit owes to a viewer (Gateway Events, Receive Events; Gateway, Gateway Intents).
-use Rattle.std.specs.Prelude.{ℕ, List, [], ◌∷◌, ◌++◌, Bool, true, false, Option, Some, None, is_some, if◌then◌else◌}
+use Rattle.std.specs.Prelude.{List, [], ◌++◌, Bool, true, false, Option, Some, None, if◌then◌else◌}
 use Rattle.guild_model.specs.declared.member.Member.{Member}
 use Rattle.guild_model.specs.Record.{Record}
 use Rattle.dispatch_types.specs.declared.viewer.Viewer.{Viewer}

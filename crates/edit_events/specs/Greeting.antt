@@ -1,6 +1,6 @@
 -- GUILD_CREATE of a guild for a viewer (Gateway Events, Guild Create). Which members and presences
 -- stand in it is this server's choice.
-use Rattle.std.specs.Prelude.{ℕ, List, map, filter, length, nat_lt, Bool, not, ◌&&◌, ◌||◌, ◌==◌, Option, option_map}
+use Rattle.std.specs.Prelude.{ℕ, map, filter, length, nat_lt, Bool, not, ◌&&◌, ◌||◌, ◌==◌, option_map}
 use Rattle.collections.specs.ById.{find_id, has_id}
 use Rattle.perm_bits.specs.Bits.{has_bit}
 use Rattle.intent_set.specs.Intents.{guild_presences, guild_voice_states}

@@ -1,18 +1,15 @@
 -- What an edit of messages owes is of the guild, and about messages, reactions or typing.
-use Rattle.std.proofs.Common.{◌≡◌, ℕ, Bool, true, false, List, [], ◌∷◌, Option, Some, None, if◌then◌else◌, refl, ap}
+use Rattle.std.proofs.Common.{◌≡◌, ℕ, Bool, true, false, [], ◌∷◌, Option, Some, None, if◌then◌else◌, refl, ap}
 use Rattle.std.specs.Prelude.{◌/◌, All, option_map}
 use Rattle.std.proofs.lemmas.List.Elements.{All-nil, All-cons, All-weaker}
-use Rattle.guild_model.specs.declared.message.MessageHead.{MessageHead}
-use Rattle.guild_model.specs.declared.user.User.{User}
 use Rattle.guild_model.specs.Record.{Record}
 use Rattle.guild_model.specs.Heads.{find_head}
-use Rattle.message_edit.specs.declared.body.MessageBody.{MessageBody}
 use Rattle.message_edit.specs.declared.MessageEdit.{MessageEdit}
 use Rattle.message_edit.specs.declared.MessageEdit.TheVariants as edit
 use Rattle.dispatch_types.specs.declared.viewer.Viewer.{Viewer}
 use Rattle.dispatch_types.specs.declared.messages.MessageObject.{MessageObject}
 use Rattle.dispatch_types.specs.declared.dispatch.Dispatch.{Dispatch}
-use Rattle.dispatch_types.specs.declared.dispatch.Dispatch.TheVariants.{MessageCreate, MessageUpdate, MessageDelete, MessageReactionAdd, MessageReactionRemove, TypingStart}
+use Rattle.dispatch_types.specs.declared.dispatch.Dispatch.TheVariants.{MessageDelete, TypingStart}
 use Rattle.dispatch_types.specs.Kinds.{kind_of}
 use Rattle.dispatch_types.proofs.Folds.{guild_of}
 use Rattle.event_views.proofs.Steps.{IsOf}
@@ -21,7 +18,7 @@ use Rattle.message_gate.specs.Shows.{shows}
 use Rattle.message_events.specs.declared.notes.MessageNote.{MessageNote}
 use Rattle.message_events.specs.declared.notes.MessageNote.TheVariants.{Nothing, Stood}
 use Rattle.message_events.specs.Messages.{is_message}
-use Rattle.message_events.specs.Rows.{About, user_of, message_of, created, updated, reacted, unreacted, message_told, shown, message_row}
+use Rattle.message_events.specs.Rows.{About, user_of, message_of, created, updated, reacted, unreacted, shown, message_row}
 
 pub record IsMessageOf (guild : ℕ) (d : Dispatch) : Type 0 where
   pub message : is_message d ≡ true

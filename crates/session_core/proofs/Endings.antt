@@ -1,5 +1,5 @@
 -- Connections and sessions that end.
-use Rattle.std.proofs.Common.{◌≡◌, ℕ, ◌+◌, ◌<◌, List, [], ◌∷◌, ◌++◌, map, filter, not, true, false, Bool, cond, Option, Some, None, refl, sym, ap, ◌∙◌, arith, nat_eq, inl, inr, length, drop, slice_get, zero, suc}
+use Rattle.std.proofs.Common.{◌≡◌, ℕ, ◌+◌, List, [], ◌∷◌, ◌++◌, map, filter, not, true, false, Bool, cond, Option, Some, None, refl, sym, ap, ◌∙◌, arith, nat_eq, inl, inr, drop, slice_get, zero, suc}
 use Rattle.std.specs.Prelude.{flat_map, if◌then◌else◌}
 use Rattle.std.specs.Option.{option_and_then, option_map}
 use Rattle.std.specs.List.{IsDistinct}
@@ -17,7 +17,7 @@ use Rattle.session_core.specs.declared.kept.Hold.TheVariants as hold
 use Rattle.replay_ring.specs.Replay.{Replay}
 use Rattle.session_core.specs.State.{Link, Session, is_on}
 use Rattle.session_core.specs.Ends.{is_silent, is_overdue, left_of, kept_for}
-use Rattle.session_core.specs.Kept.{place_of, conn_of, link_of, session_of, session_at, conn_at, Agree, IsKept}
+use Rattle.session_core.specs.Kept.{place_of, conn_of, link_of, session_of, session_at, conn_at, IsKept}
 use Rattle.session_core.proofs.Entries.{absent-same, once-after, on-conn, conn-on, conn_at-here, conn_at-later}
 use Rattle.session_core.proofs.Sides.{only-kept, there-kept, on-kept}
 use Rattle.session_core.proofs.Changes.{Agree-same, Agree-cut, IsSetAt, session_at-set, conn_at-set}

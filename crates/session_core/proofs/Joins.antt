@@ -1,6 +1,6 @@
 -- A session that goes on, on another connection.
-use Rattle.std.proofs.Common.{◌≡◌, ℕ, ◌+◌, ◌<◌, ◌^◌, List, [], ◌∷◌, ◌++◌, Bool, map, filter, not, true, false, cond, Option, Some, None, is_some, refl, sym, ap, ◌∙◌, arith, nat_eq, ◌==◌, ◌&&◌, inl, inr, eqb-true}
-use Rattle.std.specs.Prelude.{if◌then◌else◌, Result, Ok, Err, IfOk}
+use Rattle.std.proofs.Common.{◌≡◌, ℕ, ◌<◌, ◌^◌, List, [], ◌∷◌, Bool, map, filter, not, true, false, cond, Option, Some, None, is_some, refl, sym, ap, ◌∙◌, arith, nat_eq, ◌==◌, ◌&&◌, inl, inr, eqb-true}
+use Rattle.std.specs.Prelude.{Result, Ok, Err, IfOk}
 use Rattle.std.specs.Option.{option_map, option_and_then, IfSome}
 use Rattle.std.specs.List.{find, list_any, IsDistinct}
 use Rattle.std.specs.Str.{bytes_eq}
@@ -19,7 +19,7 @@ use Rattle.session_core.specs.declared.resume.Resumption.TheVariants as resumpti
 use Rattle.session_core.specs.Resumption.{IsOwn, IsThere}
 use Rattle.session_core.specs.State.{State, Link, Session, Place, Attached, Detached, Ended, is_on, is_live, attached, released, has_link, has_session, gone}
 use Rattle.session_core.specs.Resume.{session_id, joined}
-use Rattle.session_core.specs.Kept.{place_of, conn_of, link_of, session_of, session_at, conn_at, Agree, IsKept}
+use Rattle.session_core.specs.Kept.{place_of, conn_of, session_of, session_at, conn_at, IsKept}
 use Rattle.session_core.proofs.Entries.{absent-same, once-after}
 use Rattle.session_core.proofs.Places.{attached-kept}
 use Rattle.session_core.proofs.Changes.{Agree-tie, IsSetAt, session_at-set, conn_at-set, is_apart}

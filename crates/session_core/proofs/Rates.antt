@@ -1,6 +1,6 @@
 -- The frames of a connection.
 use Rattle.std.specs.Prelude.{if◌then◌else◌}
-use Rattle.std.proofs.Common.{◌≡◌, ℕ, ◌+◌, List, [], ◌∷◌, Bool, map, true, false, cond, Option, Some, None, refl, sym, ap, ◌∙◌, arith, nat_eq, ◌==◌, ◌&&◌, ◌||◌, nat_lt, length, slice_get, inl, inr}
+use Rattle.std.proofs.Common.{◌≡◌, ℕ, ◌+◌, List, [], ◌∷◌, Bool, map, true, false, cond, Some, None, refl, sym, arith, nat_eq, ◌==◌, ◌&&◌, ◌||◌, nat_lt, length, slice_get, inl, inr}
 use Rattle.std.specs.List.{list_any, IsDistinct}
 use Rattle.std.specs.Map.{lookup, keys_of, set_value}
 use Rattle.std.proofs.lemmas.Bool.{cases_Bool}

@@ -1,5 +1,5 @@
 -- What a dispatch of a session leaves, where what a resume needs is kept.
-use Rattle.std.specs.Prelude.{ℕ, ◌+◌, ◌-◌, ◌^◌, List, Bool, false, nat_lt, Option, slice_get, slice_set}
+use Rattle.std.specs.Prelude.{ℕ, ◌+◌, ◌-◌, ◌^◌, List, Bool, false, nat_lt, slice_get, slice_set}
 use Rattle.std.specs.Option.{option_map_or}
 use Rattle.replay_ring.specs.Replay.{Replay, pushed}
 use Rattle.session_core.specs.State.{State, Session}

@@ -1,5 +1,5 @@
 -- Which session goes on, and from where (Gateway, Resuming).
-use Rattle.std.specs.Prelude.{ℕ, ◌-◌, List, [], ◌∷◌, ◌++◌, Bool, not, ◌==◌, ◌&&◌, nat_lt, Option, Some, None, if◌then◌else◌, length, map, decimal, codes}
+use Rattle.std.specs.Prelude.{ℕ, ◌-◌, List, [], ◌∷◌, ◌++◌, not, ◌==◌, ◌&&◌, nat_lt, Option, Some, None, if◌then◌else◌, length, map, decimal, codes}
 use Rattle.std.specs.List.{find}
 use Rattle.std.specs.Str.{bytes_eq}
 use Rattle.gateway_frames.specs.declared.frame.Resume.{Resume}

@@ -1,29 +1,26 @@
 -- A session that goes on has its new connection, and all it was sent.
-use Rattle.std.proofs.Common.{◌≡◌, ℕ, ◌+◌, ◌-◌, ◌<◌, ◌≤◌, List, [], ◌∷◌, ◌++◌, Bool, true, false, not, Option, Some, None, Ok, if◌then◌else◌, length, map, drop, take, refl, sym, ap, subst, ◌∙◌, arith, inl, inr}
-use Rattle.std.specs.Prelude.{◌==◌, ◌&&◌, nat_lt, is_some, option_map, All}
+use Rattle.std.proofs.Common.{◌≡◌, ℕ, ◌-◌, ◌<◌, List, [], ◌∷◌, ◌++◌, Bool, true, false, not, Option, Some, None, if◌then◌else◌, length, map, drop, refl, sym, ap, subst, ◌∙◌, arith, inl, inr}
+use Rattle.std.specs.Prelude.{◌==◌, ◌&&◌, nat_lt, is_some, option_map}
 use Rattle.std.specs.List.{find}
 use Rattle.std.specs.Str.{bytes_eq}
-use Rattle.std.proofs.lemmas.Bool.{cases_Bool, false_from_ne_true}
+use Rattle.std.proofs.lemmas.Bool.{false_from_ne_true}
 use Rattle.std.proofs.lemmas.Bool.Decides.{nat_tests}
 use Rattle.std.proofs.lemmas.Option.{same_Some}
 use Rattle.std.proofs.lemmas.Slice.Eq.{bytes_eq-Decides}
-use Rattle.std.proofs.lemmas.List.{length-take-le, take-append-drop}
-use Rattle.std.proofs.lemmas.List.Elements.{All-append, All-nil, All-cons}
 use Rattle.dispatch_types.specs.declared.dispatch.Dispatch.{Dispatch}
 use Rattle.gateway_frames.specs.declared.frame.Resume.{Resume}
 use Rattle.gateway_frames.specs.declared.out.Out.TheVariants.{Resumed}
 use Rattle.gateway_frames.specs.Read.{frame_of}
-use Rattle.replay_ring.specs.Replay.{Replay}
-use Rattle.session_core.specs.State.{State, Session, Place, Attached, Detached, Ended, is_on, is_live, attached, released, has_link, has_session}
+use Rattle.session_core.specs.State.{State, Session, Place, Attached, Detached, Ended, is_on, is_live, attached, released, has_session}
 use Rattle.session_core.specs.Rate.{is_rated}
-use Rattle.session_core.specs.Frames.{Move, Nothing, Shuts, Denies, Resumes, resume_move, read_move, move_of}
+use Rattle.session_core.specs.Frames.{Move, Nothing, Shuts, resume_move, read_move, move_of}
 use Rattle.session_core.specs.Resume.{Answer, Unknown, Beyond, Goes, session_named, joined, resumed, resume_by, resume_answer}
-use Rattle.worker_core.specs.World.{Sent, dispatches, texts_from, replay, Worker, Output, Says, sends, older_sends, resent, numbered, framed, frame_sends, Frame, taken, outputs}
-use Rattle.worker_core.specs.Law.{IsNumber, HasSent, OutputHolds}
-use Rattle.worker_core.specs.Resumes.{Reaches, Covers, IsDenied, IsBeyond, sent_of, GoesOn, ResumeHolds, EachResumeHolds}
+use Rattle.worker_core.specs.World.{Sent, dispatches, replay, Worker, Output, Says, sends, older_sends, resent, numbered, framed, frame_sends, Frame, taken, outputs}
+use Rattle.worker_core.specs.Law.{IsNumber, HasSent}
+use Rattle.worker_core.specs.Resumes.{Reaches, Covers, IsDenied, IsBeyond, sent_of, GoesOn, EachResumeHolds}
 use Rattle.worker_core.proofs.Folds.{same_id}
 use Rattle.worker_core.proofs.Replays.{length_texts}
-use Rattle.worker_core.proofs.Resumes.{IsOf, named_number}
+use Rattle.worker_core.proofs.Resumes.{named_number}
 
 -- ---- without the older connection
 

@@ -3,9 +3,7 @@ use Rattle.std.proofs.Common.{◌≡◌, ℕ, ◌+◌, List, [], ◌∷◌, ◌+
 use Rattle.std.specs.Prelude.{◌==◌, ◌||◌, ◌&&◌, option_map, filter, flat_map, nat_lt, nat_le, is_some}
 use Rattle.std.specs.List.{find, list_any}
 use Rattle.std.specs.Str.{bytes_eq}
-use Rattle.std.proofs.lemmas.List.{length-append, length-map}
 use Rattle.guild_model.specs.Record.{Record, closed}
-use Rattle.dispatch_types.specs.declared.dispatch.Dispatch.{Dispatch}
 use Rattle.dispatch_types.specs.declared.viewer.Viewer.{Viewer}
 use Rattle.edit_apply.specs.Edits.{after, state}
 use Rattle.edit_apply.specs.declared.Edit.{Edit}
@@ -16,7 +14,6 @@ use Rattle.gateway_frames.specs.declared.fault.FrameFault.{FrameFault}
 use Rattle.gateway_frames.specs.declared.frame.Identify.{Identify}
 use Rattle.gateway_frames.specs.Read.{frame_of}
 use Rattle.session_core.specs.declared.bot.Bot.{Bot}
-use Rattle.session_core.specs.declared.reply.Mark.{Mark}
 use Rattle.session_core.specs.declared.reply.Mark.TheVariants.{Entry}
 use Rattle.session_core.specs.State.{State, Session, Place, Attached, Detached, Ended, is_on, is_live, has_link, has_session, released, opened, gone, begun}
 use Rattle.session_core.specs.Identify.{judged_of, identified, bot_of}
@@ -25,8 +22,8 @@ use Rattle.session_core.specs.Frames.{Move, Nothing, Answers, Shuts, Begins, Den
 use Rattle.session_core.specs.Resume.{session_id, session_named, joined, resumed, resume_by, resume_answer}
 use Rattle.gateway_frames.specs.declared.frame.Resume.{Resume}
 use Rattle.session_core.specs.Rate.{is_rated, noted}
-use Rattle.session_core.specs.Ends.{is_final, is_overdue, lost, all_gone, left_of, left, client_closed, kept_for, expired, ticked, silent_of}
-use Rattle.worker_core.specs.World.{ended_at, Seen, Cursors, cursors, seen_with, Told, told, Sent, texts_from, replay, Worker, sends, after_entry, entry_sends, entered, looked, look_sends, begins_with}
+use Rattle.session_core.specs.Ends.{is_final, lost, all_gone, left_of, left, client_closed, kept_for, expired, ticked, silent_of}
+use Rattle.worker_core.specs.World.{ended_at, Seen, Cursors, cursors, seen_with, told, Sent, texts_from, replay, Worker, sends, after_entry, entry_sends, entered, looked, look_sends, begins_with}
 use Rattle.worker_core.specs.Spent.{is_past, entry_spends, look_spends, told_spends, kept_spends}
 use Rattle.worker_core.specs.Kept.{counted, kept_session, kept, told_more, told_sends, kept_looked, kept_sends}
 use Rattle.worker_core.proofs.Lists.{append_none, map_join}

@@ -11,7 +11,7 @@ use Rattle.collections.specs.ById.{find_id, put_id, put_all, IsById}
 use Rattle.collections.proofs.Ids.{IsById-put}
 use Rattle.collections.proofs.Finds.{same_by_id, find-put, key-found, IsById-put_all}
 use Rattle.guild_model.specs.Record.{closed, own_id}
-use Rattle.gateway_frames.specs.declared.out.Out.TheVariants.{Hello, Ack, Resumed}
+use Rattle.gateway_frames.specs.declared.out.Out.TheVariants.{Hello, Resumed}
 use Rattle.dispatch_types.specs.declared.viewer.Viewer.{Viewer}
 use Rattle.edit_apply.specs.declared.Edit.{Edit}
 use Rattle.session_core.specs.declared.bot.Bot.{Bot}
@@ -28,7 +28,7 @@ use Rattle.worker_core.specs.declared.replica.Replica.{Replica}
 use Rattle.worker_core.specs.declared.io.Output.{Output as Written}
 use Rattle.worker_core.specs.declared.io.StepFault.{StepFault}
 use Rattle.worker_core.specs.declared.io.StepFault.TheVariants.{Spent}
-use Rattle.worker_core.specs.World.{Worker, Look, Open, Frame, Lost, Closed, Tick, tick_sends, taken, Says, Closes, sends}
+use Rattle.worker_core.specs.World.{Worker, Look, Open, Frame, Lost, Closed, Tick, taken, Says, Closes, sends}
 use Rattle.worker_core.specs.Faults.{step_fault}
 use Rattle.worker_core.specs.Kept.{kept_looked, kept_sends}
 use Rattle.worker_core.specs.Outputs.{written, all_written}

@@ -1,11 +1,11 @@
 -- What is kept of a session's dispatches for a resume, as more are made.
-use Rattle.std.proofs.Common.{◌≡◌, ℕ, ◌+◌, List, [], ◌∷◌, ◌++◌, suc, Option, length, map, fold, refl, sym, ap, ◌∙◌, arith}
-use Rattle.std.proofs.lemmas.List.{length-append, length-map}
+use Rattle.std.proofs.Common.{◌≡◌, ℕ, ◌+◌, List, [], ◌∷◌, ◌++◌, suc, Option, length, map, refl, sym, ap, ◌∙◌, arith}
+use Rattle.std.proofs.lemmas.List.{length-map}
 use Rattle.std.proofs.lemmas.Grind.{fold-append}
 use Rattle.serde_json.specs.Written.{compact_text}
 use Rattle.event_json.specs.Text.{data_of}
 use Rattle.dispatch_types.specs.declared.dispatch.Dispatch.{Dispatch}
-use Rattle.replay_ring.specs.Replay.{Replay, fresh, pushed, pushed_all, replay_of}
+use Rattle.replay_ring.specs.Replay.{fresh, pushed, pushed_all, replay_of}
 use Rattle.replay_ring.proofs.Suffixes.{pushed_all-fresh}
 use Rattle.session_core.specs.declared.reply.Mark.{Mark}
 use Rattle.worker_core.specs.World.{Cursors, Told, told, dispatch_of, Sent, dispatches, texts_from, replay}

@@ -16,7 +16,7 @@ use Rattle.gateway_frames.specs.declared.frame.Resume.{Resume}
 use Rattle.gateway_frames.specs.declared.fault.FrameFault.{FrameFault}
 use Rattle.gateway_frames.specs.declared.out.Out.TheVariants.{Resumed}
 use Rattle.gateway_frames.specs.Read.{frame_of}
-use Rattle.replay_ring.specs.Replay.{Replay, replay_of, texts_after, longest_suffix}
+use Rattle.replay_ring.specs.Replay.{Replay, texts_after}
 use Rattle.replay_ring.proofs.Suffixes.{texts_after-replay_of}
 use Rattle.session_core.specs.declared.bot.Bot.{Bot}
 use Rattle.session_core.specs.declared.reply.Reply.{Reply}
@@ -25,11 +25,10 @@ use Rattle.session_core.specs.State.{State, Session, Attached, is_live, attached
 use Rattle.session_core.specs.Identify.{identified}
 use Rattle.session_core.specs.Rate.{is_rated}
 use Rattle.session_core.specs.Frames.{Move, Nothing, Answers, Shuts, Begins, Denies, Resumes, identify_move, resume_move, later_move, first_move, read_move, move_of}
-use Rattle.session_core.specs.Resume.{Answer, Unknown, Beyond, Goes, session_id, session_named, resume_by, older_closes, resume_replies}
-use Rattle.worker_core.specs.World.{Sent, dispatches, texts_from, replay, Worker, Output, Says, Closes, sends, older_sends, resent, numbered, frame_sends}
+use Rattle.session_core.specs.Resume.{Unknown, Beyond, Goes, session_id, session_named, resume_by, older_closes, resume_replies}
+use Rattle.worker_core.specs.World.{Sent, dispatches, texts_from, replay, Worker, Output, Says, sends, older_sends, resent, numbered, frame_sends}
 use Rattle.worker_core.specs.Outputs.{written, all_written}
 use Rattle.worker_core.specs.Stands.{plain}
-use Rattle.worker_core.specs.declared.io.Output.{Output as Written}
 use Rattle.worker_core.specs.declared.io.Output.TheVariants.{Send}
 use Rattle.worker_core.proofs.Lists.{map_join}
 use Rattle.worker_core.proofs.Kept.{flat_map_join}

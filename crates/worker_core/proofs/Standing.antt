@@ -3,7 +3,6 @@ use Rattle.worker_core.proofs.Logs.{state_id}
 use Rattle.std.proofs.Common.{◌≡◌, ℕ, ◌+◌, List, [], ◌∷◌, ◌++◌, Bool, true, false, Option, Some, None, if◌then◌else◌, length, map, refl, sym, ap, subst, ◌∙◌}
 use Rattle.std.specs.Prelude.{◌==◌, ◌||◌, filter, flat_map, is_some, max, option_map}
 use Rattle.std.proofs.lemmas.Bool.{eqb-true}
-use Rattle.std.proofs.lemmas.List.{length-map}
 use Rattle.collections.specs.ById.{find_id, put_id, has_id, IsById}
 use Rattle.collections.proofs.Ids.{IsById-put}
 use Rattle.collections.proofs.Finds.{same_by_id, find-put, find-map, IsById-map, key-found}
@@ -23,7 +22,7 @@ use Rattle.session_core.specs.Frames.{Move, Nothing, Answers, Shuts, Begins, Den
 use Rattle.session_core.specs.Rate.{noted}
 use Rattle.session_core.specs.Ends.{lost, client_closed, ticked}
 use Rattle.worker_core.specs.declared.replica.Replica.{Replica}
-use Rattle.worker_core.specs.World.{Seen, Worker, Input, cursors, tick_sends, entered, looked, look_sends, Look, Open, Frame, Lost, Closed, Tick, framed, frame_sends, open_sends, first_dispatches, listed_guilds, greeting_of, ready, sends, texts_from, replay}
+use Rattle.worker_core.specs.World.{Seen, Worker, cursors, tick_sends, entered, looked, look_sends, Look, Open, Frame, Lost, Closed, Tick, framed, frame_sends, open_sends, first_dispatches, listed_guilds, greeting_of, ready, sends, texts_from, replay}
 use Rattle.worker_core.specs.Kept.{kept, kept_session, kept_looked, kept_sends}
 use Rattle.worker_core.specs.Stands.{replica_id, replica, looked_replica, KeptWorker, Stands, after_look, after_open, after_frame, after_lost, after_closed, after_tick, LossesStand, LeavesStand, TicksStand, kept_listed, kept_greeting, kept_ready, kept_first, kept_start, kept_frame_sends, kept_frame_spends, IsStep, LooksStand, LooksPast, OpensStand, FramesStand}
 use Rattle.worker_core.specs.Outputs.{all_written}

@@ -1,6 +1,6 @@
 -- What a worker's value keeps of the worker that it stands for: of a session that has not ended what a resume
 -- needs, and of a log that was looked at its length and the record.
-use Rattle.std.specs.Prelude.{ℕ, ◌+◌, List, [], ◌∷◌, ◌++◌, length, map, flat_map}
+use Rattle.std.specs.Prelude.{List, [], ◌∷◌, ◌++◌, map, flat_map}
 use Rattle.guild_model.specs.Record.{Record}
 use Rattle.edit_apply.specs.Edits.{after}
 use Rattle.edit_apply.specs.declared.Edit.{Edit}

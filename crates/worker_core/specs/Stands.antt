@@ -9,7 +9,7 @@ use Rattle.session_core.specs.declared.bot.Bot.{Bot}
 use Rattle.session_core.specs.declared.reply.Reply.{Reply}
 use Rattle.session_core.specs.declared.reply.Reply.TheVariants as reply
 use Rattle.session_core.specs.State.{State, Session, Attached, opened}
-use Rattle.session_core.specs.Frames.{Move, Nothing, Answers, Shuts, Begins, Denies, Resumes, move_of, framed, none_sent, as_kept, is_spent}
+use Rattle.session_core.specs.Frames.{Move, Nothing, Answers, Shuts, Begins, Denies, Resumes, move_of, framed, as_kept, is_spent}
 use Rattle.session_core.specs.Resume.{session_id, resume_replies}
 use Rattle.replay_ring.specs.Replay.{Replay, fresh, pushed_all}
 use Rattle.session_core.specs.Ends.{lost, client_closed, ticked}
@@ -22,7 +22,7 @@ use Rattle.dispatch_types.specs.declared.dispatch.Dispatch.{Dispatch}
 use Rattle.dispatch_types.specs.declared.dispatch.Dispatch.TheVariants.{Ready}
 use Rattle.dispatch_types.specs.declared.dispatch.Ready.{Ready as Greeted}
 use Rattle.gateway_frames.specs.declared.out.Out.TheVariants.{Ack, Invalid}
-use Rattle.worker_core.specs.World.{Seen, Worker, Input, Look, Open, Frame, Lost, Closed, Tick, taken, outputs, open_sends, tick_sends, Output, Says, Closes, sends, texts_from, greeting_for}
+use Rattle.worker_core.specs.World.{Seen, Worker, Input, Look, Open, Frame, Lost, Closed, Tick, taken, outputs, open_sends, tick_sends, Says, Closes, sends, texts_from, greeting_for}
 use Rattle.worker_core.specs.Kept.{kept, kept_looked, kept_sends}
 use Rattle.worker_core.specs.Spent.{is_past, kept_spends, spends}
 use Rattle.worker_core.specs.Outputs.{written, all_written}

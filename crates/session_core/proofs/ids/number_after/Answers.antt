@@ -1,4 +1,4 @@
-use Rattle.std.proofs.Common.{◌≡◌, ◌++◌, Ok, Some, sym, ap, ◌∙◌, arith}
+use Rattle.std.proofs.Common.{◌≡◌, ◌++◌, Some, sym, ap, ◌∙◌, arith}
 use Rattle.session_core.proofs.Numbers.{after_front}
 use Rattle.session_core.proofs.ids.number_after.Goals as goal
 

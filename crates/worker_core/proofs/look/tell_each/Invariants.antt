@@ -1,4 +1,4 @@
-use Rattle.std.proofs.Common.{◌≡◌, ℕ, true, false, ◌++◌, map, take, drop, length}
+use Rattle.std.proofs.Common.{◌≡◌, true, false, ◌++◌, map, take, drop, length}
 use Rattle.std.specs.Prelude.{flat_map}
 use Rattle.std.specs.List.{list_any}
 use Rattle.guild_model.specs.Record.{Record}

@@ -1,8 +1,5 @@
-use Rattle.std.proofs.Common.{◌≡◌, nat_eq, filter, refl, sym, subst, rules, not}
-use Rattle.std.specs.Prelude.{List}
+use Rattle.std.proofs.Common.{refl, rules}
 use Rattle.indexmap.proofs.CallerLemmas.{filter-RetainsPairs}
-use Rattle.session_core.specs.declared.kept.Live.{Live}
-use Rattle.session_core.specs.Kept.{IsKept}
 use Rattle.session_core.proofs.Endings.{is_due, expired-kept, IsKept-expired}
 use Rattle.session_core.proofs.sessions.Sessions.expire.Goals as goal
 

@@ -1,5 +1,4 @@
-use Rattle.std.proofs.Common.{◌≡◌, nat_eq, None, Some, refl, sym, ◌∙◌}
-use Rattle.std.specs.Map.{lookup}
+use Rattle.std.proofs.Common.{None, refl, sym, ◌∙◌}
 use Rattle.session_core.proofs.Entries.{without-kept}
 use Rattle.session_core.proofs.Changes.{IsKept-line}
 use Rattle.session_core.proofs.Endings.{left-none, left-removed, IsKept-left}

@@ -1,4 +1,4 @@
-use Rattle.std.proofs.Common.{refl, sym}
+use Rattle.std.proofs.Common.{refl}
 use Rattle.session_core.specs.declared.kept.Live.{Live}
 use Rattle.session_core.proofs.Places.{set-kept, at-kept, IsKept-counted}
 use Rattle.session_core.proofs.sessions.Sessions.push_at.Goals as goal

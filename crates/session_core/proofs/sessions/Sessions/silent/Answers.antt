@@ -1,8 +1,7 @@
-use Rattle.std.proofs.Common.{◌≡◌, ◌+◌, ◌∷◌, Some, refl, sym, ap, ◌∙◌, slice_get, map, filter, drop, true, false}
-use Rattle.collections.specs.ById.{put_all}
+use Rattle.std.proofs.Common.{◌≡◌, ◌+◌, ◌∷◌, Some, sym, ◌∙◌, slice_get, filter, drop, true, false}
 use Rattle.session_core.specs.State.{Link}
 use Rattle.session_core.specs.Kept.{link_of}
-use Rattle.session_core.specs.Ends.{own_number, link_number, is_silent}
+use Rattle.session_core.specs.Ends.{is_silent}
 use Rattle.session_core.proofs.Endings.{silent-next, link-at}
 use Rattle.session_core.proofs.sessions.Sessions.silent.Goals as goal
 use Rattle.session_core.proofs.sessions.Sessions.silent.Goals.{then-is_silent+in_ok-put, else-is_silent}

@@ -1,5 +1,5 @@
 -- A frame, as in the model.
-use Rattle.std.proofs.Common.{sym, ap, subst, ◌∙◌, Err, Vec, Global}
+use Rattle.std.proofs.Common.{sym, ap, subst, Err, Vec, Global}
 use Rattle.std.proofs.lemmas.Result.{err_from_is_err_and}
 use Rattle.worker_core.specs.declared.io.Output.{Output}
 use Rattle.worker_core.specs.declared.io.StepFault.{StepFault}

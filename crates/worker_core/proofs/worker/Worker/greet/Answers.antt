@@ -1,5 +1,5 @@
 -- The session that has begun last is told its first dispatches.
-use Rattle.std.proofs.Common.{◌≡◌, ◌+◌, length, ap, sym, ◌∙◌, arith}
+use Rattle.std.proofs.Common.{◌≡◌, ◌+◌, length, arith}
 use Rattle.worker_core.proofs.Moving.{greet_made}
 use Rattle.worker_core.proofs.worker.Worker.greet.Goals as goal
 

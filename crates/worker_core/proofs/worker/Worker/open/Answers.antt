@@ -1,5 +1,5 @@
 -- A connection that opens, as in the model.
-use Rattle.std.proofs.Common.{◌∙◌, Vec, Global}
+use Rattle.std.proofs.Common.{Vec, Global}
 use Rattle.worker_core.specs.declared.io.Output.{Output}
 use Rattle.worker_core.proofs.Moving.{open_ends}
 use Rattle.worker_core.proofs.worker.Worker.open.Goals as goal
