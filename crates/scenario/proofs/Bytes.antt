@@ -1,5 +1,5 @@
 -- Bytes of a step file, as they come.
-use Rattle.std.proofs.Common.{◌≡◌, ℕ, ◌<◌, List, [], ◌∷◌, ◌++◌, true, false, Result, Ok, Err, MatchResult, OnOk, length, take, drop, get_or, suc, refl, sym, ap, ◌∙◌, subst, append_assoc, append-nil}
+use Rattle.std.proofs.Common.{◌≡◌, ℕ, ◌<◌, List, [], ◌∷◌, ◌++◌, false, Result, Ok, Err, MatchResult, OnOk, length, take, drop, get_or, suc, refl, sym, ap, ◌∙◌, subst, append_assoc, append-nil}
 use Rattle.std.proofs.Math.Seq.{take-suc, split_at}
 use Rattle.std.specs.Prelude.{◌==◌}
 use Rattle.std.specs.declared.option.Option.{Option as Known}
@@ -11,7 +11,7 @@ use Rattle.scenario.specs.declared.fault.PlayFault.TheVariants.{Memory}
 use Rattle.scenario.specs.declared.player.Play.{Play}
 use Rattle.scenario.specs.Lines.{whole_lines, tail, lines_of, last_line}
 use Rattle.scenario.specs.Player.{Player, first_player}
-use Rattle.scenario.specs.Transcript.{first_reader, Whole, text_from, heard_text, heard_ending, text_of, ending_of, reader_of, player_of, transcript, ending}
+use Rattle.scenario.specs.Transcript.{first_reader, Whole, text_from, heard_text, heard_ending, text_of, reader_of, player_of, transcript, ending}
 use Rattle.scenario.specs.Played.{AppendsFront, Ends, Hears, Playing, StopsAt, Anything, Nothing}
 use Rattle.scenario.proofs.Lists.{whole_feed, tail_feed, whole_byte, tail_byte, lines_from, lines-more, Begins, begun}
 use Rattle.scenario.proofs.Stops.{reader-more, text-more, ends_among, heard_line, long_text, long_ending, long_stops}

@@ -1,5 +1,5 @@
 -- One line, as it is read and played.
-use Rattle.std.proofs.Common.{◌≡◌, ◌⊎◌, ℕ, List, [], ◌∷◌, ◌++◌, Bool, true, false, Option, Some, None, Result, Ok, Err, OnOk, if◌then◌else◌, inl, inr, refl, sym, ap, ◌∙◌, subst}
+use Rattle.std.proofs.Common.{◌≡◌, ◌⊎◌, ℕ, List, [], ◌++◌, false, Option, Some, None, Result, Ok, Err, OnOk, if◌then◌else◌, inl, inr, refl, sym, ap, ◌∙◌, subst}
 use Rattle.std.specs.Prelude.{flat_map}
 use Rattle.std.specs.declared.option.Option.{Option as Known}
 use Rattle.std.specs.Io.KnownBytes.{Appends}
@@ -20,8 +20,8 @@ use Rattle.scenario.specs.declared.stage.Stage.{Stage}
 use Rattle.scenario.specs.declared.stage.Answer.{Answer}
 use Rattle.scenario.specs.Player.{Player, world, step_of, step_sends, played}
 use Rattle.scenario.specs.Texts.{refused_text, written_line}
-use Rattle.scenario.specs.Transcript.{Ending, Whole, Stops, Spends, line_refusal, line_text, line_spends, line_ending, read_text, read_ending, after_read, heard_text, heard_ending}
-use Rattle.scenario.specs.Stands.{Stands, Plays, PlaysNot}
+use Rattle.scenario.specs.Transcript.{Ending, Whole, Spends, line_refusal, line_text, line_spends, line_ending, read_text, read_ending, after_read, heard_text, heard_ending}
+use Rattle.scenario.specs.Stands.{Stands, PlaysNot}
 use Rattle.scenario.specs.Played.{fault_of, step_fault, AppendsFront, answer_text, Ends, Hears}
 use Rattle.scenario.proofs.Fronts.{no_front}
 

@@ -1,12 +1,11 @@
 -- A whole play.
-use Rattle.std.proofs.Common.{◌≡◌, ℕ, List, [], ◌++◌, Result, Ok, Err, MatchResult, refl, sym, ap, ◌∙◌, subst, append-nil}
+use Rattle.std.proofs.Common.{◌≡◌, ℕ, List, [], Result, Ok, Err, MatchResult, refl, sym, ap, ◌∙◌, subst}
 use Rattle.std.specs.declared.option.Option.{Option}
 use Rattle.std.specs.declared.option.Option.TheVariants.{Some, None}
 use Rattle.std.specs.Io.KnownBytes.{Appends, Consumes, IsAtEnd}
 use Rattle.scenario.specs.declared.fault.PlayFault.{PlayFault}
 use Rattle.scenario.specs.declared.fault.PlayFault.TheVariants.{Read, Write, Line, Spent, Memory}
 use Rattle.scenario.specs.declared.player.Play.{Play}
-use Rattle.scenario.specs.Lines.{whole_lines}
 use Rattle.scenario.specs.Transcript.{Whole, transcript, ending}
 use Rattle.scenario.specs.Played.{Playing, StopsAt, Anything, Nothing, PlaysAll, PlaysLines, PlaysTo}
 

@@ -1,7 +1,6 @@
 -- Seats and the workers that they stand for.
-use Rattle.std.proofs.Common.{◌≡◌, ℕ, zero, suc, ◌+◌, ◌<◌, ◌≤◌, List, [], ◌∷◌, ◌++◌, Bool, true, false, Option, Some, None, Result, Ok, Err, MatchResult, if◌then◌else◌, length, get_or, set, map, refl, sym, ap, ◌∙◌, subst, append-nil, arith}
-use Rattle.std.specs.Prelude.{◌==◌, ◌||◌, flat_map, drop, nat_lt, max}
-use Rattle.std.specs.List.{list_any}
+use Rattle.std.proofs.Common.{◌≡◌, ℕ, zero, suc, ◌+◌, ◌<◌, ◌≤◌, List, [], ◌∷◌, ◌++◌, Bool, true, false, Option, Some, None, Result, Ok, Err, MatchResult, if◌then◌else◌, length, get_or, set, refl, sym, ap, ◌∙◌, subst, append-nil, arith}
+use Rattle.std.specs.Prelude.{◌==◌, ◌||◌, drop, nat_lt, max}
 use Rattle.std.proofs.lemmas.Bool.Decides.{nat_tests}
 use Rattle.std.proofs.lemmas.List.{length-append, length-drop}
 use Rattle.std.proofs.lemmas.Bool.{eqb-true}
@@ -14,7 +13,7 @@ use Rattle.session_core.specs.declared.bot.Bot.{Bot}
 use Rattle.session_core.specs.State.{State, Session, Detached, opened, has_link, with_link, gone}
 use Rattle.session_core.specs.Ends.{is_final, silent_of, lost, all_gone, left, client_closed}
 use Rattle.session_core.specs.Frames.{Move, Nothing, Answers, Shuts, Begins, Denies, Resumes, framed as after_move, move_of}
-use Rattle.worker_core.specs.World.{Worker, Input, Look, Open, Frame, Lost, Closed, Tick, cursors, ended_at, taken, outputs, Output, looked, entered, Sent, replay, begins_with}
+use Rattle.worker_core.specs.World.{Worker, Input, Look, Open, Frame, Lost, Closed, Tick, cursors, ended_at, taken, outputs, looked, entered, Sent, replay, begins_with}
 use Rattle.worker_core.specs.Spent.{spends}
 use Rattle.worker_core.specs.Outputs.{all_written}
 use Rattle.worker_core.specs.Telling.{FaultBy}
@@ -22,7 +21,6 @@ use Rattle.worker_core.specs.Stands.{Stands as StandsFor, Steps, Fails}
 use Rattle.worker_core.specs.declared.io.StepFault.{StepFault}
 use Rattle.worker_core.specs.declared.io.Output.{Output as Written}
 use Rattle.worker_core.proofs.Worlds.{looked_seen}
-use Rattle.scenario.specs.declared.seat.Cursor.{Cursor}
 use Rattle.scenario.specs.declared.seat.Seat.{Seat}
 use Rattle.scenario.specs.Player.{for_worker, given_sends, given_spends}
 use Rattle.scenario.specs.Stands.{SeatSteps, SeatFails, SeatsStep, SeatsFail, Sits, AllSit, moved, all_moved, all_sends, any_spends, cursor_id, cursor_value, cursor_at, is_look}

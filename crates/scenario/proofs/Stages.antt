@@ -1,10 +1,10 @@
 -- What lines make of the stage.
-use Rattle.std.proofs.Common.{◌≡◌, ℕ, List, [], ◌∷◌, ◌++◌, Bool, true, false, Option, Some, None, Result, MatchResult, if◌then◌else◌, length, map, refl, sym, ap, ◌∙◌, subst, arith}
+use Rattle.std.proofs.Common.{◌≡◌, ℕ, List, [], ◌∷◌, ◌++◌, Bool, true, false, Option, Some, None, Result, MatchResult, if◌then◌else◌, length, refl, sym, ap, ◌∙◌, subst, arith}
 use Rattle.std.specs.Prelude.{◌==◌, ◌&&◌, ◌||◌, is_some, not, nat_lt, option_map, drop}
 use Rattle.std.proofs.lemmas.Bool.{eqb-true}
 use Rattle.std.proofs.lemmas.Bool.Decides.{nat_tests}
 use Rattle.collections.specs.ById.{find_id, has_id, put_id, put_all}
-use Rattle.collections.proofs.Finds.{find-put, find-put_all}
+use Rattle.collections.proofs.Finds.{find-put}
 use Rattle.collections.proofs.Has.{has-put}
 use Rattle.guild_model.specs.Record.{own_id, closed}
 use Rattle.guild_model.specs.declared.verdict.Verdict.{Verdict}
@@ -28,9 +28,9 @@ use Rattle.scenario.specs.declared.opened.Opened.{Opened}
 use Rattle.scenario.specs.declared.seat.Seat.{Seat}
 use Rattle.scenario.specs.declared.stage.Stage.{Stage}
 use Rattle.scenario.specs.Player.{Player, places, world, given, for_worker, step_of, with_step, played, noted, opened_id, enters, log, step_sends, step_spends}
-use Rattle.scenario.specs.Stands.{log_id, log_with, log_of, away, AllSit, guilds_of, Seated, SeatedOnceStepped, IsFull, Keeps, Stands, all_moved, all_sends, any_spends, SeatsStep, SeatsFail, Plays, PlaysNot, Gives}
+use Rattle.scenario.specs.Stands.{log_id, log_with, log_of, away, AllSit, guilds_of, SeatedOnceStepped, IsFull, Keeps, Stands, all_moved, all_sends, any_spends, SeatsStep, SeatsFail, Plays, PlaysNot, Gives}
 use Rattle.scenario.proofs.Seats.{by_result}
-use Rattle.scenario.proofs.Worlds.{run_more, stepped_workers, world_step, edit_sends, edit_spends}
+use Rattle.scenario.proofs.Worlds.{stepped_workers, world_step, edit_sends, edit_spends}
 
 -- ---- ids
 

@@ -10,7 +10,7 @@ use Rattle.edit_text.specs.declared.fault.LineFault.TheVariants.{TooLong}
 use Rattle.edit_text.specs.declared.line.Line.{Line}
 use Rattle.edit_text.specs.declared.line.Line.TheVariants.{Bot, Guild, Edit, Look, Open, Frame, Lost, Closed, Tick}
 use Rattle.edit_text.specs.declared.reader.StepReader.{StepReader}
-use Rattle.edit_text.specs.Lines.{line_of, after_line, reader_after, is_too_long, is_blank, noted, counted}
+use Rattle.edit_text.specs.Lines.{line_of, after_line, reader_after, noted, counted}
 use Rattle.scenario.specs.declared.fault.PlayFault.{PlayFault}
 use Rattle.scenario.specs.declared.fault.PlayFault.TheVariants as play
 use Rattle.scenario.specs.Player.{Player, first_player}

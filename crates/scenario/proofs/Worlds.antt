@@ -1,9 +1,9 @@
 -- The world of a player, step by step.
-use Rattle.std.proofs.Common.{◌≡◌, ℕ, List, [], ◌∷◌, ◌++◌, Bool, true, false, Option, Some, None, if◌then◌else◌, length, map, refl, sym, ap, ◌∙◌, subst}
-use Rattle.std.specs.Prelude.{◌==◌, flat_map, drop}
+use Rattle.std.proofs.Common.{◌≡◌, ℕ, List, [], ◌∷◌, ◌++◌, Bool, true, false, Some, None, if◌then◌else◌, length, map, refl, ap, ◌∙◌}
+use Rattle.std.specs.Prelude.{◌==◌, drop}
 use Rattle.edit_apply.specs.declared.Edit.{Edit}
-use Rattle.worker_core.specs.World.{Worker, World, Step, Edits, Looks, Opens, Frames, Loses, Leaves, Ticks, Input, Look, Open, Frame, Lost, Closed, Tick, taken, at_worker, stepped, run, seen_with}
-use Rattle.scenario.specs.Player.{Player, world, given, for_worker, step_sends, step_spends, with_step}
+use Rattle.worker_core.specs.World.{Worker, World, Step, Edits, Looks, Opens, Frames, Loses, Leaves, Ticks, Input, Look, Open, Frame, Lost, Closed, Tick, taken, stepped, run}
+use Rattle.scenario.specs.Player.{Player, world, given, with_step}
 use Rattle.scenario.specs.Stands.{moved, all_moved, all_sends, any_spends}
 
 pub run_more : (ss : List Step) (m : World) (s : Step) → run m (ss ++ s ∷ []) ≡ stepped (run m ss) s

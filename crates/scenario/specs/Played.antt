@@ -1,13 +1,12 @@
 -- What playing leaves in a source and a sink.
-use Rattle.std.specs.Prelude.{◌≡◌, ℕ, ◌≤◌, ◌-◌, ◌*◌, List, [], ◌∷◌, ◌++◌, length, flat_map, Result, Ok, Err}
+use Rattle.std.specs.Prelude.{◌≡◌, ℕ, ◌≤◌, ◌-◌, ◌*◌, List, [], ◌++◌, length, flat_map, Result, Ok, Err}
 use Rattle.std.specs.declared.option.Option.{Option}
-use Rattle.std.specs.declared.option.Option.TheVariants.{Some, None}
+use Rattle.std.specs.declared.option.Option.TheVariants.{Some}
 use Rattle.std.specs.Io.KnownBytes.{Appends, Consumes, IsAtEnd}
 use Rattle.gate_outside.specs.Causes.{Rose}
 use Rattle.gate_outside.specs.declared.faults.Fault.{Fault}
 use Rattle.gate_outside.specs.declared.faults.Fault.TheVariants as outside
 use Rattle.edit_text.specs.declared.reader.StepReader.{StepReader}
-use Rattle.edit_text.specs.Lines.{reader_after}
 use Rattle.worker_core.specs.declared.io.StepFault.{StepFault}
 use Rattle.worker_core.specs.declared.io.StepFault.TheVariants as step
 use Rattle.scenario.specs.declared.fault.PlayFault.{PlayFault}

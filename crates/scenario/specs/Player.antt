@@ -12,7 +12,7 @@ use Rattle.edit_apply.specs.declared.Edit.{Edit as GuildEdit}
 use Rattle.edit_text.specs.declared.line.Line.{Line}
 use Rattle.edit_text.specs.declared.line.Line.TheVariants.{Bot, Guild, Edit, Look, Open, Frame, Lost, Closed, Tick}
 use Rattle.session_core.specs.declared.bot.Bot.{Bot as KnownBot}
-use Rattle.worker_core.specs.World.{Worker, World, Step, Edits, Looks, Opens, Frames, Loses, Leaves, Ticks, run, Input, taken, outputs, Output}
+use Rattle.worker_core.specs.World.{Worker, World, Step, Edits, Looks, Opens, Frames, Loses, Leaves, Ticks, run, Input, outputs, Output}
 use Rattle.worker_core.specs.World.{Look as Looking, Open as Opening, Frame as Framing, Lost as Losing, Closed as Leaving, Tick as Ticking}
 use Rattle.worker_core.specs.Law.{first_world}
 use Rattle.worker_core.specs.Spent.{spends}

@@ -10,7 +10,7 @@ use Rattle.dispatch_types.specs.Fold.{contains}
 use Rattle.edit_apply.specs.Edits.{state}
 use Rattle.edit_apply.specs.declared.Edit.{Edit}
 use Rattle.edit_text.specs.declared.line.Line.{Line}
-use Rattle.worker_core.specs.World.{Worker, World, Step, Input, Look, Open, Frame, Lost, Closed, Tick, taken, outputs, Output, stepped}
+use Rattle.worker_core.specs.World.{Worker, Step, Input, Look, Open, Frame, Lost, Closed, Tick, taken, outputs, Output, stepped}
 use Rattle.worker_core.specs.Spent.{spends}
 use Rattle.worker_core.specs.Outputs.{all_written}
 use Rattle.worker_core.specs.Telling.{FaultBy}

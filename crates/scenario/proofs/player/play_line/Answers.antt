@@ -1,6 +1,5 @@
-use Rattle.std.proofs.Common.{subst}
 use Rattle.std.proofs.lemmas.Result.{err_from_is_err_and}
-use Rattle.scenario.proofs.Hears.{read_ok, read_err, fails_ends, write_ends, text_is, hears_line, hears_blank, ends_as}
+use Rattle.scenario.proofs.Hears.{fails_ends}
 use Rattle.scenario.proofs.player.play_line.Goals as goal
 
 pub returns-in_err-answer-clause-plays : goal.returns-in_err-answer-clause-plays
