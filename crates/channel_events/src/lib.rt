@@ -7,6 +7,3 @@ pub mod rows;
 
 pub use ends::{ChannelEnd, ChannelNote, note};
 pub use rows::row;
-
-#[cfg(test)]
-mod tests;
