@@ -1,8 +1,8 @@
 -- A client that is told an answer still holds the projection.
 use Rattle.std.proofs.Common.{◌≡◌, ℕ, Bool, true, false, not, ◌&&◌, List, [], ◌∷◌, map, Option, Some, None, if◌then◌else◌, refl, sym, ap, subst, ◌∙◌, eq-eqb}
 use Rattle.std.specs.Prelude.{◌==◌, All, filter, is_some}
-use Rattle.std.specs.List.{range_with_len}
-use Rattle.std.proofs.lemmas.List.Elements.{All-nil, All-head, All-tail, All-map}
+use Rattle.std.specs.List.{range_with_len, slice_index_or}
+use Rattle.std.proofs.lemmas.List.Elements.{All-nil, All-cons, All-head, All-tail, All-map}
 use Rattle.collections.specs.ById.{find_id, put_id, put_all, IsById}
 use Rattle.collections.proofs.Filters.{put-same}
 use Rattle.collections.proofs.Mapped.{map-after}
@@ -29,7 +29,7 @@ use Rattle.dispatch_types.proofs.Folds.{guild_of, fold-elsewhere}
 use Rattle.event_views.proofs.Steps.{turned}
 use Rattle.event_views.proofs.Lists.{known-put, listed-again}
 use Rattle.member_chunks.specs.Answered.{is_answered, may_ask, found, part, chunk_count, chunk, chunks, answered}
-use Rattle.member_chunks.specs.Law.{AnswerKeeps, AnswerStays}
+use Rattle.member_chunks.specs.Law.{AnswerKeeps, chunk_told, EachChunkKeeps, EachChunkStays}
 use Rattle.member_chunks.proofs.Found.{of_found, of_part, each_there}
 
 -- a client that has begun with a bot and holds the projection
@@ -149,12 +149,47 @@ answer_keeps s v ask h well view = by_answer (is_answered s v ask) refl
         let holds = by_member (served v s) refl serving.0 (is_no s.outage able.0) in
         (holds.bot, holds.view)
 
-pub answer_stays : AnswerStays
+abbrev Keeps : Record → Viewer → Dispatch → Type 0
+Keeps s v d = (h : Held) → h.view ≡ projection s v h.known → ((chunk_told s v h d).bot ≡ h.bot) × ((chunk_told s v h d).view ≡ projection s v (chunk_told s v h d).known)
+
+pub each_chunk_keeps : EachChunkKeeps
 unfolding answered
-answer_stays s v ask g h other stays = fold-elsewhere v.intents g h s.id (answered s v ask) (by_answer (is_answered s v ask)) other stays
+each_chunk_keeps s v ask well = by_answer (is_answered s v ask) refl
   where
-    by_answer : (b : Bool) → All (λ (d : Dispatch). guild_of d ≡ Some s.id) (if b then chunks s ask (found s ask.find) else [])
-    by_answer true =
-        let ms : List Member = found s ask.find in
-        All-map (λ (d : Dispatch). guild_of d ≡ Some s.id) (λ index. GuildMembersChunk (chunk s ask ms index)) (range_with_len 0 (chunk_count ms)) (λ k d lt. refl)
-    by_answer false = All-nil (λ (d : Dispatch). guild_of d ≡ Some s.id)
+    ms : List Member
+    ms = found s ask.find
+
+    by_member : (o : Option Member) → served v s ≡ o → is_some o ≡ true → s.outage ≡ false → (index : ℕ) → Keeps s v (GuildMembersChunk (chunk s ask ms index))
+    by_member None e some available = absurd (cc)
+    by_member (Some me) e some available = λ index h view.
+        let holds = one s v me well e available h.bot ask ms index h (of_found s (Stands s) (each-stands s well) ask.find) (record { bot = refl; view = view }) in
+        (holds.bot, holds.view)
+
+    by_answer : (b : Bool) → is_answered s v ask ≡ b → All (Keeps s v) (if b then chunks s ask ms else [])
+    by_answer false e = All-nil (Keeps s v)
+    by_answer true e =
+        let here = both (ask.guild == s.id) (serves v s && (not s.outage && may_ask v ask)) e in
+        let serving = both (serves v s) (not s.outage && may_ask v ask) here.1 in
+        let able = both (not s.outage) (may_ask v ask) serving.1 in
+        let each = by_member (served v s) refl serving.0 (is_no s.outage able.0) in
+        All-map (Keeps s v) (λ index. GuildMembersChunk (chunk s ask ms index)) (range_with_len 0 (chunk_count ms)) (λ k index lt. each (slice_index_or (range_with_len 0 (chunk_count ms)) k index))
+
+abbrev Stays : Record → Viewer → ℕ → Dispatch → Type 0
+Stays s v g d = (h : Held) → purge v.intents g h ≡ h → folded v.intents g h d ≡ h
+
+pub each_chunk_stays : EachChunkStays
+unfolding answered
+each_chunk_stays s v ask g other = by_answer (is_answered s v ask)
+  where
+    ms : List Member
+    ms = found s ask.find
+
+    one_stays : (index : ℕ) → Stays s v g (GuildMembersChunk (chunk s ask ms index))
+    one_stays index h stays =
+        let own : All (λ (d : Dispatch). guild_of d ≡ Some s.id) (GuildMembersChunk (chunk s ask ms index) ∷ []) =
+        All-cons (λ (d : Dispatch). guild_of d ≡ Some s.id) (GuildMembersChunk (chunk s ask ms index)) [] refl (All-nil (λ (d : Dispatch). guild_of d ≡ Some s.id)) in
+        fold-elsewhere v.intents g h s.id (GuildMembersChunk (chunk s ask ms index) ∷ []) own other stays
+
+    by_answer : (b : Bool) → All (Stays s v g) (if b then chunks s ask ms else [])
+    by_answer true = All-map (Stays s v g) (λ index. GuildMembersChunk (chunk s ask ms index)) (range_with_len 0 (chunk_count ms)) (λ k index lt. one_stays (slice_index_or (range_with_len 0 (chunk_count ms)) k index))
+    by_answer false = All-nil (Stays s v g)

@@ -1,13 +1,18 @@
-ghost use Rattle.member_chunks.specs.Law.{AnswerKeeps, AnswerStays, ChunksAreAll, AnswersSpeak};
+ghost use Rattle.member_chunks.specs.Law.{AnswerKeeps, EachChunkKeeps, EachChunkStays, ChunksAreAll, AnswersSpeak};
 
 /// After an answer, a client that held the projection of a guild's record holds it still.
 pub fn answer_keeps()
     ensures { AnswerKeeps }
 {}
 
+/// After each chunk of an answer it holds it too.
+pub fn each_chunk_keeps()
+    ensures { EachChunkKeeps }
+{}
+
 /// Of another guild it holds what it held.
-pub fn answer_stays()
-    ensures { AnswerStays }
+pub fn each_chunk_stays()
+    ensures { EachChunkStays }
 {}
 
 /// Each member that is found stands in one chunk, in order.
