@@ -1,5 +1,6 @@
 -- What is kept by numbers, and the lists that it stands for.
 use Rattle.std.proofs.Common.{◌≡◌, ℕ, List, [], ◌∷◌, ◌++◌, map, filter, not, true, false, if◌then◌else◌, Option, Some, None, is_some, refl, sym, ap, subst, ◌∙◌, arith, eqb-true, eq-eqb, nat_eq, ◌==◌, inl, inr}
+use Rattle.std.specs.Option.{option_map}
 use Rattle.std.specs.List.{find, list_any, IsDistinct, AllByRecursion}
 use Rattle.std.specs.Map.{lookup, keys_of, set_value, remove_entry}
 use Rattle.std.proofs.lemmas.List.{map-append}
@@ -166,6 +167,22 @@ on-some (e ∷ es) c n on =
       | inr apart ↦
           let later : conn_at es n ≡ Some c = rw apart at on in
           grind (arith, on-some es c n later)
+    ]
+
+pub number-on : (es : List (ℕ × Live)) (c n : ℕ) → IsDistinct nat_eq (keys_of es) → ((m : ℕ) → conn_at es m ≡ Some c → m ≡ n) → conn_at es n ≡ Some c
+    → option_map (λ (x : Session Replay). x.number) (find (λ (x : Session Replay). is_on c x.place) (map session_of es)) ≡ Some n
+number-on [] c n once only on = cc
+number-on (e ∷ es) c n once only on =
+    elim (cases_Bool (is_on c (place_of e.1.hold))) [
+      | inl here ↦ rw here (ap Some (only e.0 (conn_at-here e es ∙ on-conn e.1.hold c here)))
+      | inr off ↦
+          let later : conn_at es n ≡ Some c = elim (cases_Bool (nat_eq n e.0)) [
+            | inl same ↦
+                let own : conn_of e.1.hold ≡ Some c = rw same at on in
+                absurd (grind (arith, conn-on e.1.hold c own, off))
+            | inr apart ↦ rw apart at on
+          ] in
+          rw off (number-on es c n (once-after e es once) (λ m is. only m (conn_at-later e es m c once is)) later)
     ]
 
 is_live-place : (h : Hold) → is_live (place_of h) ≡ true

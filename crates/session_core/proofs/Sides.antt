@@ -1,5 +1,6 @@
 -- A connection and its session, each seen from the other.
 use Rattle.std.proofs.Common.{◌≡◌, ℕ, List, map, false, Option, Some, None, is_some, refl, sym, ◌∙◌, nat_eq}
+use Rattle.std.specs.Option.{option_map}
 use Rattle.std.specs.List.{find}
 use Rattle.std.specs.Map.{lookup}
 use Rattle.std.proofs.lemmas.Option.{none-some, same_Some}
@@ -8,7 +9,7 @@ use Rattle.session_core.specs.declared.kept.Live.{Live}
 use Rattle.replay_ring.specs.Replay.{Replay}
 use Rattle.session_core.specs.State.{Session, is_on}
 use Rattle.session_core.specs.Kept.{session_of, conn_of, session_at, conn_at, IsKept}
-use Rattle.session_core.proofs.Entries.{on-none, on-some}
+use Rattle.session_core.proofs.Entries.{on-none, on-some, number-on}
 
 pub session_at-is : (lines : List (ℕ × Line)) (c : ℕ) (l : Line) → lookup (nat_eq c) lines ≡ Some l → session_at lines c ≡ l.session
 session_at-is lines c l there = rw there refl
@@ -41,6 +42,10 @@ module _ (made : ℕ) (lines : List (ℕ × Line)) (sessions : List (ℕ × Live
   pub has_session-kept : (o : Option ℕ) → session_at lines c ≡ o → is_some o ≡ is_some (find (λ (x : Session Replay). is_on c x.place) (map session_of sessions))
   has_session-kept None free = rw (on-none sessions c kept.sessions_once (off-kept free)) refl
   has_session-kept (Some n) is = sym (on-some sessions c n ((kept.agree c n).0 is))
+
+  pub number-kept : (o : Option ℕ) → session_at lines c ≡ o → o ≡ option_map (λ (x : Session Replay). x.number) (find (λ (x : Session Replay). is_on c x.place) (map session_of sessions))
+  number-kept None free = rw (on-none sessions c kept.sessions_once (off-kept free)) refl
+  number-kept (Some n) is = sym (number-on sessions c n kept.sessions_once (only-kept n is) ((kept.agree c n).0 is))
 
   pub free-kept : is_some (find (λ (x : Session Replay). is_on c x.place) (map session_of sessions)) ≡ false → session_at lines c ≡ None
   free-kept off =

@@ -1,9 +1,12 @@
 -- What a frame is answered: the first row that fits decides (Gateway, Opcodes and Status Codes).
-use Rattle.std.specs.Prelude.{◌≡◌, ℕ, ◌+◌, ◌-◌, ◌^◌, ◌==◌, List, [], ◌∷◌, Bool, true, false, Option, Result, Ok, Err, if◌then◌else◌}
+use Rattle.std.specs.Prelude.{◌≡◌, ℕ, ◌+◌, ◌-◌, ◌^◌, ◌==◌, List, [], ◌∷◌, Bool, true, false, Option, Some, None, Result, Ok, Err, if◌then◌else◌}
+use Rattle.guild_model.specs.declared.presence.Status.{Status}
 use Rattle.dispatch_types.specs.declared.viewer.Viewer.{Viewer}
 use Rattle.gateway_frames.specs.declared.frame.Identify.{Identify as Asked}
+use Rattle.gateway_frames.specs.declared.frame.VoiceAsk.{VoiceAsk}
+use Rattle.gateway_frames.specs.declared.frame.Ask.{Ask as Question}
 use Rattle.gateway_frames.specs.declared.frame.Frame.{Frame}
-use Rattle.gateway_frames.specs.declared.frame.Frame.TheVariants.{Heartbeat, Identify, Presence, Voice, Resume, Ask}
+use Rattle.gateway_frames.specs.declared.frame.Frame.TheVariants as frame
 use Rattle.gateway_frames.specs.declared.fault.FrameFault.{FrameFault}
 use Rattle.gateway_frames.specs.declared.fault.FrameFault.TheVariants.{TooLong, NotJson, BadShape, UnknownOp, Memory}
 use Rattle.gateway_frames.specs.declared.out.Out.TheVariants.{Ack, Invalid}
@@ -12,15 +15,21 @@ use Rattle.session_core.specs.declared.bot.Bot.{Bot}
 use Rattle.session_core.specs.declared.fault.SessionFault.{SessionFault}
 use Rattle.session_core.specs.declared.fault.SessionFault.TheVariants as fault
 use Rattle.session_core.specs.declared.reply.Reply.{Reply}
-use Rattle.session_core.specs.declared.reply.Reply.TheVariants.{Send, Close, Begin}
-use Rattle.session_core.specs.State.{State, Detached, has_link, has_session, gone, heard, begun}
+use Rattle.session_core.specs.declared.reply.Reply.TheVariants as reply
+use Rattle.session_core.specs.State.{State, Detached, has_link, number_on, gone, heard, begun}
 use Rattle.session_core.specs.Identify.{identified, viewer_of}
 use Rattle.session_core.specs.Rate.{is_rated, noted}
 use Rattle.session_core.specs.Resume.{Answer, Unknown, Beyond, Goes, resume_answer, resumed, resume_replies}
 use Rattle.replay_ring.specs.Replay.{Replay, fresh}
 
+-- what a client wants in its session: members of a guild, a status of its bot, or a voice channel for it
+pub data Want : Type 0 where
+  Members : (ask : Question) → Want
+  Presence : (status : Status) → Want
+  Voice : (ask : VoiceAsk) → Want
+
 -- what a frame does: nothing, an answer to a heartbeat, the end of the connection, a session's begin, a session
--- that may not be resumed, or one that goes on
+-- that may not be resumed, one that goes on, or what a session's client wants
 pub data Move : Type 0 where
   Nothing : Move
   Answers : Move
@@ -28,6 +37,7 @@ pub data Move : Type 0 where
   Begins : (bot : Bot) (viewer : Viewer) → Move
   Denies : Move
   Resumes : (number : ℕ) (older : Option ℕ) (seq : ℕ) (held : Replay) → Move
+  Wants : (number : ℕ) (want : Want) → Move
 
 -- the code by which a text is refused that is no frame
 abbrev pub fault_code : FrameFault → ℕ
@@ -48,36 +58,43 @@ resume_move Unknown = Denies
 resume_move Beyond = Shuts 4007
 resume_move (Goes number older seq held) = Resumes number older seq held
 
--- on the connection of a session
-abbrev pub later_move : Frame → Move
-later_move (Heartbeat seq) = Answers
-later_move (Identify i) = Shuts 4005
-later_move (Resume r) = Shuts 4005
-later_move (Presence status) = Shuts 4001
-later_move (Voice ask) = Shuts 4001
-later_move (Ask ask) = Shuts 4001
+-- on the connection of the session of a number
+abbrev pub later_move : ℕ → Frame → Move
+later_move number (frame.Heartbeat seq) = Answers
+later_move number (frame.Identify i) = Shuts 4005
+later_move number (frame.Resume r) = Shuts 4005
+later_move number (frame.Presence status) = Wants number (Presence status)
+later_move number (frame.Voice ask) = Wants number (Voice ask)
+later_move number (frame.Ask ask) = Wants number (Members ask)
 
 -- `replay` is what is kept of a session's dispatches
 module _ {A : Type 0} (replay : A → Replay) where
   -- on a connection that has no session yet
   abbrev pub first_move : State A → Frame → Move
-  first_move s (Heartbeat seq) = Answers
-  first_move s (Identify i) = identify_move i (identified s i)
-  first_move s (Resume r) = resume_move (resume_answer replay s r)
-  first_move s (Presence status) = Shuts 4003
-  first_move s (Voice ask) = Shuts 4003
-  first_move s (Ask ask) = Shuts 4003
+  first_move s (frame.Heartbeat seq) = Answers
+  first_move s (frame.Identify i) = identify_move i (identified s i)
+  first_move s (frame.Resume r) = resume_move (resume_answer replay s r)
+  first_move s (frame.Presence status) = Shuts 4003
+  first_move s (frame.Voice ask) = Shuts 4003
+  first_move s (frame.Ask ask) = Shuts 4003
 
-  -- what a text does on an open connection, by its reading
-  abbrev pub read_move : State A → Bool → Result Frame FrameFault → Move
-  read_move s has (Err fault) = Shuts (fault_code fault)
-  read_move s has (Ok f) = if has then later_move f else first_move s f
+  -- what a text does on an open connection, by its session's number, if it has a session, and by its reading
+  abbrev pub read_move : State A → Option ℕ → Result Frame FrameFault → Move
+  read_move s session (Err fault) = Shuts (fault_code fault)
+  read_move s None (Ok f) = first_move s f
+  read_move s (Some number) (Ok f) = later_move number f
 
   -- what a text does: nothing where the connection is not open, and where it has sent too many, that is told first
   abbrev pub move_of : State A → ℕ → ℕ → List ℕ → Move
   move_of s now conn text =
-      if has_link conn s then (if is_rated conn now s then Shuts 4008 else read_move s (has_session conn s) (frame_of text))
+      if has_link conn s then (if is_rated conn now s then Shuts 4008 else read_move s (number_on conn s) (frame_of text))
       else Nothing
+
+-- what a client wants is handed on with its session
+abbrev pub want_reply : ℕ → Want → Reply
+want_reply number (Members ask) = reply.Ask number ask
+want_reply number (Presence status) = reply.Presence number status
+want_reply number (Voice ask) = reply.Voice number ask
 
 module _ {A : Type 0} where
   -- what becomes of the connections and sessions; `sent` is what a session of a number begins with
@@ -88,6 +105,7 @@ module _ {A : Type 0} where
   moved conn now sent (Begins bot viewer) s = begun conn bot viewer (sent bot viewer) s
   moved conn now sent Denies s = s
   moved conn now sent (Resumes number older seq held) s = resumed conn now number older s
+  moved conn now sent (Wants number want) s = s
 
   -- with the moment of the frame
   abbrev pub framed : ℕ → ℕ → (Bot → Viewer → ℕ → A) → Move → State A → State A
@@ -96,11 +114,12 @@ module _ {A : Type 0} where
   -- what is to be done then
   abbrev pub move_replies : ℕ → Move → State A → List Reply
   move_replies conn Nothing s = []
-  move_replies conn Answers s = Send conn Ack ∷ []
-  move_replies conn (Shuts code) s = Close conn code ∷ []
-  move_replies conn (Begins bot viewer) s = Begin (s.made + 1) ∷ []
-  move_replies conn Denies s = Send conn (Invalid false) ∷ []
+  move_replies conn Answers s = reply.Send conn Ack ∷ []
+  move_replies conn (Shuts code) s = reply.Close conn code ∷ []
+  move_replies conn (Begins bot viewer) s = reply.Begin (s.made + 1) ∷ []
+  move_replies conn Denies s = reply.Send conn (Invalid false) ∷ []
   move_replies conn (Resumes number older seq held) s = resume_replies conn older seq held
+  move_replies conn (Wants number want) s = want_reply number want ∷ []
 
   -- whether the session would have no number
   abbrev pub is_spent : Move → State A → Bool
@@ -110,6 +129,7 @@ module _ {A : Type 0} where
   is_spent (Begins bot viewer) s = s.made == 2 ^ 32 - 1
   is_spent Denies s = false
   is_spent (Resumes number older seq held) s = false
+  is_spent (Wants number want) s = false
 
 -- nothing was sent yet
 abbrev pub none_sent : Bot → Viewer → ℕ → Replay

@@ -1,6 +1,6 @@
 -- The connections and sessions of one worker (Gateway, Connection Lifecycle). What is kept of the
 -- dispatches of a session is a parameter: all of them in the model, what a resume needs in the code.
-use Rattle.std.specs.Prelude.{ℕ, ◌+◌, List, [], ◌∷◌, ◌++◌, Bool, true, false, not, ◌==◌, nat_lt, Option, Some, None, is_some, if◌then◌else◌, length, map, filter}
+use Rattle.std.specs.Prelude.{ℕ, ◌+◌, List, [], ◌∷◌, ◌++◌, Bool, true, false, not, ◌==◌, nat_lt, Option, Some, None, is_some, option_map, if◌then◌else◌, length, map, filter}
 use Rattle.std.specs.List.{find, list_any}
 use Rattle.dispatch_types.specs.declared.viewer.Viewer.{Viewer}
 use Rattle.gateway_frames.specs.declared.out.Out.TheVariants.{Hello}
@@ -62,6 +62,10 @@ module _ {A : Type 0} where
 
   abbrev pub has_session : ℕ → State A → Bool
   has_session conn s = is_some (session_on conn s)
+
+  -- the number of the session of a connection
+  abbrev pub number_on : ℕ → State A → Option ℕ
+  number_on conn s = option_map (λ (x : Session A). x.number) (session_on conn s)
 
   abbrev pub live : State A → List (Session A)
   live s = filter (λ (x : Session A). is_live x.place) s.sessions

@@ -1,8 +1,8 @@
 //! What a frame is answered.
 
-ghost use Rattle.std.specs.Prelude.{◌≡◌, true, false, Err, MatchResult, IfOk, OnOk, OnErr};
-ghost use Rattle.session_core.specs.declared.fault.SessionFault.TheVariants.{Spent};
-ghost use Rattle.session_core.specs.State.{has_link, has_session};
+ghost use Rattle.std.specs.Prelude.{◌≡◌, ◌∷◌, [], true, false, Err, MatchResult, IfOk, OnOk, OnErr};
+ghost use Rattle.session_core.specs.declared.fault.SessionFault.TheVariants.{Spent, Memory};
+ghost use Rattle.session_core.specs.State.{has_link, has_session, number_on};
 ghost use Rattle.session_core.specs.Frames.{Answers, Shuts, Begins, fault_code, later_move, first_move, move_of, framed, read_move, move_replies, is_spent, identify_move, resume_move, Denies, none_sent, as_kept, Done, Refused};
 ghost use Rattle.gateway_frames.specs.Read.{frame_of};
 ghost use Rattle.session_core.specs.Resume.{resume_answer};
@@ -120,18 +120,34 @@ impl Sessions {
         }
     }
 
-    /// A frame on the connection of a session.
-    fn later(&mut self, conn: u32, frame: &Frame, now: u64) -> Result<Vec<Reply>, SessionFault>
-        ensures { let move = later_move frame.now in
+    /// A frame on the connection of the session of a number.
+    fn later(
+        &mut self,
+        conn: u32,
+        number: u32,
+        frame: Frame,
+        now: u64,
+    ) -> Result<Vec<Reply>, SessionFault>
+        ensures { let move = later_move number frame in
             MatchResult result (λ replies. Done conn now move self.old self.new replies.items) (Refused move self.old self.new) }
     {
         match frame {
             Frame::Heartbeat(_) => self.answer(conn, now),
             Frame::Identify(_) | Frame::Resume(_) => self.shut(conn, ALREADY_AUTHENTICATED, now),
-            Frame::Presence(_) | Frame::Voice(_) | Frame::Ask(_) => {
-                self.shut(conn, UNKNOWN_OPCODE, now)
-            }
+            Frame::Presence(status) => self.hand_on(Reply::Presence(number, status)),
+            Frame::Voice(ask) => self.hand_on(Reply::Voice(number, ask)),
+            Frame::Ask(ask) => self.hand_on(Reply::Ask(number, ask)),
         }
+    }
+
+    /// What a session's client wants is not for the sessions to give.
+    fn hand_on(&mut self, reply: Reply) -> Result<Vec<Reply>, SessionFault>
+        ensures { MatchResult result
+            (λ replies. (replies.items ≡ reply ∷ []) × (self.new ≡ self.old))
+            (λ fault. (fault ≡ Memory) × (self.new ≡ self.old)) }
+    {
+        let replies = one(self.alloc(), reply)?;
+        Ok(replies)
     }
 }
 
@@ -167,14 +183,16 @@ impl Sessions {
     /// A text on an open connection that has not sent too many.
     fn read(&mut self, conn: u32, text: &str, now: u64) -> Result<Vec<Reply>, SessionFault>
         requires { has_link conn self.old ≡ true }
-        ensures { let move = read_move as_kept self.old (has_session conn self.old) (frame_of text.now) in
+        ensures { let move = read_move as_kept self.old (number_on conn self.old) (frame_of text.now) in
             MatchResult result (λ replies. Done conn now move self.old self.new replies.items) (Refused move self.old self.new) }
     {
         match Frame::read(self.alloc(), text) {
             Err(FrameFault::Memory) => Err(SessionFault::Memory),
             Err(fault) => self.shut(conn, code_of(fault), now),
-            Ok(frame) if self.has_session(conn) => self.later(conn, &frame, now),
-            Ok(frame) => self.first(conn, &frame, now),
+            Ok(frame) => match self.number_on(conn) {
+                Some(number) => self.later(conn, number, frame, now),
+                None => self.first(conn, &frame, now),
+            },
         }
     }
 }

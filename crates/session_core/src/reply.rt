@@ -1,5 +1,6 @@
 use collections::Text;
-use gateway_frames::Out;
+use gateway_frames::{Ask, Out, VoiceAsk};
+use guild_model::Status;
 use snowflake_id::Snowflake;
 
 /// What is to be done after a frame, in order.
@@ -13,6 +14,13 @@ pub enum Reply {
     Close(u32, u16),
     /// A session begins.
     Begin(u32),
+    /// A session's client asks for members of a guild (Gateway Events, Request Guild Members).
+    Ask(u32, Ask),
+    /// A session's client sets the status of its bot (Gateway Events, Update Presence).
+    Presence(u32, Status),
+    /// A session's client puts its bot into a voice channel, or out of it (Gateway Events, Update
+    /// Voice State).
+    Voice(u32, VoiceAsk),
 }
 
 /// Why a dispatch was made: for a session's start, for an entry of a guild's log by its position

@@ -1,5 +1,5 @@
 ghost use Rattle.std.specs.Prelude.{◌≡◌, ◌<◌, ◌^◌, ◌==◌, ◌↔◌, position, slice_get, option_map, string_bytes, IsErr, Some, None, ◌-◌, true, false, not, nat_lt, ◌∷◌, [], length, map, is_some, IfOk, OnOk, OnErr};
-ghost use Rattle.session_core.specs.State.{no_sessions, live, has_session, gone, begun, Detached, has_link, with_link, opened, open_replies, heard, attached};
+ghost use Rattle.session_core.specs.State.{no_sessions, live, has_session, number_on, gone, begun, Detached, has_link, with_link, opened, open_replies, heard, attached};
 ghost use Rattle.std.specs.Option.{option_copied, option_and_then};
 ghost use Rattle.session_core.specs.Pushes.{next_number, has_next_at, pushed_at};
 ghost use Rattle.session_core.specs.Rate.{is_rated, noted};
@@ -233,13 +233,14 @@ impl Sessions {
         line.session = Some(number);
     }
 
-    /// Whether a connection has a session.
-    pub(crate) fn has_session(&self, conn: u32) -> bool
-        ensures { result ≡ has_session conn self.now }
+    /// The number of a connection's session, if it has one.
+    pub(crate) fn number_on(&self, conn: u32) -> Option<u32>
+        ensures number { result ≡ number_on conn self.now }
+        ensures has { is_some result ≡ has_session conn self.now }
     {
         match self.links.get(&conn) {
-            Some(line) => line.session.is_some(),
-            None => false,
+            Some(line) => line.session,
+            None => None,
         }
     }
 
