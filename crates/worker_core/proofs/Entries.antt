@@ -26,7 +26,7 @@ pub record Entries (seen : Seen) (last : Cursors) (v : Viewer) (sent : List Told
   pub starts : IsBegun sent
   pub holds : EntriesHold seen (first_cursors sent) last v sent
 
-made-append : (g p : ℕ) (xs ys : List Told) → made_for g p (xs ++ ys) ≡ made_for g p xs ++ made_for g p ys
+pub made-append : (g p : ℕ) (xs ys : List Told) → made_for g p (xs ++ ys) ≡ made_for g p xs ++ made_for g p ys
 made-append g p [] ys = refl
 made-append g p (x ∷ xs) ys = by_test (is_for g p x.mark) (made-append g p xs ys)
   where

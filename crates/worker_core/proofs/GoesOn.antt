@@ -11,7 +11,7 @@ use Rattle.dispatch_types.specs.declared.dispatch.Dispatch.{Dispatch}
 use Rattle.gateway_frames.specs.declared.frame.Resume.{Resume}
 use Rattle.gateway_frames.specs.declared.out.Out.TheVariants.{Resumed}
 use Rattle.gateway_frames.specs.Read.{frame_of}
-use Rattle.session_core.specs.State.{State, Session, Place, Attached, Detached, Ended, is_on, is_live, attached, released, has_session}
+use Rattle.session_core.specs.State.{State, Session, Place, Attached, Detached, Ended, is_on, is_live, attached, released, session_on, number_on}
 use Rattle.session_core.specs.Rate.{is_rated}
 use Rattle.session_core.specs.Frames.{Move, Nothing, Shuts, resume_move, read_move, move_of}
 use Rattle.session_core.specs.Resume.{Answer, Unknown, Beyond, Goes, session_named, joined, resumed, resume_by, resume_answer}
@@ -147,12 +147,16 @@ none_on conn now (x ∷ xs) free = by_test (is_on conn x.place) free (none_on co
     by_test true free rest = absurd (cc free)
     by_test false free rest = ap (λ ys. x ∷ ys) (rest free)
 
+no_number : (o : Option (Session Sent)) → is_some o ≡ false → option_map (λ (x : Session Sent). x.number) o ≡ None
+no_number None free = refl
+no_number (Some x) free = absurd (cc free)
+
 module _ (w : Worker) (conn : ℕ) (text : List ℕ) (r : Resume) (reaches : Reaches w conn text r) where
   judged_so : move_of replay w.core w.now conn text ≡ resume_move (resume_answer replay w.core r)
   judged_so =
-      ap (λ b. if b then (if is_rated conn w.now w.core then Shuts 4008 else read_move replay w.core (has_session conn w.core) (frame_of text)) else Nothing) reaches.linked
-      ∙ (ap (λ b. if b then Shuts 4008 else read_move replay w.core (has_session conn w.core) (frame_of text)) reaches.few
-      ∙ (ap (λ b. read_move replay w.core b (frame_of text)) reaches.free ∙ ap (read_move replay w.core false) reaches.reads))
+      ap (λ b. if b then (if is_rated conn w.now w.core then Shuts 4008 else read_move replay w.core (number_on conn w.core) (frame_of text)) else Nothing) reaches.linked
+      ∙ (ap (λ b. if b then Shuts 4008 else read_move replay w.core (number_on conn w.core) (frame_of text)) reaches.few
+      ∙ (ap (λ o. read_move replay w.core o (frame_of text)) (no_number (session_on conn w.core) reaches.free) ∙ ap (read_move replay w.core None) reaches.reads))
 
   as_moved : (P : Worker → List Output → Type 0) (answer : Answer) → resume_answer replay w.core r ≡ answer
       → P (framed w conn (resume_move answer)) (frame_sends w conn (resume_move answer)) → P (taken w (Frame conn text)) (outputs w (Frame conn text))

@@ -1,6 +1,6 @@
 -- What is kept of the sessions moves as they do.
 use Rattle.std.proofs.Common.{◌≡◌, ℕ, ◌+◌, List, [], ◌∷◌, ◌++◌, Bool, true, false, Option, Some, None, Result, Ok, Err, if◌then◌else◌, suc, length, map, refl, sym, ap, ◌∙◌, append_assoc}
-use Rattle.std.specs.Prelude.{◌==◌, ◌||◌, ◌&&◌, option_map, filter, flat_map, nat_lt, nat_le, is_some}
+use Rattle.std.specs.Prelude.{◌==◌, ◌||◌, ◌&&◌, option_map, filter, flat_map, nat_lt, nat_le}
 use Rattle.std.specs.List.{find, list_any}
 use Rattle.std.specs.Str.{bytes_eq}
 use Rattle.guild_model.specs.Record.{Record, closed}
@@ -15,10 +15,10 @@ use Rattle.gateway_frames.specs.declared.frame.Identify.{Identify}
 use Rattle.gateway_frames.specs.Read.{frame_of}
 use Rattle.session_core.specs.declared.bot.Bot.{Bot}
 use Rattle.session_core.specs.declared.reply.Mark.TheVariants.{Entry}
-use Rattle.session_core.specs.State.{State, Session, Place, Attached, Detached, Ended, is_on, is_live, has_link, has_session, released, opened, gone, begun}
+use Rattle.session_core.specs.State.{State, Session, Place, Attached, Detached, Ended, is_on, is_live, has_link, number_on, released, opened, gone, begun}
 use Rattle.session_core.specs.Identify.{judged_of, identified, bot_of}
 use Rattle.replay_ring.specs.Replay.{Replay, pushed_all}
-use Rattle.session_core.specs.Frames.{Move, Nothing, Answers, Shuts, Begins, Denies, Resumes, identify_move, resume_move, first_move, read_move, move_of, moved, framed, as_kept}
+use Rattle.session_core.specs.Frames.{Move, Nothing, Answers, Shuts, Begins, Denies, Resumes, Wants, identify_move, resume_move, first_move, read_move, move_of, moved, framed, as_kept}
 use Rattle.session_core.specs.Resume.{session_id, session_named, joined, resumed, resume_by, resume_answer}
 use Rattle.gateway_frames.specs.declared.frame.Resume.{Resume}
 use Rattle.session_core.specs.Rate.{is_rated, noted}
@@ -130,18 +130,24 @@ look_spent (e ∷ es) w g =
     ∙ (ap (λ s. kept_spends s es (flat_map kept_session (map (after_entry w.seen g e) w.core.sessions))) (state_entered w.seen g e)
     ∙ ap (λ xs. kept_spends (after (state g (w.seen g)) e) es xs) (each_told w.seen g e w.core.sessions)))
 
--- the session of a connection is kept
-has_kept : (conn : ℕ) (xs : List (Session Sent)) → is_some (find (λ (x : Session Sent). is_on conn x.place) xs) ≡ is_some (find (λ (x : Session Replay). is_on conn x.place) (flat_map kept_session xs))
-has_kept conn [] = refl
-has_kept conn (x ∷ xs) = by_place x.place (has_kept conn xs)
+-- the number of a connection's session is kept
+abbrev number_of : Session Sent → ℕ
+number_of x = x.number
+
+abbrev kept_number_of : Session Replay → ℕ
+kept_number_of x = x.number
+
+number_kept : (conn : ℕ) (xs : List (Session Sent)) → option_map number_of (find (λ (x : Session Sent). is_on conn x.place) xs) ≡ option_map kept_number_of (find (λ (x : Session Replay). is_on conn x.place) (flat_map kept_session xs))
+number_kept conn [] = refl
+number_kept conn (x ∷ xs) = by_place x.place (number_kept conn xs)
   where
-    by_place : (place : Place) → is_some (find (λ (x : Session Sent). is_on conn x.place) xs) ≡ is_some (find (λ (x : Session Replay). is_on conn x.place) (flat_map kept_session xs))
-        → is_some (find (λ (y : Session Sent). is_on conn y.place) (record x { place = place } ∷ xs))
-        ≡ is_some (find (λ (y : Session Replay). is_on conn y.place) (kept_session (record x { place = place }) ++ flat_map kept_session xs))
+    by_place : (place : Place) → option_map number_of (find (λ (x : Session Sent). is_on conn x.place) xs) ≡ option_map kept_number_of (find (λ (x : Session Replay). is_on conn x.place) (flat_map kept_session xs))
+        → option_map number_of (find (λ (y : Session Sent). is_on conn y.place) (record x { place = place } ∷ xs))
+        ≡ option_map kept_number_of (find (λ (y : Session Replay). is_on conn y.place) (kept_session (record x { place = place }) ++ flat_map kept_session xs))
     by_place (Attached c) rest = by_test (c == conn)
       where
-        by_test : (b : Bool) → is_some (if b then Some (record x { place = Attached c }) else find (λ (y : Session Sent). is_on conn y.place) xs)
-            ≡ is_some (if b then Some (counted (record x { place = Attached c })) else find (λ (y : Session Replay). is_on conn y.place) (flat_map kept_session xs))
+        by_test : (b : Bool) → option_map number_of (if b then Some (record x { place = Attached c }) else find (λ (y : Session Sent). is_on conn y.place) xs)
+            ≡ option_map kept_number_of (if b then Some (counted (record x { place = Attached c })) else find (λ (y : Session Replay). is_on conn y.place) (flat_map kept_session xs))
         by_test true = refl
         by_test false = rest
     by_place (Detached since) rest = rest
@@ -202,14 +208,14 @@ move_kept s now conn text = by_link (has_link conn s) (is_rated conn now s)
     by_frame (frame.Voice ask) = refl
     by_frame (frame.Ask ask) = refl
 
-    by_read : (has : Bool) (r : Result Frame FrameFault) → read_move replay s has r ≡ read_move as_kept (kept s) has r
-    by_read has (Err fault) = refl
-    by_read true (Ok f) = refl
-    by_read false (Ok f) = by_frame f
+    by_read : (session : Option ℕ) (r : Result Frame FrameFault) → read_move replay s session r ≡ read_move as_kept (kept s) session r
+    by_read session (Err fault) = refl
+    by_read (Some number) (Ok f) = refl
+    by_read None (Ok f) = by_frame f
 
-    by_link : (b rated : Bool) → (if b then (if rated then Shuts 4008 else read_move replay s (has_session conn s) (frame_of text)) else Nothing)
-        ≡ (if b then (if rated then Shuts 4008 else read_move as_kept (kept s) (has_session conn (kept s)) (frame_of text)) else Nothing)
-    by_link true false = by_read (has_session conn s) (frame_of text) ∙ ap (λ b. read_move as_kept (kept s) b (frame_of text)) (has_kept conn s.sessions)
+    by_link : (b rated : Bool) → (if b then (if rated then Shuts 4008 else read_move replay s (number_on conn s) (frame_of text)) else Nothing)
+        ≡ (if b then (if rated then Shuts 4008 else read_move as_kept (kept s) (number_on conn (kept s)) (frame_of text)) else Nothing)
+    by_link true false = by_read (number_on conn s) (frame_of text) ∙ ap (λ o. read_move as_kept (kept s) o (frame_of text)) (number_kept conn s.sessions)
     by_link true true = refl
     by_link false rated = refl
 
@@ -272,6 +278,7 @@ moved_kept w conn now (Begins bot v) = ap (λ xs. record (begun conn bot v (begi
     (flat_map_join kept_session w.core.sessions (record { number = w.core.made + 1; token = bot.token; name = bot.name; viewer = v; place = Attached conn; sent = begins_with w bot v (w.core.made + 1) } ∷ []))
 moved_kept w conn now Denies = refl
 moved_kept w conn now (Resumes number older seq held) = resumed_kept conn now number older w.core
+moved_kept w conn now (Wants number want) = refl
 
 pub framed_kept : (w : Worker) (conn now : ℕ) (move : Move) → kept (framed conn now (begins_with w) move w.core) ≡ framed conn now (begins_kept w) move (kept w.core)
 framed_kept w conn now move = ap (noted conn now) (moved_kept w conn now move)

@@ -4,12 +4,16 @@ pub mod Folds
 pub mod Sessions
 pub mod Greetings
 pub mod Workers
+pub mod Chunks
+pub mod Taking
 pub mod Worlds
 pub mod Sends
 pub mod Replays
 pub mod Kept
 pub mod Resumes
 pub mod GoesOn
+pub mod Replicas
+pub mod Wanting
 pub mod Standing
 pub mod Telling
 pub mod Looking

@@ -21,7 +21,7 @@ use Rattle.session_core.specs.declared.reply.Reply.{Reply}
 use Rattle.session_core.specs.declared.reply.Reply.TheVariants as reply
 use Rattle.session_core.specs.State.{State, Session, Attached, has_link, open_replies}
 use Rattle.session_core.specs.Ends.{closes, silent_of, tick_replies}
-use Rattle.session_core.specs.Frames.{Move, Nothing, Answers, Shuts, Begins, Denies, Resumes, move_of, move_replies, is_spent, none_sent, as_kept}
+use Rattle.session_core.specs.Frames.{Move, Nothing, Answers, Shuts, Begins, Denies, Resumes, Wants, Want, Members, Presence, Voice, want_reply, move_of, move_replies, is_spent, none_sent, as_kept}
 use Rattle.session_core.specs.Resume.{resume_replies}
 use Rattle.replay_ring.specs.Replay.{Replay, fresh, texts_after}
 use Rattle.worker_core.specs.declared.replica.Replica.{Replica}
@@ -34,9 +34,10 @@ use Rattle.worker_core.specs.Kept.{kept_looked, kept_sends}
 use Rattle.worker_core.specs.Outputs.{written, all_written}
 use Rattle.worker_core.specs.Spent.{is_past, kept_spends}
 use Rattle.worker_core.specs.Telling.{FaultBy, kept_with, further, TellsAt, FailsAt}
-use Rattle.worker_core.specs.Stands.{replica_id, replica, looked_replica, KeptWorker, Stands, Steps, Fails, after_look, after_open, after_frame, kept_first, kept_start, kept_frame_sends, kept_frame_spends, after_lost, after_closed, after_tick, greeted, Greets, GreetsNot, Replies, RepliesNot, is_plain, plain}
+use Rattle.worker_core.specs.Stands.{replica_id, replica, looked_replica, KeptWorker, Stands, Steps, Fails, after_look, after_open, after_frame, kept_first, kept_start, kept_after_want, kept_after_move, wanted_sends, wanted_spends, kept_frame_sends, kept_frame_spends, after_lost, after_closed, after_tick, greeted, Greets, GreetsNot, Replies, RepliesNot, is_plain, plain}
 use Rattle.worker_core.proofs.Logs.{from_id}
-use Rattle.worker_core.proofs.Standing.{by_id_replicas, looks_at_one, opens, frames, losses, leaves, ticks}
+use Rattle.worker_core.proofs.Replicas.{by_id_replicas}
+use Rattle.worker_core.proofs.Standing.{looks_at_one, opens, frames, losses, leaves, ticks}
 
 abbrev pub empty : ℕ → Replica
 empty g = record { guild = closed g }
@@ -109,10 +110,10 @@ module _ (k : KeptWorker) (g : ℕ) (es : List Edit) (r : Replica) (found : find
 module _ (k k1 new : KeptWorker) (out : List Written) where
   -- what a list of replies leaves
   abbrev pub Replied : List Reply → Type 0
-  Replied replies = (list_all is_plain replies ≡ true → (new ≡ k1) × (out ≡ flat_map plain replies)) × ((n : ℕ) → replies ≡ reply.Begin n ∷ [] → Greets k1 n new [] out)
+  Replied replies = (list_all is_plain replies ≡ true → (new ≡ k1) × (out ≡ flat_map plain replies)) × ((r : Reply) → replies ≡ r ∷ [] → Replies r k1 new [] out)
 
 abbrev pub RepliedNot : KeptWorker → StepFault → List Reply → Type 0
-RepliedNot k1 fault replies = (list_all is_plain replies ≡ true → FaultBy false fault) × ((n : ℕ) → replies ≡ reply.Begin n ∷ [] → GreetsNot k1 n fault)
+RepliedNot k1 fault replies = (list_all is_plain replies ≡ true → FaultBy false fault) × ((r : Reply) → replies ≡ r ∷ [] → RepliesNot r k1 fault)
 
 -- one reply more
 pub plain_reply : (r : Reply) (old new : KeptWorker) (before out : List Written) → is_plain r ≡ true → Replies r old new before out → (new ≡ old) × (out ≡ before ++ plain r)
@@ -120,12 +121,18 @@ plain_reply (reply.Send conn payload) old new before out is done = done
 plain_reply (reply.Close conn code) old new before out is done = done
 plain_reply (reply.Text conn text) old new before out is done = done
 plain_reply (reply.Begin n) old new before out is done = absurd (cc is)
+plain_reply (reply.Ask n ask) old new before out is done = absurd (cc is)
+plain_reply (reply.Presence n status) old new before out is done = absurd (cc is)
+plain_reply (reply.Voice n ask) old new before out is done = absurd (cc is)
 
 pub plain_fails : (r : Reply) (old : KeptWorker) (fault : StepFault) → is_plain r ≡ true → RepliesNot r old fault → FaultBy false fault
 plain_fails (reply.Send conn payload) old fault is done = done
 plain_fails (reply.Close conn code) old fault is done = done
 plain_fails (reply.Text conn text) old fault is done = done
 plain_fails (reply.Begin n) old fault is done = absurd (cc is)
+plain_fails (reply.Ask n ask) old fault is done = absurd (cc is)
+plain_fails (reply.Presence n status) old fault is done = absurd (cc is)
+plain_fails (reply.Voice n ask) old fault is done = absurd (cc is)
 
 -- the last of some replies
 pub plain_last : (before : List Reply) (r : Reply) → list_all is_plain (before ++ r ∷ []) ≡ true → (list_all is_plain before ≡ true) × (is_plain r ≡ true)
@@ -138,11 +145,11 @@ plain_last (b ∷ before) r all = by_test (is_plain b) all (plain_last before r)
     by_test true all rest = rest all
     by_test false all rest = absurd (cc all)
 
--- a session that begins is the only reply
-pub alone : (before rest : List Reply) (r : Reply) (n : ℕ) → before ++ r ∷ rest ≡ reply.Begin n ∷ [] → (before ≡ []) × (r ≡ reply.Begin n)
-alone [] rest r n is = (refl, cc)
-alone (b ∷ []) rest r n is = absurd (cc)
-alone (b ∷ c ∷ before) rest r n is = absurd (cc)
+-- a reply that is the only one
+pub alone : (before rest : List Reply) (r only : Reply) → before ++ r ∷ rest ≡ only ∷ [] → (before ≡ []) × (r ≡ only)
+alone [] rest r only is = (refl, cc)
+alone (b ∷ []) rest r only is = absurd (cc)
+alone (b ∷ c ∷ before) rest r only is = absurd (cc)
 
 pub still_first : (before : List Reply) (now old : KeptWorker) → before ≡ [] → (list_all is_plain before ≡ true → now ≡ old) → now ≡ old
 still_first before now old none same = same (ap (list_all is_plain) none)
@@ -196,10 +203,10 @@ module _ (k : KeptWorker) (w : Worker) (stands : Stands k w) (conn : ℕ) (k1 : 
 
   pub open_ends : {V : Type 0} (items : V → List Written) (result : Result V StepFault) (new : KeptWorker) (replies : List Reply) → replies ≡ open_replies conn k.core
       → (list_all is_plain replies ≡ true → MatchResult result (λ out. (new ≡ k1) × (items out ≡ flat_map plain replies)) (FaultBy false))
-      → ((n : ℕ) → replies ≡ reply.Begin n ∷ [] → MatchResult result (λ out. Greets k1 n new [] (items out)) (GreetsNot k1 n))
+      → ((r : Reply) → replies ≡ r ∷ [] → MatchResult result (λ out. Replies r k1 new [] (items out)) (RepliesNot r k1))
       → MatchResult result (λ out. Steps w (Open conn) new (items out)) (Fails w (Open conn))
-  open_ends items (Ok out) new replies is all begins = open_made new (items out) (subst (Replied k k1 new (items out)) is (all, begins))
-  open_ends items (Err fault) new replies is all begins = open_fails fault (subst (RepliedNot k1 fault) is (all, begins))
+  open_ends items (Ok out) new replies is all one = open_made new (items out) (subst (Replied k k1 new (items out)) is (all, one))
+  open_ends items (Err fault) new replies is all one = open_fails fault (subst (RepliedNot k1 fault) is (all, one))
 
 -- a frame
 module _ (k : KeptWorker) (conn : ℕ) where
@@ -220,11 +227,11 @@ module _ (k : KeptWorker) (conn : ℕ) where
 
   move_made : (k1 new : KeptWorker) (out : List Written) (move : Move) → k1 ≡ after_frame k conn move none_sent → is_spent move k.core ≡ false
       → Replied k k1 new out (move_replies conn move k.core)
-      → (new ≡ after_frame k conn move (kept_start k)) × ((out ≡ kept_frame_sends k conn move) × (kept_frame_spends k move ≡ false))
+      → (new ≡ kept_after_move move (after_frame k conn move (kept_start k))) × ((out ≡ kept_frame_sends k conn move) × (kept_frame_spends k move ≡ false))
   move_made k1 new out Nothing is counted told = ((told.0 refl).0 ∙ is, ((told.0 refl).1, refl))
   move_made k1 new out Answers is counted told = ((told.0 refl).0 ∙ is, ((told.0 refl).1, refl))
   move_made k1 new out (Shuts code) is counted told = ((told.0 refl).0 ∙ is, ((told.0 refl).1, refl))
-  move_made k1 new out (Begins bot v) is counted told = from_start k1 is (told.1 (k.core.made + 1) refl)
+  move_made k1 new out (Begins bot v) is counted told = from_start k1 is (told.1 (reply.Begin (k.core.made + 1)) refl)
     where
       from_start : (k1 : KeptWorker) → k1 ≡ after_frame k conn (Begins bot v) none_sent → Greets k1 (k.core.made + 1) new [] out
           → (new ≡ after_frame k conn (Begins bot v) (kept_start k)) × ((out ≡ kept_frame_sends k conn (Begins bot v)) × (kept_frame_spends k (Begins bot v) ≡ false))
@@ -236,6 +243,17 @@ module _ (k : KeptWorker) (conn : ℕ) where
   move_made k1 new out (Resumes number older seq held) is counted told =
       let plain = told.0 (resume_plain older seq held) in
       (plain.0 ∙ is, (plain.1, refl))
+  move_made k1 new out (Wants number want) is counted told =
+      want_made number want (subst (λ (h : KeptWorker). Replies (want_reply number want) h new [] out) is (told.1 (want_reply number want) refl))
+    where
+      mid : Want → KeptWorker
+      mid want = after_frame k conn (Wants number want) none_sent
+
+      want_made : (number : ℕ) (want : Want) → Replies (want_reply number want) (mid want) new [] out
+          → (new ≡ kept_after_want number want (mid want)) × ((out ≡ wanted_sends k number want) × (wanted_spends k number want ≡ false))
+      want_made number (Members ask) gives = gives
+      want_made number (Presence status) gives = gives
+      want_made number (Voice ask) gives = gives
 
   move_fails : (k1 : KeptWorker) (fault : StepFault) (move : Move) → k1 ≡ after_frame k conn move none_sent → is_spent move k.core ≡ false
       → RepliedNot k1 fault (move_replies conn move k.core) → FaultBy (kept_frame_spends k move) fault
@@ -243,11 +261,18 @@ module _ (k : KeptWorker) (conn : ℕ) where
   move_fails k1 fault Answers is counted told = told.0 refl
   move_fails k1 fault (Shuts code) is counted told = told.0 refl
   move_fails k1 fault (Begins bot v) is counted told =
-      let here = subst (λ (h : KeptWorker). GreetsNot h (k.core.made + 1) fault) is (told.1 (k.core.made + 1) refl) in
+      let here = subst (λ (h : KeptWorker). GreetsNot h (k.core.made + 1) fault) is (told.1 (reply.Begin (k.core.made + 1)) refl) in
       let past = here k.core.sessions (begun_with bot v) refl in
       subst (λ b. FaultBy (b || is_past 0 (first_count bot v)) fault) (sym counted) past
   move_fails k1 fault Denies is counted told = told.0 refl
   move_fails k1 fault (Resumes number older seq held) is counted told = told.0 (resume_plain older seq held)
+  move_fails k1 fault (Wants number want) is counted told =
+      want_fails number want (subst (λ (h : KeptWorker). RepliesNot (want_reply number want) h fault) is (told.1 (want_reply number want) refl))
+    where
+      want_fails : (number : ℕ) (want : Want) → RepliesNot (want_reply number want) (after_frame k conn (Wants number want) none_sent) fault → FaultBy (wanted_spends k number want) fault
+      want_fails number (Members ask) gives = gives
+      want_fails number (Presence status) gives = gives
+      want_fails number (Voice ask) gives = gives
 
   spent_frame : (move : Move) → is_spent move k.core ≡ true → kept_frame_spends k move ≡ true
   spent_frame Nothing e = e
@@ -256,6 +281,7 @@ module _ (k : KeptWorker) (conn : ℕ) where
   spent_frame (Begins bot v) e = ap (λ b. b || is_past 0 (first_count bot v)) e
   spent_frame Denies e = e
   spent_frame (Resumes number older seq held) e = e
+  spent_frame (Wants number want) e = absurd (cc e)
 
   module _ (w : Worker) (stands : Stands k w) (text : List ℕ) where
     abbrev move : Move
@@ -278,10 +304,10 @@ module _ (k : KeptWorker) (conn : ℕ) where
     pub frame_ends : {V : Type 0} (items : V → List Written) (result : Result V StepFault) (k1 new : KeptWorker) (replies : List Reply) → replies ≡ move_replies conn move k.core
         → k1 ≡ after_frame k conn move none_sent → is_spent move k.core ≡ false
         → (list_all is_plain replies ≡ true → MatchResult result (λ out. (new ≡ k1) × (items out ≡ flat_map plain replies)) (FaultBy false))
-        → ((n : ℕ) → replies ≡ reply.Begin n ∷ [] → MatchResult result (λ out. Greets k1 n new [] (items out)) (GreetsNot k1 n))
+        → ((r : Reply) → replies ≡ r ∷ [] → MatchResult result (λ out. Replies r k1 new [] (items out)) (RepliesNot r k1))
         → MatchResult result (λ out. Steps w (Frame conn text) new (items out)) (Fails w (Frame conn text))
-    frame_ends items (Ok out) k1 new replies is moved_to counted all begins = frame_made k1 new (items out) moved_to counted (subst (Replied k k1 new (items out)) is (all, begins))
-    frame_ends items (Err fault) k1 new replies is moved_to counted all begins = frame_fails k1 fault moved_to counted (subst (RepliedNot k1 fault) is (all, begins))
+    frame_ends items (Ok out) k1 new replies is moved_to counted all one = frame_made k1 new (items out) moved_to counted (subst (Replied k k1 new (items out)) is (all, one))
+    frame_ends items (Err fault) k1 new replies is moved_to counted all one = frame_fails k1 fault moved_to counted (subst (RepliedNot k1 fault) is (all, one))
 
     pub frame_refused : (fault : SessionFault) → (fault ≡ session.Spent → is_spent move k.core ≡ true) → Fails w (Frame conn text) (step_fault fault)
     frame_refused session.Spent spent = frame_spent (spent refl)

@@ -21,10 +21,10 @@ use Rattle.replay_ring.proofs.Suffixes.{texts_after-replay_of}
 use Rattle.session_core.specs.declared.bot.Bot.{Bot}
 use Rattle.session_core.specs.declared.reply.Reply.{Reply}
 use Rattle.session_core.specs.declared.reply.Reply.TheVariants as reply
-use Rattle.session_core.specs.State.{State, Session, Attached, is_live, attached, has_link, has_session}
+use Rattle.session_core.specs.State.{State, Session, Attached, is_live, attached, has_link, number_on}
 use Rattle.session_core.specs.Identify.{identified}
 use Rattle.session_core.specs.Rate.{is_rated}
-use Rattle.session_core.specs.Frames.{Move, Nothing, Answers, Shuts, Begins, Denies, Resumes, identify_move, resume_move, later_move, first_move, read_move, move_of}
+use Rattle.session_core.specs.Frames.{Move, Nothing, Answers, Shuts, Begins, Denies, Resumes, Wants, identify_move, resume_move, later_move, first_move, read_move, move_of}
 use Rattle.session_core.specs.Resume.{Unknown, Beyond, Goes, session_id, session_named, resume_by, older_closes, resume_replies}
 use Rattle.worker_core.specs.World.{Sent, dispatches, texts_from, replay, Worker, Output, Says, sends, older_sends, resent, numbered, frame_sends}
 use Rattle.worker_core.specs.Outputs.{written, all_written}
@@ -94,6 +94,7 @@ Fits s (Shuts code) = Unit {0}
 Fits s (Begins bot v) = Unit {0}
 Fits s Denies = Unit {0}
 Fits s (Resumes number older seq held) = IsOf s number seq held
+Fits s (Wants number want) = Unit {0}
 
 fits_named : (s : State Sent) (r : Resume) (o : Option (Session Sent)) → session_named r.session s ≡ o → Fits s (resume_move (resume_by replay r o))
 fits_named s r None none = tt
@@ -130,23 +131,23 @@ fits_text w conn text = by_link (has_link conn w.core) (is_rated conn w.now w.co
     by_first (frame.Voice ask) = tt
     by_first (frame.Ask ask) = tt
 
-    by_later : (f : Frame) → Fits w.core (later_move f)
-    by_later (frame.Heartbeat seq) = tt
-    by_later (frame.Identify i) = tt
-    by_later (frame.Resume r) = tt
-    by_later (frame.Presence status) = tt
-    by_later (frame.Voice ask) = tt
-    by_later (frame.Ask ask) = tt
+    by_later : (number : ℕ) (f : Frame) → Fits w.core (later_move number f)
+    by_later number (frame.Heartbeat seq) = tt
+    by_later number (frame.Identify i) = tt
+    by_later number (frame.Resume r) = tt
+    by_later number (frame.Presence status) = tt
+    by_later number (frame.Voice ask) = tt
+    by_later number (frame.Ask ask) = tt
 
-    by_read : (has : Bool) (r : Result Frame FrameFault) → Fits w.core (read_move replay w.core has r)
-    by_read has (Err fault) = tt
-    by_read true (Ok f) = by_later f
-    by_read false (Ok f) = by_first f
+    by_read : (session : Option ℕ) (r : Result Frame FrameFault) → Fits w.core (read_move replay w.core session r)
+    by_read session (Err fault) = tt
+    by_read (Some number) (Ok f) = by_later number f
+    by_read None (Ok f) = by_first f
 
-    by_link : (b rated : Bool) → Fits w.core (if b then (if rated then Shuts 4008 else read_move replay w.core (has_session conn w.core) (frame_of text)) else Nothing)
+    by_link : (b rated : Bool) → Fits w.core (if b then (if rated then Shuts 4008 else read_move replay w.core (number_on conn w.core) (frame_of text)) else Nothing)
     by_link false rated = tt
     by_link true true = tt
-    by_link true false = by_read (has_session conn w.core) (frame_of text)
+    by_link true false = by_read (number_on conn w.core) (frame_of text)
 
 -- ---- what goes out again
 

@@ -1,6 +1,12 @@
 -- Each dispatch that goes out has its number in the session that the connection has.
 use Rattle.std.proofs.Common.{◌≡◌, ℕ, ◌+◌, ◌≤◌, List, [], ◌∷◌, ◌++◌, Bool, true, false, Option, Some, None, take, drop, if◌then◌else◌, length, map, refl, sym, ap, subst, ◌∙◌, append_assoc, inl, inr}
 use Rattle.std.specs.Prelude.{All, flat_map, max, nat_lt}
+use Rattle.std.specs.List.{find}
+use Rattle.std.specs.Option.{option_map_or}
+use Rattle.std.proofs.lemmas.Option.{same_Some}
+use Rattle.gateway_frames.specs.declared.frame.Ask.{Ask}
+use Rattle.edit_apply.specs.Edits.{state}
+use Rattle.wishes.specs.Wishes.{presence_wish, voice_wish}
 use Rattle.std.proofs.lemmas.List.Elements.{All-append, All-cons, All-nil, All-weaker}
 use Rattle.std.proofs.lemmas.List.{length-append, length-map, length-take-le, take-append-drop}
 use Rattle.dispatch_types.specs.declared.dispatch.Dispatch.{Dispatch}
@@ -12,9 +18,9 @@ use Rattle.session_core.specs.declared.bot.Bot.{Bot}
 use Rattle.session_core.specs.declared.reply.Mark.TheVariants.{Start, Entry}
 use Rattle.session_core.specs.State.{State, Session, Place, Attached, Detached, Ended, is_on, has_link, opened, gone}
 use Rattle.replay_ring.specs.Replay.{Replay}
-use Rattle.session_core.specs.Frames.{Move, Nothing, Answers, Shuts, Begins, Denies, Resumes, move_of}
+use Rattle.session_core.specs.Frames.{Move, Nothing, Answers, Shuts, Begins, Denies, Resumes, Wants, Want, Members, Presence, Voice, move_of}
 use Rattle.session_core.specs.Ends.{silent_of}
-use Rattle.worker_core.specs.World.{Seen, cursors, seen_with, Told, told, dispatch_of, Sent, dispatches, texts_from, replay, older_sends, resent, numbered, Worker, Output, Says, Tells, Closes, sends, after_entry, entry_owed, entry_sends, entered, looked, look_sends, first_dispatches, begins_with, Look, Open, Frame, Lost, Closed, Tick, framed, frame_sends, open_sends, taken}
+use Rattle.worker_core.specs.World.{Seen, Cursors, cursors, chunks_told, is_numbered, change_first, answer_to, after_answer, answer_sends, asked, wished, want_sends, after_want, seen_with, Told, told, dispatch_of, Sent, dispatches, texts_from, replay, older_sends, resent, numbered, Worker, Output, Says, Tells, Closes, Wishes, sends, after_entry, entry_owed, entry_sends, entered, looked, look_sends, first_dispatches, begins_with, Look, Open, Frame, Lost, Closed, Tick, framed, frame_sends, open_sends, taken}
 use Rattle.worker_core.specs.Law.{IsNumber, HasSent, OutputHolds, EachSendHolds}
 use Rattle.worker_core.proofs.Lists.{map_join}
 use Rattle.worker_core.proofs.Folds.{dispatches_told, same_id}
@@ -63,6 +69,7 @@ module _ (seen : Seen) (g : ℕ) (e : Edit) where
   output_stays xs (Says conn out) h = tt
   output_stays xs (Tells conn n d) h = sent_stays conn n d xs h
   output_stays xs (Closes conn code) h = tt
+  output_stays xs (Wishes guild edit) h = tt
 
   own_sends : (x : Session Sent) (ys : List (Session Sent)) → ((conn n : ℕ) (d : Dispatch) → IsSentOn conn n d (after_entry seen g e x) → HasSent conn n d ys) → All (OutputHolds ys) (entry_sends seen g e x)
   own_sends x ys = by_place x.place
@@ -130,6 +137,67 @@ goes_on_holds w conn number older seq held of =
     (subst (λ (o : Option (Session Sent)). All (OutputHolds ys) (resent conn seq o)) (sym of.found) again)
     (one_holds ys (Says conn (Resumed held.last)) tt))
 
+-- a session that is told an answer has its chunks, and its numbers stay
+changed_has : (conn n : ℕ) (d : Dispatch) (p : Session Sent → Bool) (f : Session Sent → Session Sent) (x : Session Sent) → IsSentOn conn n d (f x)
+    → (xs : List (Session Sent)) → find p xs ≡ Some x → HasSent conn n d (change_first p f xs)
+changed_has conn n d p f x here [] found = absurd (cc found)
+changed_has conn n d p f x here (y ∷ xs) found = by_test (p y) found (changed_has conn n d p f x here xs)
+  where
+    by_test : (b : Bool) → (if b then Some y else find p xs) ≡ Some x → (find p xs ≡ Some x → HasSent conn n d (change_first p f xs))
+        → HasSent conn n d (if b then f y ∷ xs else y ∷ change_first p f xs)
+    by_test true found rest = inl (subst (λ (z : Session Sent). IsSentOn conn n d (f z)) (sym (same_Some y x found)) here)
+    by_test false found rest = inr (rest found)
+
+pub chunk_dispatches : (made : ℕ) (now : Cursors) (ds : List Dispatch) → map dispatch_of (chunks_told made now ds) ≡ ds
+chunk_dispatches made now [] = refl
+chunk_dispatches made now (d ∷ ds) = ap (λ xs. d ∷ xs) (chunk_dispatches (made + 1) now ds)
+
+answer_holds : (w : Worker) (ask : Ask) (number : ℕ) (x : Session Sent) → numbered number w.core.sessions ≡ Some x
+    → All (OutputHolds (asked w ask number).core.sessions) (answer_sends w ask x)
+answer_holds w ask number x found = by_place x.place refl
+  where
+    ys : List (Session Sent)
+    ys = (asked w ask number).core.sessions
+
+    ds : List Dispatch
+    ds = answer_to w ask x
+
+    more : List Told
+    more = chunks_told w.chunks (cursors w.seen) ds
+
+    whole : map dispatch_of (x.sent.told ++ more) ≡ map dispatch_of x.sent.told ++ ds
+    whole = map_join dispatch_of x.sent.told more ∙ ap (λ xs. map dispatch_of x.sent.told ++ xs) (chunk_dispatches w.chunks (cursors w.seen) ds)
+
+    by_place : (place : Place) → x.place ≡ place → All (OutputHolds ys) (sends place (length x.sent.told) ds)
+    by_place (Attached own) is =
+        let on : is_on own x.place ≡ true = ap (is_on own) is ∙ same_id own in
+        subst (λ (n : ℕ). All (OutputHolds ys) (sends (Attached own) n ds)) (length-map x.sent.told dispatch_of)
+        (sends_from ys own (map dispatch_of (x.sent.told ++ more))
+        (λ n d number_is. changed_has own n d (is_numbered number) (after_answer w ask) x (on, number_is) w.core.sessions found)
+        (map dispatch_of x.sent.told) ds whole)
+    by_place (Detached since) is = All-nil (OutputHolds ys)
+    by_place Ended is = All-nil (OutputHolds ys)
+
+-- a wish is no dispatch
+wished_holds : (xs : List (Session Sent)) (g : ℕ) (o : Option Edit) → All (OutputHolds xs) (wished g o)
+wished_holds xs g None = All-nil (OutputHolds xs)
+wished_holds xs g (Some e) = one_holds xs (Wishes g e) tt
+
+wishes_hold : (xs : List (Session Sent)) (wish : ℕ → Option Edit) (gs : List ℕ) → All (OutputHolds xs) (flat_map (λ g. wished g (wish g)) gs)
+wishes_hold xs wish [] = All-nil (OutputHolds xs)
+wishes_hold xs wish (g ∷ gs) = All-append (OutputHolds xs) (wished g (wish g)) (flat_map (λ g. wished g (wish g)) gs) (wished_holds xs g (wish g)) (wishes_hold xs wish gs)
+
+want_holds : (w : Worker) (number : ℕ) (want : Want) (o : Option (Session Sent)) → numbered number w.core.sessions ≡ o
+    → All (OutputHolds (after_want number want w).core.sessions) (option_map_or (want_sends w want) o [])
+want_holds w number want None none = All-nil (OutputHolds (after_want number want w).core.sessions)
+want_holds w number (Members ask) (Some x) found = answer_holds w ask number x found
+want_holds w number (Presence status) (Some x) found = wishes_hold w.core.sessions (λ g. presence_wish (state g (w.seen g)) x.viewer status) w.guilds
+want_holds w number (Voice ask) (Some x) found = by_there (contains ask.guild w.guilds)
+  where
+    by_there : (b : Bool) → All (OutputHolds w.core.sessions) (if b then wished ask.guild (voice_wish (state ask.guild (w.seen ask.guild)) x.viewer ask) else [])
+    by_there true = wished_holds w.core.sessions ask.guild (voice_wish (state ask.guild (w.seen ask.guild)) x.viewer ask)
+    by_there false = All-nil (OutputHolds w.core.sessions)
+
 frame_holds : (w : Worker) (conn : ℕ) (move : Move) → Fits w.core move → All (OutputHolds (framed w conn move).core.sessions) (frame_sends w conn move)
 frame_holds w conn Nothing fits = All-nil (OutputHolds w.core.sessions)
 frame_holds w conn Answers fits = one_holds w.core.sessions (Says conn Ack) tt
@@ -137,6 +205,9 @@ frame_holds w conn (Shuts code) fits = one_holds (gone conn (Detached w.now) w.c
 frame_holds w conn (Begins bot v) fits = start_holds w conn bot v
 frame_holds w conn Denies fits = one_holds w.core.sessions (Says conn (Invalid false)) tt
 frame_holds w conn (Resumes number older seq held) fits = goes_on_holds w conn number older seq held fits
+frame_holds w conn (Wants number (Members ask)) fits = want_holds w number (Members ask) (numbered number w.core.sessions) refl
+frame_holds w conn (Wants number (Presence status)) fits = want_holds w number (Presence status) (numbered number w.core.sessions) refl
+frame_holds w conn (Wants number (Voice ask)) fits = want_holds w number (Voice ask) (numbered number w.core.sessions) refl
 
 open_holds : (w : Worker) (conn : ℕ) → All (OutputHolds (opened conn w.now w.core).sessions) (open_sends conn w.core)
 open_holds w conn = by_link (has_link conn w.core) (nat_lt (length w.core.links) 64)

@@ -3,9 +3,9 @@ use Rattle.worker_core.proofs.Logs.{state_id}
 use Rattle.std.proofs.Common.{◌≡◌, ℕ, ◌+◌, List, [], ◌∷◌, ◌++◌, Bool, true, false, Option, Some, None, if◌then◌else◌, length, map, refl, sym, ap, subst, ◌∙◌}
 use Rattle.std.specs.Prelude.{◌==◌, ◌||◌, filter, flat_map, is_some, max, option_map}
 use Rattle.std.proofs.lemmas.Bool.{eqb-true}
-use Rattle.collections.specs.ById.{find_id, put_id, has_id, IsById}
+use Rattle.collections.specs.ById.{find_id, put_id, IsById}
 use Rattle.collections.proofs.Ids.{IsById-put}
-use Rattle.collections.proofs.Finds.{same_by_id, find-put, find-map, IsById-map, key-found}
+use Rattle.collections.proofs.Finds.{same_by_id, find-put, key-found}
 use Rattle.guild_model.specs.Record.{closed, own_id}
 use Rattle.perm_bits.specs.Bits.{has_bit}
 use Rattle.intent_set.specs.Intents.{guilds}
@@ -18,40 +18,22 @@ use Rattle.session_core.specs.declared.bot.Bot.{Bot}
 use Rattle.session_core.specs.State.{State, Attached, opened, begun}
 use Rattle.replay_ring.specs.Replay.{Replay, fresh, pushed_all}
 use Rattle.session_core.specs.declared.reply.Mark.TheVariants.{Start}
-use Rattle.session_core.specs.Frames.{Move, Nothing, Answers, Shuts, Begins, Denies, Resumes, move_of, moved, framed as with_frame, is_spent, as_kept}
+use Rattle.session_core.specs.Frames.{Move, Nothing, Answers, Shuts, Begins, Denies, Resumes, Wants, move_of, moved, framed as with_frame, is_spent, as_kept}
 use Rattle.session_core.specs.Rate.{noted}
 use Rattle.session_core.specs.Ends.{lost, client_closed, ticked}
 use Rattle.worker_core.specs.declared.replica.Replica.{Replica}
-use Rattle.worker_core.specs.World.{Seen, Worker, cursors, tick_sends, entered, looked, look_sends, Look, Open, Frame, Lost, Closed, Tick, framed, frame_sends, open_sends, first_dispatches, listed_guilds, greeting_of, ready, sends, texts_from, replay}
+use Rattle.worker_core.specs.World.{Worker, cursors, tick_sends, entered, looked, look_sends, Look, Open, Frame, Lost, Closed, Tick, framed, after_move, frame_sends, open_sends, begins_with, first_dispatches, listed_guilds, greeting_of, ready, sends, texts_from, replay}
 use Rattle.worker_core.specs.Kept.{kept, kept_session, kept_looked, kept_sends}
-use Rattle.worker_core.specs.Stands.{replica_id, replica, looked_replica, KeptWorker, Stands, after_look, after_open, after_frame, after_lost, after_closed, after_tick, LossesStand, LeavesStand, TicksStand, kept_listed, kept_greeting, kept_ready, kept_first, kept_start, kept_frame_sends, kept_frame_spends, IsStep, LooksStand, LooksPast, OpensStand, FramesStand}
+use Rattle.worker_core.specs.Stands.{replica_id, replica, looked_replica, KeptWorker, Stands, after_look, after_open, after_frame, after_lost, after_closed, after_tick, LossesStand, LeavesStand, TicksStand, kept_listed, kept_greeting, kept_ready, kept_first, kept_start, kept_after_move, kept_frame_sends, kept_frame_spends, IsStep, LooksStand, LooksPast, OpensStand, FramesStand}
 use Rattle.worker_core.specs.Outputs.{all_written}
 use Rattle.worker_core.specs.Spent.{is_past, look_spends, frame_spends, kept_spends}
 use Rattle.worker_core.proofs.Folds.{state_join, same_id}
 use Rattle.worker_core.proofs.Worlds.{looked_seen}
+use Rattle.worker_core.proofs.Wanting.{want_stands, wants_sent, wants_spent}
+use Rattle.worker_core.proofs.Replicas.{contains_found, find_replica, by_id_replicas}
 use Rattle.worker_core.proofs.Replays.{replay_first}
 use Rattle.worker_core.proofs.Resumes.{Fits, fits_text, resumes_out}
 use Rattle.worker_core.proofs.Kept.{look_kept, look_sent, look_spent, move_kept, framed_kept, opened_kept, begins_kept, lost_kept, closed_kept, ticked_kept}
-
--- a list of ids contains what it finds
-contains_found : (id : ℕ) (gs : List ℕ) → contains id gs ≡ has_id own_id id gs
-contains_found id [] = refl
-contains_found id (g ∷ gs) = by_id (g == id) (contains_found id gs)
-  where
-    by_id : (b : Bool) → contains id gs ≡ has_id own_id id gs → (b || contains id gs) ≡ is_some (if b then Some g else find_id own_id id gs)
-    by_id true rest = refl
-    by_id false rest = rest
-
-module _ (seen : Seen) where
-  keyed : (g : ℕ) → replica_id (replica seen g) ≡ g
-  keyed g = state_id g (seen g)
-
-  -- the replica of a guild
-  pub find_replica : (g : ℕ) (gs : List ℕ) → find_id replica_id g (map (replica seen) gs) ≡ option_map (replica seen) (find_id own_id g gs)
-  find_replica g gs = find-map own_id replica_id (replica seen) keyed g gs
-
-  pub by_id_replicas : (gs : List ℕ) → IsById own_id gs → IsById replica_id (map (replica seen) gs)
-  by_id_replicas gs h = IsById-map own_id replica_id (replica seen) keyed gs h
 
 -- a look leaves the guilds
 looked_guilds : (es : List Edit) (w : Worker) (g : ℕ) → (looked w g es).guilds ≡ w.guilds
@@ -65,6 +47,10 @@ looked_url (e ∷ es) w g = looked_url es (entered w g e) g
 looked_now : (es : List Edit) (w : Worker) (g : ℕ) → (looked w g es).now ≡ w.now
 looked_now [] w g = refl
 looked_now (e ∷ es) w g = looked_now es (entered w g e) g
+
+looked_chunks : (es : List Edit) (w : Worker) (g : ℕ) → (looked w g es).chunks ≡ w.chunks
+looked_chunks [] w g = refl
+looked_chunks (e ∷ es) w g = looked_chunks es (entered w g e) g
 
 looked_core : (es : List Edit) (w : Worker) (g : ℕ) → kept (looked w g es).core ≡ record (kept w.core) { sessions = kept_looked (state g (w.seen g)) es (flat_map kept_session w.core.sessions) }
 looked_core es w g = fields es w g ∙ ap (λ xs. record (kept w.core) { sessions = xs }) (look_kept es w g)
@@ -116,6 +102,16 @@ replicas_looked es w g h there =
         let apart : (g == n) ≡ false = ap (λ k. g == k) one ∙ differ in
         ap Some (sym (other_looked es w g n apart))
 
+-- what a session's client wants is given when the sessions have moved
+move_stands : (move : Move) (k : KeptWorker) (w : Worker) → Stands k w → Stands (kept_after_move move k) (after_move move w)
+move_stands Nothing k w stands = stands
+move_stands Answers k w stands = stands
+move_stands (Shuts code) k w stands = stands
+move_stands (Begins bot v) k w stands = stands
+move_stands Denies k w stands = stands
+move_stands (Resumes number older seq held) k w stands = stands
+move_stands (Wants number want) k w stands = want_stands k w stands number want
+
 -- each step, on what is kept, is that of the worker
 module _ (k : KeptWorker) (w : Worker) (stands : Stands k w) where
   -- the guild is not there
@@ -149,6 +145,7 @@ module _ (k : KeptWorker) (w : Worker) (stands : Stands k w) where
               goes_on = stands.goes_on;
               url = stands.url ∙ sym (looked_url es w g);
               now = stands.now ∙ sym (looked_now es w g);
+              chunks = stands.chunks ∙ sym (looked_chunks es w g);
               guilds = subst (λ (gs : List ℕ). IsById own_id gs) (sym (looked_guilds es w g)) stands.guilds;
               replicas = ap (λ rs. put_id replica_id (looked_replica r es) rs) stands.replicas
                   ∙ (ap (λ r. put_id replica_id (looked_replica r es) (map (replica w.seen) w.guilds)) (sym is)
@@ -175,6 +172,7 @@ module _ (k : KeptWorker) (w : Worker) (stands : Stands k w) where
       goes_on = stands.goes_on;
       url = stands.url;
       now = stands.now;
+      chunks = stands.chunks;
       guilds = stands.guilds;
       replicas = stands.replicas;
       core = ap (λ c. opened conn k.now c) stands.core ∙ (ap (λ n. opened conn n (kept w.core)) stands.now ∙ sym (opened_kept w.core conn w.now));
@@ -212,7 +210,7 @@ module _ (k : KeptWorker) (w : Worker) (stands : Stands k w) where
       ap (λ (c : State Replay). move_of as_kept c k.now conn text) stands.core
       ∙ (ap (λ n. move_of as_kept (kept w.core) n conn text) stands.now ∙ sym (move_kept w.core w.now conn text))
 
-  moved_by : (conn : ℕ) (move : Move) → with_frame conn k.now (kept_start k) move k.core ≡ kept (framed w conn move).core
+  moved_by : (conn : ℕ) (move : Move) → with_frame conn k.now (kept_start k) move k.core ≡ kept (with_frame conn w.now (begins_with w) move w.core)
   moved_by conn move =
       ap (λ c. with_frame conn k.now (kept_start k) move c) stands.core
       ∙ (ap (λ n. with_frame conn n (kept_start k) move (kept w.core)) stands.now
@@ -232,6 +230,7 @@ module _ (k : KeptWorker) (w : Worker) (stands : Stands k w) where
       }) (same_start bot v (w.core.made + 1))
       by_move Denies = refl
       by_move (Resumes number older seq held) = refl
+      by_move (Wants number want) = refl
 
   sent_by : (conn : ℕ) (move : Move) → Fits w.core move → all_written (frame_sends w conn move) ≡ kept_frame_sends k conn move
   sent_by conn Nothing fits = refl
@@ -243,6 +242,7 @@ module _ (k : KeptWorker) (w : Worker) (stands : Stands k w) where
       ∙ ap (λ ds. sends (Attached conn) 0 ds) (sym (first_kept v bot (k.core.made + 1))))
   sent_by conn Denies fits = refl
   sent_by conn (Resumes number older seq held) fits = resumes_out w conn number older seq held fits
+  sent_by conn (Wants number want) fits = wants_sent k w stands number want
 
   spent_by : (move : Move) → frame_spends w move ≡ kept_frame_spends k move
   spent_by Nothing = refl
@@ -253,19 +253,27 @@ module _ (k : KeptWorker) (w : Worker) (stands : Stands k w) where
       ∙ ap (λ ds. is_spent (Begins bot v) k.core || is_past 0 (length ds)) (sym (first_kept v bot (k.core.made + 1)))
   spent_by Denies = refl
   spent_by (Resumes number older seq held) = refl
+  spent_by (Wants number want) = wants_spent k w stands number want
+
+  -- the sessions have moved
+  moved_stands : (conn : ℕ) (move : Move) → Stands (after_frame k conn move (kept_start k)) (record w { core = with_frame conn w.now (begins_with w) move w.core })
+  moved_stands conn move = record {
+    goes_on = stands.goes_on;
+    url = stands.url;
+    now = stands.now;
+    chunks = stands.chunks;
+    guilds = stands.guilds;
+    replicas = stands.replicas;
+    core = moved_by conn move;
+  }
 
   pub frames : (conn : ℕ) (text : List ℕ) → let move = move_of as_kept k.core k.now conn text in
-      IsStep w (Frame conn text) (after_frame k conn move (kept_start k)) (kept_frame_sends k conn move) (kept_frame_spends k move)
+      IsStep w (Frame conn text) (kept_after_move move (after_frame k conn move (kept_start k))) (kept_frame_sends k conn move) (kept_frame_spends k move)
   frames conn text =
-      let move : Move = move_of replay w.core w.now conn text in (
-        record {
-          goes_on = stands.goes_on;
-          url = stands.url;
-          now = stands.now;
-          guilds = stands.guilds;
-          replicas = stands.replicas;
-          core = ap (λ m. with_frame conn k.now (kept_start k) m k.core) (frames_move conn text) ∙ moved_by conn move;
-        },
+      let move : Move = move_of replay w.core w.now conn text in
+      let new : Move → KeptWorker = λ m. kept_after_move m (after_frame k conn m (kept_start k)) in (
+        subst (λ (m : Move). Stands (new m) (framed w conn move)) (sym (frames_move conn text))
+            (move_stands move (after_frame k conn move (kept_start k)) (record w { core = with_frame conn w.now (begins_with w) move w.core }) (moved_stands conn move)),
         (
           sent_by conn move (fits_text w conn text) ∙ ap (kept_frame_sends k conn) (sym (frames_move conn text)),
           spent_by move ∙ ap (kept_frame_spends k) (sym (frames_move conn text)),
@@ -280,6 +288,7 @@ module _ (k : KeptWorker) (w : Worker) (stands : Stands k w) where
       goes_on = stands.goes_on;
       url = stands.url;
       now = stands.now;
+      chunks = stands.chunks;
       guilds = stands.guilds;
       replicas = stands.replicas;
       core = ap (λ c. lost conn k.now c) stands.core ∙ (ap (λ n. lost conn n (kept w.core)) stands.now ∙ sym (lost_kept w.core conn w.now));
@@ -293,6 +302,7 @@ module _ (k : KeptWorker) (w : Worker) (stands : Stands k w) where
       goes_on = stands.goes_on;
       url = stands.url;
       now = stands.now;
+      chunks = stands.chunks;
       guilds = stands.guilds;
       replicas = stands.replicas;
       core = ap (λ c. client_closed (λ x. []) conn code k.now c) stands.core
@@ -307,6 +317,7 @@ module _ (k : KeptWorker) (w : Worker) (stands : Stands k w) where
       goes_on = stands.goes_on;
       url = stands.url;
       now = ap (λ n. max n now) stands.now;
+      chunks = stands.chunks;
       guilds = stands.guilds;
       replicas = stands.replicas;
       core = ap (λ c. ticked (λ x. []) (max k.now now) c) stands.core

@@ -3,7 +3,7 @@ use Rattle.edit_events.proofs.Keeps.{edit_keeps}
 use Rattle.edit_events.proofs.Others.{projection_stays, others_stay}
 use Rattle.worker_core.proofs.Logs.{state_is_well, state_id}
 use Rattle.std.proofs.Common.{◌≡◌, ℕ, ◌+◌, ◌≤◌, List, [], ◌∷◌, ◌++◌, Bool, true, false, Option, Some, None, if◌then◌else◌, length, take, refl, sym, ap, subst, ◌∙◌, arith, ◌⊎◌, inl}
-use Rattle.std.specs.Prelude.{All, ◌==◌, flat_map, max, nat_le, nat_lt}
+use Rattle.std.specs.Prelude.{All, ◌==◌, flat_map, nat_le, nat_lt}
 use Rattle.std.proofs.lemmas.List.Elements.{All-map, All-weaker, All-nil, All-cons, All-append, All-push, All-head, All-tail}
 use Rattle.std.proofs.lemmas.List.{take-append-le, length-append}
 use Rattle.std.proofs.Math.Seq.{take-length}
@@ -21,10 +21,9 @@ use Rattle.session_core.specs.declared.bot.Bot.{Bot}
 use Rattle.session_core.specs.declared.reply.Mark.{Mark}
 use Rattle.session_core.specs.declared.reply.Mark.TheVariants.{Start, Entry}
 use Rattle.session_core.specs.State.{State, Session, Place, Attached, Detached, Ended, is_live, has_link, released, opened, gone, begun}
-use Rattle.session_core.specs.Frames.{Move, Nothing, Answers, Shuts, Begins, Denies, Resumes, move_of}
 use Rattle.session_core.specs.Resume.{joined, attached_to, resumed}
 use Rattle.session_core.specs.Ends.{is_final, lost, all_gone, left_of, left, client_closed, kept_for, silent_of}
-use Rattle.worker_core.specs.World.{Seen, Cursors, cursors, seen_with, Told, told, Sent, replay, Worker, after_entry, entered, looked, greeting_of, ready, first_dispatches, begins_with, Input, Look, Open, Frame, Lost, Closed, Tick, ended_at, framed, passed, taken}
+use Rattle.worker_core.specs.World.{Seen, Cursors, cursors, seen_with, Told, told, Sent, Worker, after_entry, entered, looked, greeting_of, ready, first_dispatches, begins_with, ended_at, passed}
 use Rattle.worker_core.specs.Law.{held, last_cursors}
 use Rattle.worker_core.specs.Entries.{first_cursors}
 use Rattle.worker_core.proofs.Folds.{held_join, state_join}
@@ -103,7 +102,7 @@ pub record SessionMeets (seen : Seen) (x : Session Sent) : Type 0 where
   pub marked : IsMarked x.place x.sent.end
   pub entries : Entries seen (last_cursors (cursors seen) x) x.viewer x.sent.told
 
-abbrev at : Session Sent → Place → Option Cursors → Session Sent
+abbrev pub at : Session Sent → Place → Option Cursors → Session Sent
 at x place end = record x { place = place; sent = record { told = x.sent.told; end = end } }
 
 session_entered : (seen : Seen) (g : ℕ) (e : Edit) → (x : Session Sent) → SessionMeets seen x → SessionMeets (seen_with seen g e) (after_entry seen g e x)
@@ -147,7 +146,7 @@ entered_follows w g e there old = record {
     by_id h none true same = let here : g ≡ h = eqb-true g h same in absurd (cc (ap (λ n. contains n w.guilds) here))
     by_id h none false differ = old.strangers h none
 
-looked_follows : (es : List Edit) (w : Worker) (g : ℕ) → contains g w.guilds ≡ true → Follows w → Follows (looked w g es)
+pub looked_follows : (es : List Edit) (w : Worker) (g : ℕ) → contains g w.guilds ≡ true → Follows w → Follows (looked w g es)
 looked_follows [] w g there old = old
 looked_follows (e ∷ es) w g there old = looked_follows es (entered w g e) g there (entered_follows w g e there old)
 
@@ -164,14 +163,14 @@ released_meets seen conn now x = by_place x.place
     by_place (Detached since) old = old
     by_place Ended old = old
 
-gone_follows : (w : Worker) (conn : ℕ) → Follows w → Follows (record w { core = gone conn (Detached w.now) w.core })
+pub gone_follows : (w : Worker) (conn : ℕ) → Follows w → Follows (record w { core = gone conn (Detached w.now) w.core })
 gone_follows w conn old = record {
   sessions = All-map (SessionMeets w.seen) (released conn (Detached w.now)) w.core.sessions
       (All-weaker (SessionMeets w.seen) (λ x. SessionMeets w.seen (released conn (Detached w.now) x)) (released_meets w.seen conn w.now) w.core.sessions old.sessions);
   strangers = old.strangers;
 }
 
-begun_follows : (w : Worker) (conn : ℕ) (bot : Bot) (v : Viewer) → Follows w → Follows (record w { core = begun conn bot v (begins_with w bot v) w.core })
+pub begun_follows : (w : Worker) (conn : ℕ) (bot : Bot) (v : Viewer) → Follows w → Follows (record w { core = begun conn bot v (begins_with w bot v) w.core })
 begun_follows w conn bot v old = record {
   sessions = All-push (SessionMeets w.seen) w.core.sessions _ old.sessions (record {
     meets = more_sent w.seen w.seen v [] Start (first_dispatches w v bot (w.core.made + 1)) (λ g p le. refl) (λ g. omega arith) (λ g p le. inl le)
@@ -210,19 +209,11 @@ joined_follows w conn number old = record {
   strangers = old.strangers;
 }
 
-resumed_follows : (w : Worker) (conn number : ℕ) (older : Option ℕ) → Follows w → Follows (record w { core = resumed conn w.now number older w.core })
+pub resumed_follows : (w : Worker) (conn number : ℕ) (older : Option ℕ) → Follows w → Follows (record w { core = resumed conn w.now number older w.core })
 resumed_follows w conn number None old = joined_follows w conn number old
 resumed_follows w conn number (Some c) old = joined_follows (record w { core = gone c (Detached w.now) w.core }) conn number (gone_follows w c old)
 
-framed_follows : (w : Worker) (conn : ℕ) (move : Move) → Follows w → Follows (framed w conn move)
-framed_follows w conn Nothing old = record { sessions = old.sessions; strangers = old.strangers }
-framed_follows w conn Answers old = record { sessions = old.sessions; strangers = old.strangers }
-framed_follows w conn (Shuts code) old = let after = gone_follows w conn old in record { sessions = after.sessions; strangers = after.strangers }
-framed_follows w conn Denies old = record { sessions = old.sessions; strangers = old.strangers }
-framed_follows w conn (Resumes number older seq held) old = let after = resumed_follows w conn number older old in record { sessions = after.sessions; strangers = after.strangers }
-framed_follows w conn (Begins bot viewer) old = let after = begun_follows w conn bot viewer old in record { sessions = after.sessions; strangers = after.strangers }
-
-opened_follows : (w : Worker) (conn : ℕ) → Follows w → Follows (record w { core = opened conn w.now w.core })
+pub opened_follows : (w : Worker) (conn : ℕ) → Follows w → Follows (record w { core = opened conn w.now w.core })
 opened_follows w conn old = by_link (has_link conn w.core) (nat_lt (length w.core.links) 64)
   where
     by_link : (b c : Bool) → Follows (record w { core = if b then w.core else (if c then record w.core { links = w.core.links ++ record { number = conn; heard = w.now; times = [] } ∷ [] } else w.core) })
@@ -279,14 +270,14 @@ gone_at w conn now old = record {
   strangers = old.strangers;
 }
 
-lost_follows : (w : Worker) (conn : ℕ) → Follows w → Follows (with_core w (lost conn w.now w.core))
+pub lost_follows : (w : Worker) (conn : ℕ) → Follows w → Follows (with_core w (lost conn w.now w.core))
 lost_follows w conn old = by_link (has_link conn w.core)
   where
     by_link : (b : Bool) → Follows (with_core w (if b then gone conn (Detached w.now) w.core else w.core))
     by_link true = gone_at w conn w.now old
     by_link false = record { sessions = old.sessions; strangers = old.strangers }
 
-closed_follows : (w : Worker) (conn code : ℕ) → Follows w → Follows (with_core w (client_closed (ended_at (cursors w.seen)) conn code w.now w.core))
+pub closed_follows : (w : Worker) (conn code : ℕ) → Follows w → Follows (with_core w (client_closed (ended_at (cursors w.seen)) conn code w.now w.core))
 closed_follows w conn code old = by_code (is_final code) (has_link conn w.core)
   where
     by_code : (final there : Bool) → Follows (with_core w (if final then (if there then left (ended_at (cursors w.seen)) conn w.core else w.core) else lost conn w.now w.core))
@@ -301,22 +292,10 @@ all_gone_follows : (conns : List ℕ) (now : ℕ) (w : Worker) → Follows w →
 all_gone_follows [] now w old = record { sessions = old.sessions; strangers = old.strangers }
 all_gone_follows (conn ∷ conns) now w old = all_gone_follows conns now (with_core w (gone conn (Detached now) w.core)) (gone_at w conn now old)
 
-ticked_follows : (w : Worker) (now : ℕ) → Follows w → Follows (passed w now)
+pub ticked_follows : (w : Worker) (now : ℕ) → Follows w → Follows (passed w now)
 ticked_follows w now old =
     let before : Follows (with_core w (all_gone (silent_of now w.core.links) now w.core)) = all_gone_follows (silent_of now w.core.links) now w old in
     record {
       sessions = each_all (SessionMeets w.seen) (kept_for (ended_at (cursors w.seen)) now) (kept_meets w.seen now) (all_gone (silent_of now w.core.links) now w.core).sessions before.sessions;
       strangers = old.strangers;
     }
-
-pub taken_follows : (i : Input) (w : Worker) → Follows w → Follows (taken w i)
-taken_follows (Look g es) w old = by_there (contains g w.guilds) refl
-  where
-    by_there : (b : Bool) → contains g w.guilds ≡ b → Follows (if b then looked w g es else w)
-    by_there true there = looked_follows es w g there old
-    by_there false none = old
-taken_follows (Open conn) w old = opened_follows w conn old
-taken_follows (Frame conn text) w old = framed_follows w conn (move_of replay w.core w.now conn text) old
-taken_follows (Lost conn) w old = lost_follows w conn old
-taken_follows (Closed conn code) w old = closed_follows w conn code old
-taken_follows (Tick now) w old = ticked_follows w (max w.now now) old

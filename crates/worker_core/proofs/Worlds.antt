@@ -12,14 +12,15 @@ use Rattle.edit_apply.specs.Edits.{state}
 use Rattle.edit_events.proofs.Messages.{messages-shown}
 use Rattle.session_core.specs.declared.bot.Bot.{Bot}
 use Rattle.session_core.specs.State.{Session}
-use Rattle.session_core.specs.Frames.{Move}
-use Rattle.worker_core.specs.World.{Seen, Cursors, cursors, seen_with, Sent, Worker, entered, looked, Look, Open, Frame, Lost, Closed, Tick, framed, taken, World, Step, Edits, Looks, Opens, Frames, Loses, Leaves, Ticks, at_worker, stepped, run}
+use Rattle.session_core.specs.Frames.{Members, Presence, Voice, Move, Nothing, Answers, Shuts, Begins, Denies, Resumes, Wants, move_of}
+use Rattle.worker_core.specs.World.{Seen, Cursors, cursors, seen_with, Sent, replay, Worker, entered, looked, Look, Open, Frame, Lost, Closed, Tick, framed, taken, World, Step, Edits, Looks, Opens, Frames, Loses, Leaves, Ticks, at_worker, stepped, run}
 use Rattle.worker_core.specs.Law.{SessionHolds, WorkerHolds, EachRunHolds, last_cursors, first_of, first_world}
 use Rattle.worker_core.specs.Entries.{first_cursors, SessionEntriesHold, EachEntryHolds, MessagesHold, EachMessageHolds}
 use Rattle.worker_core.proofs.Lists.{append_none}
 use Rattle.worker_core.proofs.Entries.{entries_grown}
 use Rattle.worker_core.proofs.Sessions.{Meets, grown}
-use Rattle.worker_core.proofs.Workers.{SessionMeets, Follows, taken_follows}
+use Rattle.worker_core.proofs.Workers.{SessionMeets, Follows}
+use Rattle.worker_core.proofs.Taking.{taken_follows}
 
 -- what a worker has looked at is the front of each log
 abbrev pub IsFront : Seen → Seen → Type 0
@@ -66,7 +67,18 @@ look_front logs g w front h = by_there (contains g w.guilds)
 
 -- every other input leaves what was looked at
 framed_seen : (w : Worker) (conn : ℕ) (move : Move) → (framed w conn move).seen ≡ w.seen
-framed_seen w conn move = refl
+framed_seen w conn Nothing = refl
+framed_seen w conn Answers = refl
+framed_seen w conn (Shuts code) = refl
+framed_seen w conn (Begins bot viewer) = refl
+framed_seen w conn Denies = refl
+framed_seen w conn (Resumes number older seq held) = refl
+framed_seen w conn (Wants number (Members ask)) = refl
+framed_seen w conn (Wants number (Presence status)) = refl
+framed_seen w conn (Wants number (Voice ask)) = refl
+
+frame_front : (logs : Seen) (conn : ℕ) (text : List ℕ) (w : Worker) → IsFront w.seen logs → IsFront (taken w (Frame conn text)).seen logs
+frame_front logs conn text w front = subst (λ (seen : Seen). IsFront seen logs) (sym (framed_seen w conn (move_of replay w.core w.now conn text))) front
 
 moved_stays : (n : ℕ) (f : Worker → Worker) (m : World) → ((w : Worker) → Stays m.logs w → Stays m.logs (f w)) → All (Stays m.logs) m.workers → All (Stays m.logs) (at_worker n f m).workers
 moved_stays n f m keeps old = All-map (Stays m.logs) (λ (w : Worker). if w.core.worker == n then f w else w) m.workers
@@ -85,7 +97,7 @@ stepped_stays (Looks n g) m old =
     moved_stays n (λ w. taken w (Look g (drop (length (w.seen g)) (m.logs g)))) m
     (λ w h. record { follows = taken_follows (Look g (drop (length (w.seen g)) (m.logs g))) w h.follows; front = look_front m.logs g w h.front }) old
 stepped_stays (Opens n conn) m old = moved_stays n (λ w. taken w (Open conn)) m (λ w h. record { follows = taken_follows (Open conn) w h.follows; front = h.front }) old
-stepped_stays (Frames n conn text) m old = moved_stays n (λ w. taken w (Frame conn text)) m (λ w h. record { follows = taken_follows (Frame conn text) w h.follows; front = h.front }) old
+stepped_stays (Frames n conn text) m old = moved_stays n (λ w. taken w (Frame conn text)) m (λ w h. record { follows = taken_follows (Frame conn text) w h.follows; front = frame_front m.logs conn text w h.front }) old
 stepped_stays (Loses n conn) m old = moved_stays n (λ w. taken w (Lost conn)) m (λ w h. record { follows = taken_follows (Lost conn) w h.follows; front = h.front }) old
 stepped_stays (Leaves n conn code) m old = moved_stays n (λ w. taken w (Closed conn code)) m (λ w h. record { follows = taken_follows (Closed conn code) w h.follows; front = h.front }) old
 stepped_stays (Ticks n now) m old = moved_stays n (λ w. taken w (Tick now)) m (λ w h. record { follows = taken_follows (Tick now) w h.follows; front = h.front }) old

@@ -8,7 +8,7 @@ use Rattle.edit_apply.specs.declared.Edit.{Edit}
 use Rattle.edit_events.specs.Law.{Agrees}
 use Rattle.session_core.specs.declared.bot.Bot.{Bot}
 use Rattle.session_core.specs.State.{Session, is_on}
-use Rattle.worker_core.specs.World.{Cursors, cursors, Told, dispatch_of, Sent, Worker, World, Step, Output, Says, Tells, Closes, Input, taken, outputs, run, first_worker}
+use Rattle.worker_core.specs.World.{Cursors, cursors, Told, dispatch_of, Sent, Worker, World, Step, Output, Says, Tells, Closes, Wishes, Input, taken, outputs, run, first_worker}
 
 -- what a client holds of a guild after all of these
 abbrev pub held : Viewer → ℕ → List Told → Held
@@ -73,6 +73,7 @@ abbrev pub OutputHolds : List (Session Sent) → Output → Type 0
 OutputHolds xs (Tells conn number dispatch) = HasSent conn number dispatch xs
 OutputHolds xs (Says conn out) = Unit {0}
 OutputHolds xs (Closes conn code) = Unit {0}
+OutputHolds xs (Wishes guild edit) = Unit {0}
 
 -- each dispatch that goes out is that of its number of the session that the connection has
 unfoldable pub EachSendHolds : Type 0

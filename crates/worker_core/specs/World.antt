@@ -1,7 +1,8 @@
 -- Workers that follow the logs of guilds, their sessions, and what a list of steps makes of them
 -- (Gateway, Connection Lifecycle).
-use Rattle.std.specs.Prelude.{ℕ, ◌+◌, List, [], ◌∷◌, ◌++◌, true, false, not, ◌==◌, ◌&&◌, Option, Some, None, if◌then◌else◌, length, nat_lt, max, map, filter, drop, flat_map}
+use Rattle.std.specs.Prelude.{ℕ, ◌+◌, List, [], ◌∷◌, ◌++◌, Bool, true, false, not, ◌==◌, ◌&&◌, Option, Some, None, if◌then◌else◌, length, nat_lt, max, map, filter, drop, flat_map}
 use Rattle.std.specs.List.{find}
+use Rattle.std.specs.Option.{option_map_or}
 use Rattle.serde_json.specs.Written.{compact_text}
 use Rattle.event_json.specs.Text.{data_of}
 use Rattle.replay_ring.specs.Replay.{Replay, replay_of}
@@ -10,6 +11,7 @@ use Rattle.perm_bits.specs.Bits.{has_bit}
 use Rattle.intent_set.specs.Intents.{guilds}
 use Rattle.guild_model.specs.Record.{Record, own_id}
 use Rattle.guild_model.specs.declared.member.Member.{Member}
+use Rattle.guild_model.specs.declared.presence.Status.{Status}
 use Rattle.dispatch_types.specs.declared.viewer.Viewer.{Viewer}
 use Rattle.dispatch_types.specs.declared.dispatch.Ready.{Ready as Greeted}
 use Rattle.dispatch_types.specs.declared.dispatch.Dispatch.{Dispatch}
@@ -20,13 +22,17 @@ use Rattle.edit_apply.specs.Edits.{state}
 use Rattle.edit_apply.specs.declared.Edit.{Edit}
 use Rattle.edit_events.specs.Greeting.{greeting}
 use Rattle.edit_events.specs.Due.{owed}
+use Rattle.member_chunks.specs.Answered.{answered}
+use Rattle.wishes.specs.Wishes.{presence_wish, voice_wish}
+use Rattle.gateway_frames.specs.declared.frame.Ask.{Ask}
+use Rattle.gateway_frames.specs.declared.frame.VoiceAsk.{VoiceAsk}
 use Rattle.gateway_frames.specs.declared.out.Out.{Out}
 use Rattle.gateway_frames.specs.declared.out.Out.TheVariants.{Hello, Ack, Invalid, Resumed}
 use Rattle.session_core.specs.declared.bot.Bot.{Bot}
 use Rattle.session_core.specs.declared.reply.Mark.{Mark}
-use Rattle.session_core.specs.declared.reply.Mark.TheVariants.{Start, Entry}
+use Rattle.session_core.specs.declared.reply.Mark.TheVariants.{Start, Entry, Chunk}
 use Rattle.session_core.specs.State.{State, Session, Place, Attached, Detached, Ended, is_live, has_link, opened, no_sessions}
-use Rattle.session_core.specs.Frames.{Move, Nothing, Answers, Shuts, Begins, Denies, Resumes, move_of, framed as with_frame}
+use Rattle.session_core.specs.Frames.{Want, Members, Presence, Voice, Move, Nothing, Answers, Shuts, Begins, Denies, Resumes, Wants, move_of, framed as with_frame}
 use Rattle.session_core.specs.Resume.{session_id}
 use Rattle.session_core.specs.Ends.{lost, client_closed, ticked, silent_of}
 
@@ -77,6 +83,8 @@ pub record Worker : Type 0 where
   pub url : List ℕ
   pub guilds : List ℕ
   pub now : ℕ
+  -- how many chunks of members were made
+  pub chunks : ℕ
   pub seen : Seen
   pub core : State Sent
 
@@ -85,6 +93,8 @@ pub data Output : Type 0 where
   Says : (conn : ℕ) (out : Out) → Output
   Tells : (conn number : ℕ) (dispatch : Dispatch) → Output
   Closes : (conn code : ℕ) → Output
+  -- a client wishes this edit of a guild
+  Wishes : (guild : ℕ) (edit : Edit) → Output
 
 -- the dispatches of a session after its number n, on their way to its connection
 abbrev pub sends : Place → ℕ → List Dispatch → List Output
@@ -164,8 +174,76 @@ pub data Input : Type 0 where
   Closed : (conn code : ℕ) → Input
   Tick : (now : ℕ) → Input
 
+-- the live session of a number
+abbrev pub is_numbered : {A : Type 0} → ℕ → Session A → Bool
+is_numbered number x = is_live x.place && (x.number == number)
+
+abbrev pub numbered : {A : Type 0} → ℕ → List (Session A) → Option (Session A)
+numbered number xs = find (is_numbered number) xs
+
+-- a list with its first item that passes a test changed
+abbrev pub change_first : {A : Type 0} → (A → Bool) → (A → A) → List A → List A
+change_first p f [] = []
+change_first p f (x ∷ xs) = if p x then f x ∷ xs else x ∷ change_first p f xs
+
+-- chunks of members, each under a mark of its own (Gateway Events, Guild Members Chunk)
+abbrev pub chunks_told : ℕ → Cursors → List Dispatch → List Told
+chunks_told made now [] = []
+chunks_told made now (d ∷ ds) = record { mark = Chunk (made + 1); dispatch = d; before = now; after = now } ∷ chunks_told (made + 1) now ds
+
+-- a question for members of a guild, by the record that was looked at (Gateway Events, Request Guild Members)
+module _ (w : Worker) (ask : Ask) where
+  abbrev pub answer_to : Session Sent → List Dispatch
+  answer_to x = if contains ask.guild w.guilds then answered (state ask.guild (w.seen ask.guild)) x.viewer ask else []
+
+  abbrev pub after_answer : Session Sent → Session Sent
+  after_answer x = record x { sent = record x.sent { told = x.sent.told ++ chunks_told w.chunks (cursors w.seen) (answer_to x) } }
+
+  abbrev pub answer_sends : Session Sent → List Output
+  answer_sends x = sends x.place (length x.sent.told) (answer_to x)
+
+  -- the session of a number is told the answer
+  abbrev pub asked : ℕ → Worker
+  asked number = record w {
+    chunks = w.chunks + option_map_or (λ x. length (answer_to x)) (numbered number w.core.sessions) 0;
+    core = with_sessions (change_first (is_numbered number) after_answer w.core.sessions) w.core;
+  }
+
+-- a wish, if there is one
+abbrev pub wished : ℕ → Option Edit → List Output
+wished g None = []
+wished g (Some e) = Wishes g e ∷ []
+
+-- a status in each guild (Gateway Events, Update Presence)
+abbrev pub presence_wishes : Worker → Status → Session Sent → List Output
+presence_wishes w status x = flat_map (λ g. wished g (presence_wish (state g (w.seen g)) x.viewer status)) w.guilds
+
+-- a voice channel in one guild (Gateway Events, Update Voice State)
+abbrev pub voice_wishes : Worker → VoiceAsk → Session Sent → List Output
+voice_wishes w ask x = if contains ask.guild w.guilds then wished ask.guild (voice_wish (state ask.guild (w.seen ask.guild)) x.viewer ask) else []
+
+-- what goes out to a session's client, or for it
+abbrev pub want_sends : Worker → Want → Session Sent → List Output
+want_sends w (Members ask) x = answer_sends w ask x
+want_sends w (Presence status) x = presence_wishes w status x
+want_sends w (Voice ask) x = voice_wishes w ask x
+
+abbrev pub after_want : ℕ → Want → Worker → Worker
+after_want number (Members ask) w = asked w ask number
+after_want number (Presence status) w = w
+after_want number (Voice ask) w = w
+
+abbrev pub after_move : Move → Worker → Worker
+after_move Nothing w = w
+after_move Answers w = w
+after_move (Shuts code) w = w
+after_move (Begins bot viewer) w = w
+after_move Denies w = w
+after_move (Resumes number older seq held) w = w
+after_move (Wants number want) w = after_want number want w
+
 abbrev pub framed : Worker → ℕ → Move → Worker
-framed w conn move = record w { core = with_frame conn w.now (begins_with w) move w.core }
+framed w conn move = after_move move (record w { core = with_frame conn w.now (begins_with w) move w.core })
 
 -- the connection that a resumed session had
 abbrev pub older_sends : Option ℕ → List Output
@@ -177,10 +255,6 @@ abbrev pub resent : ℕ → ℕ → Option (Session Sent) → List Output
 resent conn seq None = []
 resent conn seq (Some x) = sends (Attached conn) seq (drop seq (dispatches x.sent))
 
--- the live session of a number
-abbrev pub numbered : ℕ → List (Session Sent) → Option (Session Sent)
-numbered number xs = find (λ (x : Session Sent). is_live x.place && (x.number == number)) xs
-
 abbrev pub frame_sends : Worker → ℕ → Move → List Output
 frame_sends w conn Nothing = []
 frame_sends w conn Answers = Says conn Ack ∷ []
@@ -188,6 +262,7 @@ frame_sends w conn (Shuts code) = Closes conn code ∷ []
 frame_sends w conn (Begins bot viewer) = sends (Attached conn) 0 (first_dispatches w viewer bot (w.core.made + 1))
 frame_sends w conn Denies = Says conn (Invalid false) ∷ []
 frame_sends w conn (Resumes number older seq held) = older_sends older ++ (resent conn seq (numbered number w.core.sessions) ++ Says conn (Resumed held.last) ∷ [])
+frame_sends w conn (Wants number want) = option_map_or (want_sends w want) (numbered number w.core.sessions) []
 
 abbrev pub open_sends : {A : Type 0} → ℕ → State A → List Output
 open_sends conn s = if has_link conn s then [] else (if nat_lt (length s.links) 64 then Says conn (Hello 41250) ∷ [] else Closes conn 4000 ∷ [])
@@ -247,4 +322,4 @@ run m [] = m
 run m (s ∷ ss) = run (stepped m s) ss
 
 abbrev pub first_worker : List Bot → List ℕ → ℕ → List ℕ → Worker
-first_worker bots ids number url = record { url = url; guilds = put_all own_id [] ids; now = 0; seen = λ g. []; core = no_sessions number bots }
+first_worker bots ids number url = record { url = url; guilds = put_all own_id [] ids; now = 0; chunks = 0; seen = λ g. []; core = no_sessions number bots }

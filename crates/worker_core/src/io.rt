@@ -30,12 +30,15 @@ pub enum Output {
     Send(u32, Text),
     /// A connection is closed with a code (Gateway, Close Event Codes).
     Close(u32, u16),
+    /// A client wishes this edit of a guild, which is for whoever orders the guild's edits (Gateway
+    /// Events, Update Presence and Update Voice State).
+    Wish(Snowflake, Edit),
 }
 
 /// Why a worker is finished.
 #[derive(Clone, Copy, PartialEq, Eq, Debug)]
 pub enum StepFault {
-    /// A count of sessions or of a session's dispatches is at its type's last value.
+    /// A count of sessions, of chunks or of a session's dispatches is at its type's last value.
     Spent,
     Memory,
 }

@@ -1,34 +1,36 @@
 //! A worker: what it keeps, and its step.
 
-ghost use Rattle.std.specs.Prelude.{◌≡◌, ℕ, [], ◌∷◌, false, true, max, flat_map, Some, None, Err, IfOk, OnOk, IsSome, MatchResult, slice_get};
+ghost use Rattle.std.specs.Prelude.{◌≡◌, ◌+◌, ◌<◌, ℕ, [], ◌∷◌, false, true, max, flat_map, position, option_map, length, Some, None, Err, IfOk, OnOk, OnErr, IsSome, MatchResult, slice_get};
 ghost use Rattle.std.specs.List.{list_all};
-ghost use Rattle.std.specs.Option.{option_map_or};
+ghost use Rattle.std.specs.Option.{option_map_or, option_copied};
 ghost use Rattle.collections.specs.ById.{find_id, put_id};
 ghost use Rattle.guild_model.specs.Record.{closed};
 ghost use Rattle.edit_apply.specs.Edits.{state_from};
 ghost use Rattle.session_core.specs.State.{open_replies};
 ghost use Rattle.session_core.specs.Ends.{tick_replies};
-ghost use Rattle.session_core.specs.declared.reply.Reply.TheVariants.{Begin};
-ghost use Rattle.session_core.specs.Frames.{move_of, move_replies, is_spent, none_sent, as_kept};
+ghost use Rattle.session_core.specs.declared.reply.Reply.{Reply as ModelReply};
+ghost use Rattle.session_core.specs.Frames.{Members, Presence, Voice, move_of, move_replies, is_spent, none_sent, as_kept};
 ghost use Rattle.session_core.specs.declared.fault.SessionFault.TheVariants as SessionFault;
 ghost use Rattle.worker_core.specs.World.{Worker as ModelWorker, Look as Looks, Open as Opens, Frame as Frames, Lost, Closed, Tick, Says, first_worker};
 ghost use Rattle.worker_core.specs.Kept.{kept_looked, kept_sends};
 ghost use Rattle.worker_core.specs.Outputs.{input_of, written, all_written};
-ghost use Rattle.worker_core.specs.Spent.{kept_spends};
-ghost use Rattle.worker_core.specs.Telling.{FaultBy, kept_with};
-ghost use Rattle.worker_core.specs.Stands.{Stands, Steps, Fails, Greets, GreetsNot, Replies, RepliesNot, greeted, kept_ready, replica_id, after_open, after_frame, after_lost, after_closed, after_tick, is_plain, plain};
+ghost use Rattle.worker_core.specs.Spent.{is_past, kept_spends};
+ghost use Rattle.worker_core.specs.Telling.{FaultBy, TellsAt, FailsAt, kept_with};
+ghost use Rattle.worker_core.specs.Stands.{Stands, Steps, Fails, Greets, GreetsNot, Replies, RepliesNot, greeted, kept_ready, replica_id, after_open, after_frame, after_lost, after_closed, after_tick, is_of, kept_numbered, kept_answer, Gives, GivesNot, is_plain, plain};
 
 use crate::greet::{greetings, listed};
 use crate::io::{Input, Output, StepFault, put};
 use crate::look::look;
 use crate::replica::Replica;
 use crate::tell::tell;
+use crate::wish::{wish_presence, wish_voice};
 use collections::{ById, Text};
 use dispatch_types::{Dispatch, Ready, Viewer};
 use edit_apply::Edit;
-use gateway_frames::Out;
-use guild_model::{Guild, User};
-use session_core::{Bot, Reply, SessionFault, Sessions, session_id};
+use gateway_frames::{Ask, Out, VoiceAsk};
+use guild_model::{Guild, Status, User};
+use member_chunks::answer;
+use session_core::{Bot, Reply, SessionFault, Sessions, Spent, session_id};
 use snowflake_id::Snowflake;
 use std::alloc::{AllocError, Global};
 use std::marker::Model;
@@ -40,6 +42,8 @@ pub struct Worker {
     finished: Option<StepFault>,
     url: Text,
     clock: u64,
+    /// How many chunks of members were made.
+    chunks: u64,
     replicas: ById<Replica>,
     sessions: Sessions,
 }
@@ -49,7 +53,7 @@ impl Model for Worker {
 
     ghost Value = { KeptWorker };
 
-    ghost view = { λ w. record { finished = w.finished; url = w.url; now = w.clock; replicas = w.replicas; core = w.sessions } };
+    ghost view = { λ w. record { finished = w.finished; url = w.url; now = w.clock; chunks = w.chunks; replicas = w.replicas; core = w.sessions } };
 }
 
 impl Worker {
@@ -75,6 +79,7 @@ impl Worker {
             finished: None,
             url,
             clock: 0,
+            chunks: 0,
             replicas,
             sessions: Sessions::new(alloc, number, bots),
         })
@@ -83,8 +88,8 @@ impl Worker {
     /// What goes out after an input, in order. The entries of a look are those of the guild's log that
     /// follow the ones that this worker has been given; a guild that is not the worker's is passed over.
     ///
-    /// `Spent` comes exactly where memory serves and a count of sessions or of a session's dispatches
-    /// would pass its last value. After an `Err` the worker is finished: each later step answers the same.
+    /// `Spent` comes exactly where memory serves and a count of sessions, of chunks or of a session's
+    /// dispatches would pass its last value. After an `Err` the worker is finished: each later step answers the same.
     pub fn step(&mut self, input: Input) -> Result<Vec<Output>, StepFault>
         ensures steps { (w : ModelWorker) → Stands self.old w → MatchResult result (λ out. Steps w (input_of input) self.new out.items) (Fails w (input_of input)) }
         ensures ended { (fault : StepFault) → result ≡ Err fault → self.new.finished ≡ Some fault }
@@ -232,7 +237,7 @@ impl Worker {
     /// What goes out for the replies of a call, in order.
     fn reply_each(&mut self, replies: Vec<Reply>) -> Result<Vec<Output>, StepFault>
         ensures plain { list_all is_plain replies.items ≡ true → MatchResult result (λ out. (self.new ≡ self.old) × (out.items ≡ flat_map plain replies.items)) (FaultBy false) }
-        ensures begins { (n : ℕ) → replies.items ≡ Begin n ∷ [] → MatchResult result (λ out. Greets self.old n self.new [] out.items) (GreetsNot self.old n) }
+        ensures one { (r : ModelReply) → replies.items ≡ r ∷ [] → MatchResult result (λ out. Replies r self.old self.new [] out.items) (RepliesNot r self.old) }
     {
         let mut out = Vec::new(self.alloc);
         for reply in replies {
@@ -249,6 +254,9 @@ impl Worker {
             Reply::Text(conn, text) => put(out, Output::Send(conn, text))?,
             Reply::Close(conn, code) => put(out, Output::Close(conn, code))?,
             Reply::Begin(session) => self.greet(session, out)?,
+            Reply::Ask(session, ask) => self.answer(session, &ask, out)?,
+            Reply::Presence(session, status) => self.wish_presence(session, status, out)?,
+            Reply::Voice(session, ask) => self.wish_voice(session, &ask, out)?,
         }
         Ok(())
     }
@@ -293,6 +301,137 @@ impl Worker {
             url: self.url.copy(self.alloc)?,
             shard: viewer.shard,
         })
+    }
+}
+
+impl Worker {
+    fn place_of(&self, session: u32) -> Option<usize>
+        ensures { result ≡ position (is_of session) self.now.core.sessions }
+    {
+        self.sessions.place_of(session)
+    }
+
+    fn viewer_at(&self, place: usize) -> Option<&Viewer>
+        ensures { option_copied result ≡ option_map (λ x. x.viewer) (slice_get self.now.core.sessions place) }
+    {
+        self.sessions.viewer_at(place)
+    }
+
+    /// Whom the dispatches of a session are for.
+    fn viewer_of(&self, session: u32) -> Option<&Viewer>
+        ensures { option_copied result ≡ option_map (λ x. x.viewer) (kept_numbered self.now session) }
+    {
+        match self.place_of(session) {
+            Some(place) => self.viewer_at(place),
+            None => None,
+        }
+    }
+
+    fn replicas(&self) -> &[Replica]
+        ensures { result.now ≡ self.now.replicas }
+    {
+        self.replicas.as_slice()
+    }
+
+    fn replica(&self, guild: Snowflake) -> Option<&Replica>
+        ensures { option_copied result ≡ find_id replica_id guild self.now.replicas }
+    {
+        self.replicas.get(guild.0)
+    }
+
+    /// The wishes of a session's client for its bot's status.
+    fn wish_presence(
+        &self,
+        session: u32,
+        status: Status,
+        out: &mut Vec<Output>,
+    ) -> Result<(), AllocError>
+        ensures { OnOk result (Gives self.now session (Presence status) self.now out.old.items out.new.items) }
+    {
+        match self.viewer_of(session) {
+            Some(viewer) => wish_presence(self.replicas(), viewer, status, out),
+            None => Ok(()),
+        }
+    }
+
+    /// The wish of a session's client for its bot's voice channel.
+    fn wish_voice(
+        &self,
+        session: u32,
+        ask: &VoiceAsk,
+        out: &mut Vec<Output>,
+    ) -> Result<(), AllocError>
+        ensures { OnOk result (Gives self.now session (Voice ask.now) self.now out.old.items out.new.items) }
+    {
+        match (self.viewer_of(session), self.replica(ask.guild)) {
+            (Some(viewer), Some(replica)) => wish_voice(replica, viewer, ask, out),
+            _ => Ok(()),
+        }
+    }
+
+    /// The chunks that answer a question of a session's client (Gateway Events, Request Guild Members).
+    fn answer(&mut self, session: u32, ask: &Ask, out: &mut Vec<Output>) -> Result<(), StepFault>
+        ensures { MatchResult result (λ _. Gives self.old session (Members ask.now) self.new out.old.items out.new.items) (GivesNot self.old session (Members ask.now)) }
+    {
+        match self.place_of(session) {
+            Some(place) => self.answer_at(session, place, ask, out),
+            None => Ok(()),
+        }
+    }
+
+    /// The same for the session of a number at a place.
+    fn answer_at(
+        &mut self,
+        session: u32,
+        place: usize,
+        ask: &Ask,
+        out: &mut Vec<Output>,
+    ) -> Result<(), StepFault>
+        requires { position (is_of session) self.old.core.sessions ≡ Some place }
+        ensures { MatchResult result (λ _. Gives self.old session (Members ask.now) self.new out.old.items out.new.items) (GivesNot self.old session (Members ask.now)) }
+    {
+        let chunks = self.chunks_at(place, ask)?;
+        self.count_chunks(chunks.len())?;
+        self.tell_at(place, chunks.as_slice(), out)
+    }
+
+    fn chunks_at(&self, place: usize, ask: &Ask) -> Result<Vec<Dispatch>, AllocError>
+        ensures { IfOk result (λ list. option_map_or (kept_answer self.now ask.now) (slice_get self.now.core.sessions place) [] ≡ list.items) }
+    {
+        let (Some(viewer), Some(replica)) = (
+            self.sessions.viewer_at(place),
+            self.replicas.get(ask.guild.0),
+        ) else {
+            return Ok(Vec::new(self.alloc));
+        };
+        answer(self.alloc, &replica.guild, viewer, ask)
+    }
+
+    /// Counts chunks that are made.
+    fn count_chunks(&mut self, more: usize) -> Result<(), Spent>
+        ensures ok { OnOk result (self.new ≡ record self.old { chunks = self.old.chunks + more }) }
+        ensures counted { OnOk result (is_past self.old.chunks more ≡ false) }
+        ensures spent { OnErr result (is_past self.old.chunks more ≡ true) }
+    {
+        let Some(chunks) = self.chunks.checked_add(more as u64) else {
+            return Err(Spent);
+        };
+        self.chunks = chunks;
+        Ok(())
+    }
+
+    /// Dispatches for the session at a place.
+    fn tell_at(
+        &mut self,
+        place: usize,
+        dispatches: &[Dispatch],
+        out: &mut Vec<Output>,
+    ) -> Result<(), StepFault>
+        requires { place < length self.old.core.sessions }
+        ensures core { OnOk result (self.new ≡ record self.old { core = self.new.core }) }
+        ensures told { MatchResult result (λ _. TellsAt place (λ x. dispatches.now) self.old.core self.new.core out.old.items out.new.items) (FailsAt place (λ x. dispatches.now) self.old.core) }
+    {
+        tell(self.alloc, &mut self.sessions, place, dispatches, out)
     }
 }
 

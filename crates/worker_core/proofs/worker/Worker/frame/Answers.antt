@@ -18,4 +18,4 @@ pub returns : goal.returns
 returns c w stands =
     frame_ends c.args.self.now c.args.conn w stands c.args.text.now
     (λ (out : Vec Output Global). out.items) c.reply_each.result c.frame_session.new.self c.reply_each.new.self c.in_ok-replies.replies.items c.in_ok-replies.ensures.replies
-    c.in_ok-replies.ensures.moved c.in_ok-replies.ensures.counted c.reply_each.ensures.plain c.reply_each.ensures.begins
+    c.in_ok-replies.ensures.moved c.in_ok-replies.ensures.counted c.reply_each.ensures.plain c.reply_each.ensures.one

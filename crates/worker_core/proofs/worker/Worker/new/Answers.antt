@@ -13,6 +13,7 @@ returns c = record {
   goes_on = refl;
   url = refl;
   now = refl;
+  chunks = refl;
   guilds = ids_ascend c.args.guilds.now;
   replicas =
       let done : drop c.loop-id.id-index c.args.guilds.now ≡ [] = no_more c.args.guilds.now c.loop-id.id-index (omega arith) in
