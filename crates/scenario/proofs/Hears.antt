@@ -1,6 +1,5 @@
 -- One line, as it is read and played.
 use Rattle.std.proofs.Common.{◌≡◌, ◌⊎◌, ℕ, List, [], ◌++◌, false, Option, Some, None, Result, Ok, Err, OnOk, if◌then◌else◌, inl, inr, refl, sym, ap, ◌∙◌, subst}
-use Rattle.std.specs.Prelude.{flat_map}
 use Rattle.std.specs.declared.option.Option.{Option as Known}
 use Rattle.std.specs.Io.KnownBytes.{Appends}
 use Rattle.std.proofs.KnownBytes.{Appends-nil}
@@ -14,13 +13,12 @@ use Rattle.edit_text.specs.Fault.{UnlessMemory}
 use Rattle.edit_text.specs.Lines.{line_of, reader_after}
 use Rattle.worker_core.specs.declared.io.StepFault.{StepFault}
 use Rattle.worker_core.specs.declared.io.StepFault.TheVariants as step
-use Rattle.worker_core.specs.Outputs.{all_written}
 use Rattle.scenario.specs.declared.fault.PlayFault.{PlayFault}
 use Rattle.scenario.specs.declared.stage.Stage.{Stage}
 use Rattle.scenario.specs.declared.stage.Answer.{Answer}
-use Rattle.scenario.specs.Player.{Player, world, step_of, step_sends, played}
-use Rattle.scenario.specs.Texts.{refused_text, written_line}
-use Rattle.scenario.specs.Transcript.{Ending, Whole, Spends, line_refusal, line_text, line_spends, line_ending, read_text, read_ending, after_read, heard_text, heard_ending}
+use Rattle.scenario.specs.Player.{Player, with_line, line_sends, played}
+use Rattle.scenario.specs.Texts.{refused_text}
+use Rattle.scenario.specs.Transcript.{outputs_text, Ending, Whole, Spends, line_refusal, line_text, line_spends, line_ending, read_text, read_ending, after_read, heard_text, heard_ending}
 use Rattle.scenario.specs.Stands.{Stands, PlaysNot}
 use Rattle.scenario.specs.Played.{fault_of, step_fault, AppendsFront, answer_text, Ends, Hears}
 use Rattle.scenario.proofs.Fronts.{no_front}
@@ -45,9 +43,9 @@ pub write_ends : (fault : Fault) (got0 got1 : Known (List ℕ)) (text : List ℕ
 write_ends outside.Failed got0 got1 text end h = h
 write_ends outside.Memory got0 got1 text end h = h
 
-pub text_is : (p : Player) (number : ℕ) (line : Line) (a : Answer) → a.refusal ≡ line_refusal p line → a.outputs.items ≡ all_written (step_sends (world p) (step_of p line)) → answer_text number a ≡ line_text p number line
+pub text_is : (p : Player) (number : ℕ) (line : Line) (a : Answer) → a.refusal ≡ line_refusal p line → a.outputs.items ≡ line_sends p line → answer_text (with_line p line) number a ≡ line_text p number line
 text_is p number line a refusal outputs =
-    ap (λ r. refused_text number r ++ flat_map written_line a.outputs.items) refusal ∙ ap (λ os. refused_text number (line_refusal p line) ++ flat_map written_line os) outputs
+    ap (λ r. refused_text number r ++ outputs_text (with_line p line) number a.outputs.items) refusal ∙ ap (λ os. refused_text number (line_refusal p line) ++ outputs_text (with_line p line) number os) outputs
 
 -- ---- a line that is heard
 

@@ -12,8 +12,8 @@ use Rattle.dispatch_types.specs.declared.viewer.Viewer.{Viewer}
 use Rattle.session_core.specs.declared.bot.Bot.{Bot}
 use Rattle.session_core.specs.State.{State, Session, Detached, opened, has_link, with_link, gone}
 use Rattle.session_core.specs.Ends.{is_final, silent_of, lost, all_gone, left, client_closed}
-use Rattle.session_core.specs.Frames.{Move, Nothing, Answers, Shuts, Begins, Denies, Resumes, framed as after_move, move_of}
-use Rattle.worker_core.specs.World.{Worker, Input, Look, Open, Frame, Lost, Closed, Tick, cursors, ended_at, taken, outputs, looked, entered, Sent, replay, begins_with}
+use Rattle.session_core.specs.Frames.{Want, Members, Presence, Voice, Move, Nothing, Answers, Shuts, Begins, Denies, Resumes, Wants, framed as with_frame, move_of}
+use Rattle.worker_core.specs.World.{Worker, Input, Look, Open, Frame, Lost, Closed, Tick, cursors, ended_at, taken, outputs, looked, entered, Sent, replay, begins_with, after_want, after_move}
 use Rattle.worker_core.specs.Spent.{spends}
 use Rattle.worker_core.specs.Outputs.{all_written}
 use Rattle.worker_core.specs.Telling.{FaultBy}
@@ -134,7 +134,7 @@ opened_number conn now s = by_tests (has_link conn s) (nat_lt (length s.links) 6
     by_tests false true = refl
     by_tests false false = refl
 
-moved_number : (conn now : ℕ) (sent : Bot → Viewer → ℕ → Sent) (move : Move) (s : State Sent) → (after_move conn now sent move s).worker ≡ s.worker
+moved_number : (conn now : ℕ) (sent : Bot → Viewer → ℕ → Sent) (move : Move) (s : State Sent) → (with_frame conn now sent move s).worker ≡ s.worker
 moved_number conn now sent Nothing s = refl
 moved_number conn now sent Answers s = refl
 moved_number conn now sent (Shuts code) s = refl
@@ -142,6 +142,36 @@ moved_number conn now sent (Begins bot viewer) s = refl
 moved_number conn now sent Denies s = refl
 moved_number conn now sent (Resumes number None seq held) s = refl
 moved_number conn now sent (Resumes number (Some older) seq held) s = refl
+moved_number conn now sent (Wants number want) s = refl
+
+-- a worker that differs in no more than its chunks and what its sessions were sent
+record Alike (w v : Worker) : Type 0 where
+  pub number : v.core.worker ≡ w.core.worker
+  pub guilds : v.guilds ≡ w.guilds
+  pub seen : (g : ℕ) → v.seen g ≡ w.seen g
+
+itself : (w : Worker) → Alike w w
+itself w = record { number = refl; guilds = refl; seen = λ g. refl }
+
+after_want_alike : (want : Want) (number : ℕ) (w : Worker) → Alike w (after_want number want w)
+after_want_alike (Members ask) number w = record { number = refl; guilds = refl; seen = λ g. refl }
+after_want_alike (Presence status) number w = itself w
+after_want_alike (Voice ask) number w = itself w
+
+after_move_alike : (move : Move) (w : Worker) → Alike w (after_move move w)
+after_move_alike Nothing w = itself w
+after_move_alike Answers w = itself w
+after_move_alike (Shuts code) w = itself w
+after_move_alike (Begins bot viewer) w = itself w
+after_move_alike Denies w = itself w
+after_move_alike (Resumes number older seq held) w = itself w
+after_move_alike (Wants number want) w = after_want_alike want number w
+
+-- what a frame does, and what its session's client wants
+framed_alike : (conn : ℕ) (text : List ℕ) (w : Worker) → Alike (record w { core = with_frame conn w.now (begins_with w) (move_of replay w.core w.now conn text) w.core }) (taken w (Frame conn text))
+framed_alike conn text w =
+    let move : Move = move_of replay w.core w.now conn text in
+    after_move_alike move (record w { core = with_frame conn w.now (begins_with w) move w.core })
 
 all_gone_number : (conns : List ℕ) (now : ℕ) (s : State Sent) → (all_gone conns now s).worker ≡ s.worker
 all_gone_number [] now s = refl
@@ -165,7 +195,7 @@ closed_number ended conn code now s = by_code (is_final code) (has_link conn s)
 taken_number : (i : Input) (w : Worker) → is_look i ≡ false → (taken w i).core.worker ≡ w.core.worker
 taken_number (Look g es) w calm = absurd (cc calm)
 taken_number (Open conn) w calm = opened_number conn w.now w.core
-taken_number (Frame conn text) w calm = moved_number conn w.now (begins_with w) (move_of replay w.core w.now conn text) w.core
+taken_number (Frame conn text) w calm = (framed_alike conn text w).number ∙ moved_number conn w.now (begins_with w) (move_of replay w.core w.now conn text) w.core
 taken_number (Lost conn) w calm = lost_number conn w.now w.core
 taken_number (Closed conn code) w calm = closed_number (ended_at (cursors w.seen)) conn code w.now w.core
 taken_number (Tick now) w calm = all_gone_number (silent_of (max w.now now) w.core.links) (max w.now now) w.core
@@ -173,7 +203,7 @@ taken_number (Tick now) w calm = all_gone_number (silent_of (max w.now now) w.co
 taken_guilds : (i : Input) (w : Worker) → is_look i ≡ false → (taken w i).guilds ≡ w.guilds
 taken_guilds (Look g es) w calm = absurd (cc calm)
 taken_guilds (Open conn) w calm = refl
-taken_guilds (Frame conn text) w calm = refl
+taken_guilds (Frame conn text) w calm = (framed_alike conn text w).guilds
 taken_guilds (Lost conn) w calm = refl
 taken_guilds (Closed conn code) w calm = refl
 taken_guilds (Tick now) w calm = refl
@@ -181,7 +211,7 @@ taken_guilds (Tick now) w calm = refl
 taken_seen : (i : Input) (w : Worker) → is_look i ≡ false → (g : ℕ) → (taken w i).seen g ≡ w.seen g
 taken_seen (Look g es) w calm h = absurd (cc calm)
 taken_seen (Open conn) w calm h = refl
-taken_seen (Frame conn text) w calm h = refl
+taken_seen (Frame conn text) w calm h = (framed_alike conn text w).seen h
 taken_seen (Lost conn) w calm h = refl
 taken_seen (Closed conn code) w calm h = refl
 taken_seen (Tick now) w calm h = refl

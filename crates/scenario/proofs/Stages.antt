@@ -27,7 +27,7 @@ use Rattle.scenario.specs.declared.guild_log.GuildLog.{GuildLog}
 use Rattle.scenario.specs.declared.opened.Opened.{Opened}
 use Rattle.scenario.specs.declared.seat.Seat.{Seat}
 use Rattle.scenario.specs.declared.stage.Stage.{Stage}
-use Rattle.scenario.specs.Player.{Player, places, world, given, for_worker, step_of, with_step, played, noted, opened_id, enters, log, step_sends, step_spends}
+use Rattle.scenario.specs.Player.{Player, places, world, given, for_worker, step_of, with_step, with_line, noted, opened_id, enters, log, step_sends, step_spends}
 use Rattle.scenario.specs.Stands.{log_id, log_with, log_of, away, AllSit, guilds_of, SeatedOnceStepped, IsFull, Keeps, Stands, all_moved, all_sends, any_spends, SeatsStep, SeatsFail, Plays, PlaysNot, Gives}
 use Rattle.scenario.proofs.Seats.{by_result}
 use Rattle.scenario.proofs.Worlds.{stepped_workers, world_step, edit_sends, edit_spends}
@@ -121,7 +121,7 @@ stands_after new p s keeps full sit same =
 pub plays_step : (p q : Player) (line : Line) (s : Step) (new : Stage) (out : List Written) → step_of p line ≡ Some s → noted p line ≡ q → Stands new (with_step (Some s) q)
     → out ≡ all_written (all_sends (given (world p) s) (world p).workers) → any_spends (given (world p) s) (world p).workers ≡ false → Plays p line new out
 plays_step p q line s new out step note stands sends spent =
-    let is : played p line ≡ with_step (Some s) q = ap (λ o. with_step o (noted p line)) step ∙ ap (with_step (Some s)) note in (
+    let is : with_line p line ≡ with_step (Some s) q = ap (λ o. with_step o (noted p line)) step ∙ ap (with_step (Some s)) note in (
       subst (λ (r : Player). Stands new r) (sym is) stands,
       (sends ∙ ap (λ o. all_written (step_sends (world p) o)) (sym step), ap (λ o. step_spends (world p) o) step ∙ spent),
     )
@@ -132,7 +132,7 @@ fails_step p line s fault step fails = subst (λ b. FaultBy b fault) (ap (λ o. 
 -- what a line that is no step leaves
 pub plays_nothing : (p q : Player) (line : Line) (new : Stage) (out : List Written) → step_of p line ≡ None → noted p line ≡ q → Stands new q → out ≡ [] → Plays p line new out
 plays_nothing p q line new out step note stands none =
-    let is : played p line ≡ q = ap (λ o. with_step o (noted p line)) step ∙ note in (
+    let is : with_line p line ≡ q = ap (λ o. with_step o (noted p line)) step ∙ note in (
       subst (λ (r : Player). Stands new r) (sym is) stands,
       (none ∙ ap (λ o. all_written (step_sends (world p) o)) (sym step), ap (λ o. step_spends (world p) o) step),
     )

@@ -1,5 +1,5 @@
 -- What playing leaves in a source and a sink.
-use Rattle.std.specs.Prelude.{◌≡◌, ℕ, ◌≤◌, ◌-◌, ◌*◌, List, [], ◌++◌, length, flat_map, Result, Ok, Err}
+use Rattle.std.specs.Prelude.{◌≡◌, ℕ, ◌≤◌, ◌-◌, ◌*◌, List, [], ◌++◌, length, Result, Ok, Err}
 use Rattle.std.specs.declared.option.Option.{Option}
 use Rattle.std.specs.declared.option.Option.TheVariants.{Some}
 use Rattle.std.specs.Io.KnownBytes.{Appends, Consumes, IsAtEnd}
@@ -16,8 +16,8 @@ use Rattle.scenario.specs.declared.stage.Answer.{Answer}
 use Rattle.scenario.specs.declared.player.Play.{Play}
 use Rattle.scenario.specs.Lines.{whole_lines, tail}
 use Rattle.scenario.specs.Player.{Player}
-use Rattle.scenario.specs.Texts.{written_line, refused_text}
-use Rattle.scenario.specs.Transcript.{Ending, Whole, Stops, Spends, heard, heard_text, heard_ending, text_of, ending_of, reader_of, player_of, transcript, ending}
+use Rattle.scenario.specs.Texts.{refused_text}
+use Rattle.scenario.specs.Transcript.{outputs_text, Ending, Whole, Stops, Spends, heard, heard_text, heard_ending, text_of, ending_of, reader_of, player_of, transcript, ending}
 use Rattle.scenario.specs.Stands.{Stands}
 
 -- ---- the faults of the crates below, as faults of a play
@@ -47,8 +47,9 @@ WriteCause before now (Err Memory) = now ≡ before
 
 -- ---- one line
 
-abbrev pub answer_text : ℕ → Answer → List ℕ
-answer_text number a = refused_text number a.refusal ++ flat_map written_line a.outputs.items
+-- what comes of a line of this number, for a player after its step
+abbrev pub answer_text : Player → ℕ → Answer → List ℕ
+answer_text p number a = refused_text number a.refusal ++ outputs_text p number a.outputs.items
 
 -- how a text of this ending was left: with the fault of a line whole, else a front of it
 abbrev pub Ends : (got0 got1 : Option (List ℕ)) → List ℕ → Ending → PlayFault → Type 0

@@ -1,4 +1,5 @@
--- What the lines of a step file make of the server: at most one step of the world a line.
+-- What the lines of a step file make of the server: at most one step of the world a line, and an edit for
+-- each wish that goes out.
 use Rattle.std.specs.Prelude.{ℕ, ◌==◌, ◌&&◌, List, [], ◌∷◌, ◌++◌, length, drop, flat_map, Bool, false, not, nat_lt, Option, Some, None, option_map, if◌then◌else◌, decimal, codes}
 use Rattle.std.specs.List.{list_any}
 use Rattle.std.specs.Str.{bytes_eq}
@@ -12,6 +13,9 @@ use Rattle.edit_apply.specs.declared.Edit.{Edit as GuildEdit}
 use Rattle.edit_text.specs.declared.line.Line.{Line}
 use Rattle.edit_text.specs.declared.line.Line.TheVariants.{Bot, Guild, Edit, Look, Open, Frame, Lost, Closed, Tick}
 use Rattle.session_core.specs.declared.bot.Bot.{Bot as KnownBot}
+use Rattle.worker_core.specs.declared.io.Output.{Output as Written}
+use Rattle.worker_core.specs.declared.io.Output.TheVariants.{Send, Close, Wish}
+use Rattle.worker_core.specs.Outputs.{all_written}
 use Rattle.worker_core.specs.World.{Worker, World, Step, Edits, Looks, Opens, Frames, Loses, Leaves, Ticks, run, Input, outputs, Output}
 use Rattle.worker_core.specs.World.{Look as Looking, Open as Opening, Frame as Framing, Lost as Losing, Closed as Leaving, Tick as Ticking}
 use Rattle.worker_core.specs.Law.{first_world}
@@ -45,7 +49,7 @@ world p = run (first_world p.bots p.guilds places) p.steps
 abbrev pub log : Player → ℕ → List GuildEdit
 log p g = (world p).logs g
 
--- ---- the step of a line
+-- ---- edits
 
 -- an edit of a guild without a head line, and one that finds a log of 16,384 entries, enter no log
 abbrev pub turned_away : Player → ℕ → List (Option Verdict)
@@ -58,6 +62,19 @@ refusal p g e = first_of (turned_away p g ++ verdict (state g (log p g)) e ∷ [
 abbrev pub enters : Player → ℕ → Bool
 enters p g = contains g p.guilds && nat_lt (length (log p g)) 16384
 
+abbrev pub edit_step : Player → ℕ → GuildEdit → Option Step
+edit_step p g e = if enters p g then Some (Edits g e) else None
+
+abbrev pub with_step : Option Step → Player → Player
+with_step None p = p
+with_step (Some s) p = record p { steps = p.steps ++ s ∷ [] }
+
+-- the player after an edit
+abbrev pub edited : Player → ℕ → GuildEdit → Player
+edited p g e = with_step (edit_step p g e) p
+
+-- ---- the step of a line
+
 abbrev pub opened_id : Opened → ℕ
 opened_id o = o.number
 
@@ -69,17 +86,13 @@ on_worker step conn p = option_map (λ (o : Opened). step o.worker) (find_id ope
 abbrev pub step_of : Player → Line → Option Step
 step_of p (Bot token user name privileged) = None
 step_of p (Guild id) = None
-step_of p (Edit guild edit) = if enters p guild then Some (Edits guild edit) else None
+step_of p (Edit guild edit) = edit_step p guild edit
 step_of p (Look worker guild) = if contains guild p.guilds then Some (Looks worker guild) else None
 step_of p (Open worker conn) = if has_id opened_id conn p.used then None else Some (Opens worker conn)
 step_of p (Frame conn text) = on_worker (λ worker. Frames worker conn text) conn p
 step_of p (Lost conn) = on_worker (λ worker. Loses worker conn) conn p
 step_of p (Closed conn code) = on_worker (λ worker. Leaves worker conn code) conn p
 step_of p (Tick worker now) = Some (Ticks worker now)
-
-abbrev pub with_step : Option Step → Player → Player
-with_step None p = p
-with_step (Some s) p = record p { steps = p.steps ++ s ∷ [] }
 
 -- ---- what else a line leaves
 
@@ -110,9 +123,9 @@ noted p (Lost conn) = p
 noted p (Closed conn code) = p
 noted p (Tick worker now) = p
 
--- the player after a line
-abbrev pub played : Player → Line → Player
-played p line = with_step (step_of p line) (noted p line)
+-- the player after the step of a line
+abbrev pub with_line : Player → Line → Player
+with_line p line = with_step (step_of p line) (noted p line)
 
 -- ---- what a step gives to the workers
 
@@ -145,3 +158,22 @@ step_sends m (Some s) = flat_map (λ w. given_sends w (given m s w)) m.workers
 abbrev pub step_spends : World → Option Step → Bool
 step_spends m None = false
 step_spends m (Some s) = list_any (λ w. given_spends w (given m s w)) m.workers
+
+-- ---- what goes out
+
+abbrev pub line_sends : Player → Line → List Written
+line_sends p line = all_written (step_sends (world p) (step_of p line))
+
+-- a wish is at once an edit of its guild
+abbrev pub follow : Player → Written → Player
+follow p (Send conn text) = p
+follow p (Close conn code) = p
+follow p (Wish guild edit) = edited p guild edit
+
+abbrev pub followed : Player → List Written → Player
+followed p [] = p
+followed p (o ∷ os) = followed (follow p o) os
+
+-- the player after a line: after its step, and the edits of all wishes that go out
+abbrev pub played : Player → Line → Player
+played p line = followed (with_line p line) (line_sends p line)

@@ -21,7 +21,7 @@ use Rattle.scenario.specs.declared.guild_log.GuildLog.{GuildLog}
 use Rattle.scenario.specs.declared.seat.Cursor.{Cursor}
 use Rattle.scenario.specs.declared.seat.Seat.{Seat}
 use Rattle.scenario.specs.declared.stage.Stage.{Stage}
-use Rattle.scenario.specs.Player.{Player, world, step_of, noted, played, given, for_worker, step_sends, step_spends, given_sends, given_spends}
+use Rattle.scenario.specs.Player.{Player, world, step_of, noted, with_line, line_sends, given, for_worker, step_spends, given_sends, given_spends}
 
 abbrev pub log_id : GuildLog → ℕ
 log_id l = l.guild.id
@@ -126,9 +126,9 @@ SeatsStep guilds f ws new out = AllSit guilds 0 new (all_moved f ws) × ((out �
 abbrev pub SeatsFail : (Worker → Option Input) → List Worker → StepFault → Type 0
 SeatsFail f ws fault = FaultBy (any_spends f ws) fault
 
--- what a line leaves, and what goes out
+-- what the step of a line leaves, and what goes out
 abbrev pub Plays : Player → Line → Stage → List Written → Type 0
-Plays p line new out = Stands new (played p line) × ((out ≡ all_written (step_sends (world p) (step_of p line))) × (step_spends (world p) (step_of p line) ≡ false))
+Plays p line new out = Stands new (with_line p line) × ((out ≡ line_sends p line) × (step_spends (world p) (step_of p line) ≡ false))
 
 -- a line that gives one worker an input, and leaves all else
 pub record Gives (p : Player) (line : Line) (worker : ℕ) (i : Input) : Type 0 where

@@ -1,22 +1,20 @@
 -- The lines of a transcript.
-use Rattle.std.specs.Prelude.{ℕ, List, [], ◌∷◌, ◌++◌, flat_map, Option, Some, None, decimal, codes}
+use Rattle.std.specs.Prelude.{ℕ, List, [], ◌∷◌, ◌++◌, Option, Some, None, decimal, codes}
 use Rattle.guild_model.specs.declared.verdict.Verdict.{Verdict}
 use Rattle.guild_model.specs.declared.verdict.Verdict.TheVariants as verdict
 use Rattle.guild_model.specs.Verdict.{verdict_number, verdict_name}
 use Rattle.edit_text.specs.declared.fault.LineFault.{LineFault}
 use Rattle.edit_text.specs.declared.fault.LineFault.TheVariants as fault
-use Rattle.worker_core.specs.World.{Output}
-use Rattle.worker_core.specs.declared.io.Output.{Output as Written}
-use Rattle.worker_core.specs.declared.io.Output.TheVariants.{Send, Close}
-use Rattle.worker_core.specs.Outputs.{all_written}
+use Rattle.edit_text.specs.Names.{name_text}
+use Rattle.edit_text.specs.Edits.{edit_name}
+use Rattle.worker_core.specs.declared.io.Output.{Output}
+use Rattle.worker_core.specs.declared.io.Output.TheVariants.{Send, Close, Wish}
 
 -- what goes out
-abbrev pub written_line : Written → List ℕ
+abbrev pub written_line : Output → List ℕ
 written_line (Send conn text) = codes "send " ++ (decimal conn ++ (32 ∷ (text ++ 10 ∷ [])))
 written_line (Close conn code) = codes "close " ++ (decimal conn ++ (32 ∷ (decimal code ++ 10 ∷ [])))
-
-abbrev pub sends_text : List Output → List ℕ
-sends_text outputs = flat_map written_line (all_written outputs)
+written_line (Wish guild edit) = codes "wish " ++ (decimal guild ++ (32 ∷ (name_text (edit_name edit) ++ 10 ∷ [])))
 
 -- the limit of a verdict that has one
 abbrev pub limit_text : Verdict → List ℕ

@@ -7,12 +7,27 @@ use Rattle.edit_text.specs.declared.line.Line.{Line}
 use Rattle.edit_text.specs.declared.line.Line.TheVariants.{Bot, Guild, Edit, Look, Open, Frame, Lost, Closed, Tick}
 use Rattle.edit_text.specs.declared.reader.StepReader.{StepReader}
 use Rattle.edit_text.specs.Lines.{line_of, reader_after}
+use Rattle.worker_core.specs.declared.io.Output.{Output}
+use Rattle.worker_core.specs.declared.io.Output.TheVariants.{Send, Close, Wish}
 use Rattle.scenario.specs.Lines.{lines_of}
-use Rattle.scenario.specs.Player.{Player, first_player, world, refusal, step_of, played, step_sends, step_spends}
-use Rattle.scenario.specs.Texts.{sends_text, refused_text, stop_line}
+use Rattle.scenario.specs.Player.{Player, first_player, world, refusal, step_of, with_line, line_sends, follow, played, step_spends}
+use Rattle.scenario.specs.Texts.{written_line, refused_text, stop_line}
 
 abbrev pub first_reader : StepReader
 first_reader = record { kind = Run; lines = 0; stepped = false; guilds = [] }
+
+-- ---- what goes out
+
+-- why the edit of a wish is refused, if it is one that is
+abbrev pub wish_refusal : Player → Output → Option Verdict
+wish_refusal p (Send conn text) = None
+wish_refusal p (Close conn code) = None
+wish_refusal p (Wish guild edit) = refusal p guild edit
+
+-- what goes out after a line of this number, each wish followed at once by its edit
+abbrev pub outputs_text : Player → ℕ → List Output → List ℕ
+outputs_text p number [] = []
+outputs_text p number (o ∷ os) = written_line o ++ (refused_text number (wish_refusal p o) ++ outputs_text (follow p o) number os)
 
 -- ---- one line
 
@@ -29,7 +44,7 @@ line_refusal p (Closed conn code) = None
 line_refusal p (Tick worker now) = None
 
 abbrev pub line_text : Player → ℕ → Line → List ℕ
-line_text p number line = refused_text number (line_refusal p line) ++ sends_text (step_sends (world p) (step_of p line))
+line_text p number line = refused_text number (line_refusal p line) ++ outputs_text (with_line p line) number (line_sends p line)
 
 abbrev pub line_spends : Player → Line → Bool
 line_spends p line = step_spends (world p) (step_of p line)

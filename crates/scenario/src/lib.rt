@@ -1,6 +1,7 @@
 //! Step files played on four workers, from a source of bytes to a sink of bytes.
 #![tactic(auto)]
 
+mod edit_names;
 mod fault;
 mod guild_log;
 mod opened;
@@ -9,6 +10,7 @@ mod playing;
 mod seat;
 mod stage;
 mod texts;
+mod writing;
 
 pub use fault::PlayFault;
 pub use playing::play;

@@ -1,24 +1,19 @@
 //! Bytes of a step file, played as they come.
-ghost use Rattle.std.specs.Prelude.{◌≡◌, ◌<◌, ◌≤◌, ◌+◌, ◌++◌, ◌∷◌, [], ℕ, List, false, length, flat_map, MatchResult, OnOk, OnErr};
+ghost use Rattle.std.specs.Prelude.{◌≡◌, ◌<◌, ◌≤◌, ◌+◌, ◌++◌, ◌∷◌, [], ℕ, List, false, length, MatchResult, OnOk};
 ghost use Rattle.std.specs.declared.option.Option.{Option};
 ghost use Rattle.std.specs.Io.KnownBytes.{Appends};
-ghost use Rattle.gate_outside.specs.Causes.{FaultHasCause};
 ghost use Rattle.edit_text.specs.Lines.{reader_after};
 ghost use Rattle.scenario.specs.Player.{Player, played};
-ghost use Rattle.scenario.specs.Texts.{refused_text, refused_line, written_line, stop_line};
 ghost use Rattle.scenario.specs.Transcript.{line_text, line_spends, line_ending, heard_text, heard_ending, transcript, ending, Whole};
 ghost use Rattle.scenario.specs.Stands.{Stands};
-ghost use Rattle.scenario.specs.Played.{AppendsFront, WriteCause, answer_text, Ends, Hears, Playing, StopsAt, Anything, Nothing, Fits, room};
+ghost use Rattle.scenario.specs.Played.{WriteCause, Ends, Hears, Playing, StopsAt, Anything, Nothing, Fits, room};
 
 use crate::fault::PlayFault;
-use crate::stage::{Answer, Stage};
-use crate::texts;
+use crate::stage::Stage;
+use crate::writing::{write_answer, write_stop};
 use edit_text::{FileKind, Line, LineFault, MAX_LINE_BYTES, StepReader};
-use gate_outside::faults::Fault;
-use gate_outside::streams::{Sink, write_all};
-use guild_model::Verdict;
+use gate_outside::streams::Sink;
 use std::alloc::Global;
-use worker_core::Output;
 
 /// A reader of lines, the line that has begun, and what the lines are played on.
 #[derive(Drop)]
@@ -27,93 +22,6 @@ pub struct Play {
     reader: StepReader,
     part: Vec<u8>,
     stage: Stage,
-}
-
-// Writes one line as one piece.
-fn write_text<K: Sink>(sink: &mut K, text: &str) -> Result<(), Fault>
-    ensures ok { OnOk result (Appends (K.got sink.old) (K.got sink.new) text.now) }
-    ensures err { OnErr result (AppendsFront (K.got sink.old) (K.got sink.new) text.now) }
-    ensures cause { FaultHasCause (K.faults sink.old) (K.faults sink.new) result }
-{
-    write_all(sink, text.as_bytes())
-}
-
-fn write_verdict<K: Sink>(
-    alloc: Global,
-    sink: &mut K,
-    line: u64,
-    verdict: Verdict,
-) -> Result<(), Fault>
-    ensures ok { OnOk result (Appends (K.got sink.old) (K.got sink.new) (refused_line line verdict)) }
-    ensures err { OnErr result (AppendsFront (K.got sink.old) (K.got sink.new) (refused_line line verdict)) }
-    ensures cause { FaultHasCause (K.faults sink.old) (K.faults sink.new) result }
-{
-    let text = texts::refused_text(alloc, line, verdict)?;
-    write_text(sink, text.as_str())
-}
-
-fn write_refusal<K: Sink>(
-    alloc: Global,
-    sink: &mut K,
-    line: u64,
-    refusal: Option<Verdict>,
-) -> Result<(), Fault>
-    ensures ok { OnOk result (Appends (K.got sink.old) (K.got sink.new) (refused_text line refusal)) }
-    ensures err { OnErr result (AppendsFront (K.got sink.old) (K.got sink.new) (refused_text line refusal)) }
-    ensures cause { FaultHasCause (K.faults sink.old) (K.faults sink.new) result }
-{
-    match refusal {
-        None => Ok(()),
-        Some(verdict) => write_verdict(alloc, sink, line, verdict),
-    }
-}
-
-fn write_output<K: Sink>(alloc: Global, sink: &mut K, output: &Output) -> Result<(), Fault>
-    ensures ok { OnOk result (Appends (K.got sink.old) (K.got sink.new) (written_line output.now)) }
-    ensures err { OnErr result (AppendsFront (K.got sink.old) (K.got sink.new) (written_line output.now)) }
-    ensures cause { FaultHasCause (K.faults sink.old) (K.faults sink.new) result }
-{
-    let text = texts::output_text(alloc, output)?;
-    write_text(sink, text.as_str())
-}
-
-fn write_outputs<K: Sink>(alloc: Global, sink: &mut K, outputs: &[Output]) -> Result<(), Fault>
-    ensures ok { OnOk result (Appends (K.got sink.old) (K.got sink.new) (flat_map written_line outputs.now)) }
-    ensures err { OnErr result (AppendsFront (K.got sink.old) (K.got sink.new) (flat_map written_line outputs.now)) }
-    ensures cause { FaultHasCause (K.faults sink.old) (K.faults sink.new) result }
-{
-    for output in outputs {
-        write_output(alloc, sink, output)?;
-    }
-    Ok(())
-}
-
-fn write_answer<K: Sink>(
-    alloc: Global,
-    sink: &mut K,
-    line: u64,
-    answer: &Answer,
-) -> Result<(), Fault>
-    ensures ok { OnOk result (Appends (K.got sink.old) (K.got sink.new) (answer_text line answer.now)) }
-    ensures err { OnErr result (AppendsFront (K.got sink.old) (K.got sink.new) (answer_text line answer.now)) }
-    ensures cause { FaultHasCause (K.faults sink.old) (K.faults sink.new) result }
-{
-    write_refusal(alloc, sink, line, answer.refusal)?;
-    write_outputs(alloc, sink, answer.outputs.as_slice())
-}
-
-fn write_stop<K: Sink>(
-    alloc: Global,
-    sink: &mut K,
-    line: u64,
-    fault: LineFault,
-) -> Result<(), Fault>
-    ensures ok { OnOk result (Appends (K.got sink.old) (K.got sink.new) (stop_line line fault)) }
-    ensures err { OnErr result (AppendsFront (K.got sink.old) (K.got sink.new) (stop_line line fault)) }
-    ensures cause { FaultHasCause (K.faults sink.old) (K.faults sink.new) result }
-{
-    let text = texts::stop_text(alloc, line, fault)?;
-    write_text(sink, text.as_str())
 }
 
 // Plays a line that was read.
@@ -130,7 +38,7 @@ fn play_line<K: Sink>(
     ensures cause { WriteCause (K.faults sink.old) (K.faults sink.new) result }
 {
     let answer = stage.play(line)?;
-    write_answer(alloc, sink, number, &answer)?;
+    write_answer(alloc, stage, sink, number, &answer)?;
     Ok(())
 }
 

@@ -99,7 +99,9 @@ impl Stage {
         }
     }
 
-    fn edit(&mut self, guild: Snowflake, edit: Edit) -> Result<Option<Verdict>, AllocError>
+    /// Makes an edit of a guild, and says why it is refused, if it is. It enters the guild's log, but
+    /// for one of a guild without a head line and one that finds the log full.
+    pub fn edit(&mut self, guild: Snowflake, edit: Edit) -> Result<Option<Verdict>, AllocError>
         ensures answer { IfOk result (λ answer. (p : Player) → Stands self.old p → answer ≡ refusal p guild edit) }
         ensures plays { OnOk result ((p : Player) → Stands self.old p → Plays p (line.Edit guild edit) self.new []) }
     {
@@ -231,7 +233,7 @@ impl Stage {
         }
     }
 
-    /// Plays a line that was read.
+    /// Makes the step of a line that was read.
     pub fn play(&mut self, line: Line) -> Result<Answer, StepFault>
         ensures { (p : Player) → Stands self.old p → MatchResult result (λ a. (a.refusal ≡ line_refusal p line) × Plays p line self.new a.outputs.items) (PlaysNot p line) }
     {
