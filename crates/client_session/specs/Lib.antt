@@ -1,0 +1,5 @@
+pub mod Payload
+pub mod State
+pub mod Table
+pub mod Step
+pub mod Law

@@ -1,0 +1,27 @@
+use std::alloc::AllocError;
+use thiserror::Error;
+
+/// Why a client does not go on.
+#[derive(Clone, Copy, Debug, PartialEq, Eq, Error)]
+pub enum ClientFault {
+    /// The gateway closed the connection with a code after which a client may not connect again.
+    #[error("the gateway closed the connection for good, with the code {0}")]
+    Out(u16),
+    /// The text is neither a dispatch nor another payload of the gateway.
+    #[error("the text is no payload of a gateway")]
+    BadText,
+    /// Memory ran out.
+    #[error("out of memory")]
+    Memory,
+}
+
+impl From<AllocError> for ClientFault {
+    ghost use Rattle.client_session.specs.declared.fault.ClientFault.TheVariants.{Memory};
+    ghost use Rattle.std.specs.Prelude.{◌≡◌};
+
+    ghost from_gives = { λ _ fault. fault ≡ Memory };
+
+    fn from(_: AllocError) -> Self {
+        ClientFault::Memory
+    }
+}
