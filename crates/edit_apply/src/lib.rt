@@ -12,8 +12,6 @@ ghost use Rattle.voice_presence.specs.VoicePresence.{voice_presence_verdict};
 ghost use Rattle.message_edit.specs.MessageEdits.{message_verdict};
 
 pub mod guild;
-#[cfg(test)]
-mod tests;
 
 pub use channel_edit::ChannelEdit;
 pub use guild::GuildEdit;

@@ -36,7 +36,7 @@ pub fn read(alloc: Global, name: EditName, object: &Value) -> Result<Edit, LineF
     }
 }
 
-/// The name of an edit.
+/// The name of an edit, as step files write it.
 pub fn name_of(edit: &Edit) -> EditName
     ensures { result ≡ edit_name edit.now }
 {

@@ -9,10 +9,9 @@ mod members;
 mod names;
 mod reader;
 mod steps;
-#[cfg(test)]
-mod tests;
 mod text;
 
+pub use edits::name_of;
 pub use fault::LineFault;
 pub use line::{FileKind, Line};
 pub use names::{ChannelEditName, EditName, GuildEditName, RoleMemberEditName};

@@ -1,7 +1,6 @@
 //! Step files played on four workers, from a source of bytes to a sink of bytes.
 #![tactic(auto)]
 
-mod edit_names;
 mod fault;
 mod guild_log;
 mod opened;

@@ -2,7 +2,6 @@
 ghost use Rattle.std.specs.Prelude.{◌≡◌, IfOk, string_bytes};
 ghost use Rattle.scenario.specs.Texts.{fault_number, fault_name, limit_text, refused_line, stop_line, written_line};
 
-use crate::edit_names::edit_name;
 use edit_text::LineFault;
 use guild_model::Verdict;
 use std::alloc::{AllocError, Global};
@@ -20,7 +19,7 @@ pub fn output_text(alloc: Global, output: &Output) -> Result<String, AllocError>
         Output::Close(conn, code) => Ok(format!(in alloc; "close {conn} {code}\n")?),
         Output::Wish(guild, edit) => {
             let guild = guild.0;
-            let name = edit_name(edit);
+            let name = edit_text::name_of(edit).text();
             Ok(format!(in alloc; "wish {guild} {name}\n")?)
         }
     }
