@@ -2,11 +2,11 @@
 
 ghost use Rattle.std.specs.Prelude.{◌≡◌, ◌↔◌, IsTrue};
 
+use crate::equality::SameAs;
 use dispatch_types::{
     ChannelObject, GuildCreate, JoinedThread, MemberObject, MembersChunk, MessageObject, Reaction,
     Ready, ThreadObject,
 };
-use same_views::SameAs;
 
 impl SameAs for MemberObject {
     fn same_as(&self, other: &MemberObject) -> bool {

@@ -1,7 +1,8 @@
 ghost use Rattle.std.specs.Prelude.{◌≡◌, ◌↔◌, IsTrue};
 
+use crate::equality::SameAs;
+use crate::lists::same_items;
 use dispatch_types::Dispatch;
-use same_views::{SameAs, same_items};
 
 impl SameAs for Dispatch {
     fn same_as(&self, other: &Dispatch) -> bool {
