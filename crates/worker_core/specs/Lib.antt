@@ -1,3 +1,4 @@
+pub mod Bodies
 pub mod World
 pub mod Law
 pub mod Entries

@@ -8,6 +8,7 @@ pub mod law;
 mod look;
 pub mod replica;
 mod tell;
+mod told;
 mod wish;
 pub mod worker;
 

@@ -12,7 +12,7 @@ ghost use Rattle.worker_core.specs.Spent.{kept_spends};
 ghost use Rattle.worker_core.specs.Telling.{TellsAt, FailsAt, TellsEach, FailsEach, FaultBy, kept_with};
 
 use crate::io::{Output, StepFault};
-use crate::tell::tell;
+use crate::told::{Told, tell_owed};
 use edit_apply::{Edit, apply, judge};
 use edit_events::{Was, events, note};
 use guild_model::Guild;
@@ -44,6 +44,7 @@ fn tell_entry(
     guild: &Guild,
     entry: &Edit,
     was: &Was,
+    told: &mut Vec<Told>,
     sessions: &mut Sessions,
     place: usize,
     out: &mut Vec<Output>,
@@ -57,7 +58,7 @@ fn tell_entry(
         return Ok(());
     };
     let owed = events(alloc, guild, entry, was, viewer)?;
-    tell(alloc, sessions, place, owed.as_slice(), out)
+    tell_owed(alloc, told, owed, sessions, place, out)
 }
 
 /// An accepted entry, told to each session, by the record after it and the notes of that before it.
@@ -73,8 +74,10 @@ fn tell_each(
     ensures { (s : Record) → notes.now ≡ map (λ x. was_of s x.viewer entry.now) sessions.old.sessions → guild.now ≡ applied s entry.now → accepts s entry.now ≡ true
         → MatchResult result (λ _. TellsEach s entry.now sessions.old sessions.new out.old.items out.new.items) (FailsEach s entry.now sessions.old) }
 {
+    let mut told = Vec::new(alloc);
     for place in 0..notes.len() {
-        tell_entry(alloc, guild, entry, &notes[place], sessions, place, out)?;
+        let was = &notes[place];
+        tell_entry(alloc, guild, entry, was, &mut told, sessions, place, out)?;
     }
     Ok(())
 }

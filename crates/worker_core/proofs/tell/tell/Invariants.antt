@@ -1,9 +1,0 @@
-use Rattle.std.proofs.Common.{◌≡◌, length, take}
-use Rattle.worker_core.specs.Telling.{TellsAt}
-use Rattle.worker_core.proofs.tell.tell.Given as goal
-
-abbrev pub invariant-loop-dispatch : goal.invariant-loop-dispatch
-invariant-loop-dispatch l = record {
-  told : TellsAt l.place (λ x. take l.dispatch-index l.dispatches) l.fn.sessions l.sessions l.fn.out.items l.out.items;
-  as_many : length l.sessions.sessions ≡ length l.fn.sessions.sessions;
-}
