@@ -1,7 +1,8 @@
 -- A client that is told what an edit of channels owes holds the view of the record after it.
-use Rattle.std.proofs.Common.{◌≡◌, ℕ, Bool, true, false, not, ◌||◌, List, [], ◌∷◌, Option, Some, None, if◌then◌else◌, refl, sym, ap, subst, ◌∙◌, length, eq-eqb}
+use Rattle.std.proofs.Common.{◌≡◌, ℕ, Bool, true, false, not, ◌||◌, List, [], ◌∷◌, Option, Some, None, if◌then◌else◌, refl, sym, ap, subst, ◌∙◌, length, arith, eq-eqb}
 use Rattle.std.specs.Prelude.{◌==◌, ◌++◌, flat_map, is_some, option_map, All}
 use Rattle.std.proofs.lemmas.List.Elements.{All-nil}
+use Rattle.std.proofs.lemmas.Bool.Decides.{nat_tests}
 use Rattle.collections.specs.ById.{find_id, has_id, put_id, changed_id}
 use Rattle.collections.proofs.Finds.{key-found, find-put, find-changed}
 use Rattle.collections.proofs.Has.{All-found}
@@ -30,21 +31,23 @@ use Rattle.dispatch_types.specs.declared.channels.ChannelObject.{ChannelObject}
 use Rattle.dispatch_types.specs.Objects.{channel_object}
 use Rattle.dispatch_types.specs.Fold.{Held, set_channel, fold_from}
 use Rattle.thread_sync.specs.Seen.{visible_to}
-use Rattle.thread_sync.specs.Sync.{sync}
-use Rattle.thread_sync.specs.Law.{kind_in, ChangesRights}
+use Rattle.thread_sync.specs.declared.seen.Seen.{Seen}
+use Rattle.thread_sync.specs.Sync.{sync_of, sync_if_any, sync}
+use Rattle.thread_sync.specs.InChannel.{visible_in, gained_in, sync_in}
+use Rattle.thread_sync.specs.Law.{kind_in, ChangesRights, ChangesChannel}
+use Rattle.thread_sync.proofs.OneChannel.{channel_sync_is_whole}
 use Rattle.thread_sync.proofs.Sights.{channel-created-keeps, channel-changed-keeps}
 use Rattle.event_views.specs.Has.{Has}
 use Rattle.event_views.specs.Asked.{told_if}
-use Rattle.event_views.proofs.Rights.{follows-rights, synced-of}
+use Rattle.event_views.proofs.Rights.{follows-rights}
 use Rattle.event_views.proofs.Steps.{IsOf, asked-of, append-of}
 use Rattle.event_views.proofs.Told.{same, told-channel_update}
 use Rattle.event_views.specs.Ended.{voice_end, voice_ends}
-use Rattle.event_views.specs.Synced.{synced}
 use Rattle.channel_events.specs.declared.ends.ChannelEnd.{ChannelEnd}
 use Rattle.channel_events.specs.declared.ends.ChannelNote.{ChannelNote}
 use Rattle.channel_events.specs.Ends.{channel_end, end_of}
 use Rattle.channel_events.specs.Law.{ChannelEditKeeps}
-use Rattle.channel_events.specs.Rows.{told_of, created, updated, gone, deleted, rights_changed, channel_row}
+use Rattle.channel_events.specs.Rows.{told_of, created, updated, gone, deleted, synced_in, rights_changed, channel_row}
 use Rattle.channel_events.proofs.Puts.{puts-channel, follows-channel_put, follows-channel_changed}
 use Rattle.channel_events.proofs.Gone.{follows-gone}
 
@@ -109,10 +112,11 @@ module _ (s : Record) (v : Viewer) (h : Held) (me : Member) (well : IsWell s) (a
         (follows-channel_changed s v h me (f c) t.channels put ordered well.ascending.threads (channel-changed-keeps s me f channel same_id overwrites) asks has)
 
     -- with other overwrites: the sync brings the threads that the update does not
-    pub follows-overwrites : ((c : Channel) → (f c).kind ≡ c.kind) → Has s v me h → Has t v me (fold_from v.intents s.id h (rights_changed t v (Some (visible_to s me)) me channel))
+    pub follows-overwrites : ((c : Channel) → (f c).kind ≡ c.kind) → Has s v me h → Has t v me (fold_from v.intents s.id h (rights_changed t v (Some (visible_in s me channel)) me channel))
     follows-overwrites kinds has =
-        subst (λ (ds : List Dispatch). Has t v me (fold_from v.intents s.id h (ds ++ told_if v (sync (visible_to s me) t me)))) (sym update)
-        (follows-rights s t v h me me well rights refl asks (ChannelUpdate o) (set_channel o) same (told-channel_update v.intents s.id h o refl) (puts-channel s v h me (f c) t.channels put ordered h.known) has)
+        subst (λ (ds : List Dispatch). Has t v me (fold_from v.intents s.id h (ds ++ told_if v (sync_in (visible_in s me channel) t me channel)))) (sym update)
+        (subst (λ (d : Option Dispatch). Has t v me (fold_from v.intents s.id h (ChannelUpdate o ∷ told_if v d))) (sym whole)
+        (follows-rights s t v h me me well rights refl asks (ChannelUpdate o) (set_channel o) same (told-channel_update v.intents s.id h o refl) (puts-channel s v h me (f c) t.channels put ordered h.known) has))
       where
         o : ChannelObject
         o = channel_object s.id (f c)
@@ -127,6 +131,23 @@ module _ (s : Record) (v : Viewer) (h : Held) (me : Member) (well : IsWell s) (a
             by_case true None = refl
             by_case true (Some x) = ap (λ (k : ChannelKind). Some k) (kinds x)
             by_case false x = refl
+
+        flip : (a b : ℕ) → (a == b) ≡ false → (b == a) ≡ false
+        flip a b e = grind (arith, nat_tests)
+
+        alone : ChangesChannel s t channel
+        alone = record {
+          id = refl;
+          owner = refl;
+          roles = refl;
+          threads = refl;
+          others = λ other apart.
+              find-changed channel_id channel f same_id other s.channels
+              ∙ ap (λ here. if here then option_map f (find_id channel_id other s.channels) else find_id channel_id other s.channels) (flip other channel apart);
+        }
+
+        whole : sync_in (visible_in s me channel) t me channel ≡ sync (visible_to s me) t me
+        whole = channel_sync_is_whole s t me channel well.ascending after.ascending alone
 
   pub follows-deleted : (channel : ℕ) → channel_delete_verdict s channel ≡ None
       → Has s v me h → Has (channel_deleted s channel) v me (fold_from v.intents s.id h (deleted (channel_deleted s channel) v (channel_end s channel)))
@@ -175,9 +196,17 @@ module _ (s : Record) (v : Viewer) where
       (each-of (voice_ends s.id v) (λ x. asked-of s.id v false (VoiceStateUpdate s.id (voice_end x)) refl) end.voices)
       (append-of s.id (flat_map (updated s v) end.children) (gone s v end.channel) (each-of (updated s v) updated-of end.children) (asked-of s.id v false (ChannelDelete (channel_object s.id end.channel)) refl))
 
+  synced-of : (was : Option Seen) (me : Member) (channel : ℕ) → All (IsOf s.id) (synced_in s v was me channel)
+  synced-of None me channel = All-nil (IsOf s.id)
+  synced-of (Some was) me channel = by_parents (gained_in was s me channel)
+    where
+      by_parents : (ps : List ℕ) → All (IsOf s.id) (told_if v (sync_if_any s me ps))
+      by_parents [] = All-nil (IsOf s.id)
+      by_parents (p ∷ ps) = asked-of s.id v false (sync_of s me (p ∷ ps)) refl
+
   pub row-of : (note : ChannelNote) (me : Member) (e : ChannelEdit) → All (IsOf s.id) (channel_row note s v me e)
   row-of note me (edit.ChannelCreate channel kind name parent position sync) = told-of ChannelCreate (λ c. refl) (find_id channel_id channel s.channels)
   row-of note me (edit.ChannelUpdate channel name parent position) = updated-of channel
   row-of note me (edit.ChannelDelete channel) = deleted-of note.end
-  row-of note me (edit.OverwriteSet channel id kind allow deny) = append-of s.id (updated s v channel) (synced note.seen s v me) (updated-of channel) (synced-of note.seen s v me)
-  row-of note me (edit.OverwriteDelete channel id kind) = append-of s.id (updated s v channel) (synced note.seen s v me) (updated-of channel) (synced-of note.seen s v me)
+  row-of note me (edit.OverwriteSet channel id kind allow deny) = append-of s.id (updated s v channel) (synced_in s v note.seen me channel) (updated-of channel) (synced-of note.seen me channel)
+  row-of note me (edit.OverwriteDelete channel id kind) = append-of s.id (updated s v channel) (synced_in s v note.seen me channel) (updated-of channel) (synced-of note.seen me channel)

@@ -8,7 +8,7 @@ use Rattle.guild_model.specs.declared.voice.Voice.{Voice}
 use Rattle.guild_model.specs.Record.{Record, channel_id}
 use Rattle.channel_edit.specs.declared.ChannelEdit.{ChannelEdit}
 use Rattle.channel_edit.specs.declared.ChannelEdit.TheVariants.{ChannelCreate, ChannelUpdate, ChannelDelete, OverwriteSet, OverwriteDelete}
-use Rattle.thread_sync.specs.Seen.{visible_to}
+use Rattle.thread_sync.specs.InChannel.{visible_in}
 use Rattle.channel_events.specs.declared.ends.ChannelEnd.{ChannelEnd}
 use Rattle.channel_events.specs.declared.ends.ChannelNote.{ChannelNote}
 
@@ -32,10 +32,13 @@ end_of s c = record { channel = c; voices = voices_in s c.id; children = childre
 abbrev pub channel_end : Record → ℕ → Option ChannelEnd
 channel_end s channel = option_map (end_of s) (find_id channel_id channel s.channels)
 
--- of a change of overwrites: what the viewer saw
+-- of a change of overwrites: what the viewer saw of the channel, since nothing else comes into sight
+abbrev pub before_overwrites : Record → Member → ℕ → ChannelNote
+before_overwrites s me channel = record { seen = Some (visible_in s me channel); end = None }
+
 abbrev pub channel_note : Record → Member → ChannelEdit → ChannelNote
 channel_note s me (ChannelCreate channel kind name parent position sync) = record { seen = None; end = None }
 channel_note s me (ChannelUpdate channel name parent position) = record { seen = None; end = None }
 channel_note s me (ChannelDelete channel) = record { seen = None; end = channel_end s channel }
-channel_note s me (OverwriteSet channel id kind allow deny) = record { seen = Some (visible_to s me); end = None }
-channel_note s me (OverwriteDelete channel id kind) = record { seen = Some (visible_to s me); end = None }
+channel_note s me (OverwriteSet channel id kind allow deny) = before_overwrites s me channel
+channel_note s me (OverwriteDelete channel id kind) = before_overwrites s me channel

@@ -15,9 +15,9 @@ use Rattle.dispatch_types.specs.declared.dispatch.Dispatch.{Dispatch}
 use Rattle.dispatch_types.specs.declared.dispatch.Dispatch.TheVariants.{ChannelCreate, ChannelUpdate, ChannelDelete}
 use Rattle.dispatch_types.specs.Objects.{channel_object}
 use Rattle.thread_sync.specs.declared.seen.Seen.{Seen}
-use Rattle.event_views.specs.Asked.{asked}
+use Rattle.thread_sync.specs.InChannel.{sync_in}
+use Rattle.event_views.specs.Asked.{asked, told_if}
 use Rattle.event_views.specs.Ended.{voice_ends}
-use Rattle.event_views.specs.Synced.{synced}
 use Rattle.channel_events.specs.declared.ends.ChannelEnd.{ChannelEnd}
 use Rattle.channel_events.specs.declared.ends.ChannelNote.{ChannelNote}
 
@@ -43,9 +43,14 @@ module _ (s : Record) (v : Viewer) where
   deleted None = []
   deleted (Some end) = flat_map (voice_ends s.id v) end.voices ++ (flat_map updated end.children ++ gone end.channel)
 
-  -- after a change of overwrites: the channel, then THREAD_LIST_SYNC where one is due
+  -- THREAD_LIST_SYNC after a change of a channel's overwrites, by what the viewer saw of the channel
+  abbrev pub synced_in : Option Seen → Member → ℕ → List Dispatch
+  synced_in None me channel = []
+  synced_in (Some was) me channel = told_if v (sync_in was s me channel)
+
+  -- after a change of overwrites: the channel, then the sync where one is due
   abbrev pub rights_changed : Option Seen → Member → ℕ → List Dispatch
-  rights_changed seen me channel = updated channel ++ synced seen s v me
+  rights_changed seen me channel = updated channel ++ synced_in seen me channel
 
 -- `me` is the viewer's own member after the edit
 abbrev pub channel_row : ChannelNote → Record → Viewer → Member → ChannelEdit → List Dispatch

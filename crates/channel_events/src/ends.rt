@@ -2,16 +2,14 @@
 
 ghost use Rattle.std.specs.Prelude.{◌≡◌, IfOk, map, filter};
 ghost use Rattle.guild_model.specs.Record.{channel_id};
-ghost use Rattle.thread_sync.specs.Seen.{visible_to};
-ghost use Rattle.channel_events.specs.Ends.{speaks_in, is_child, end_of, channel_end, channel_note};
+ghost use Rattle.channel_events.specs.Ends.{speaks_in, is_child, end_of, channel_end, before_overwrites, channel_note};
 
 use channel_edit::ChannelEdit;
 use collections::{Duplicate, Seq};
 use guild_model::{Channel, Guild, Member, Voice};
 use snowflake_id::Snowflake;
 use std::alloc::{AllocError, Global};
-use thread_sync::Seen;
-use thread_sync::seen::visible_to;
+use thread_sync::{Seen, visible_in};
 
 /// A channel that goes.
 #[derive(Drop)]
@@ -27,7 +25,7 @@ pub struct ChannelEnd {
 /// What [`row`](crate::row) has to know of the record before an edit.
 #[derive(Drop)]
 pub struct ChannelNote {
-    /// What the viewer saw, for the edits of overwrites alone.
+    /// What the viewer saw of the channel and its threads, for the edits of overwrites alone.
     pub seen: Option<Seen>,
     /// The channel that goes, for `channel_delete` alone.
     pub end: Option<ChannelEnd>,
@@ -82,6 +80,20 @@ fn channel_end(
     }
 }
 
+fn before_overwrites(
+    alloc: Global,
+    before: &Guild,
+    me: &Member,
+    channel: Snowflake,
+) -> Result<ChannelNote, AllocError>
+    ensures { IfOk result (λ note. note ≡ before_overwrites before.now me.now channel) }
+{
+    Ok(ChannelNote {
+        seen: Some(visible_in(alloc, before, me, channel)?),
+        end: None,
+    })
+}
+
 /// Keeps what [`row`](crate::row) has to know of the record before an edit, where the viewer's own
 /// member is `me`.
 pub fn note(
@@ -101,9 +113,9 @@ pub fn note(
             seen: None,
             end: channel_end(alloc, before, *channel)?,
         }),
-        ChannelEdit::OverwriteSet { .. } | ChannelEdit::OverwriteDelete { .. } => Ok(ChannelNote {
-            seen: Some(visible_to(alloc, before, me)?),
-            end: None,
-        }),
+        ChannelEdit::OverwriteSet { channel, .. } => before_overwrites(alloc, before, me, *channel),
+        ChannelEdit::OverwriteDelete { channel, .. } => {
+            before_overwrites(alloc, before, me, *channel)
+        }
     }
 }

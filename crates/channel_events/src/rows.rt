@@ -3,17 +3,17 @@
 
 ghost use Rattle.std.specs.Prelude.{◌≡◌, ◌++◌, OnOk, IfOk, flat_map};
 ghost use Rattle.event_views.specs.Ended.{voice_ends};
-ghost use Rattle.channel_events.specs.Rows.{created, updated, gone, deleted, rights_changed, channel_row};
+ghost use Rattle.channel_events.specs.Rows.{created, updated, gone, deleted, synced_in, rights_changed, channel_row};
 
 use crate::ends::{ChannelEnd, ChannelNote};
 use channel_edit::ChannelEdit;
 use dispatch_types::{ChannelObject, Dispatch, Viewer};
-use event_views::{add_synced, add_voice_end};
+use event_views::add_voice_end;
 use guild_model::{Channel, Guild, Member, Voice};
 use intent_set::Kind;
 use snowflake_id::Snowflake;
 use std::alloc::{AllocError, Global};
-use thread_sync::Seen;
+use thread_sync::{Seen, sync_in};
 
 // CHANNEL_CREATE of a channel.
 fn add_created(
@@ -121,6 +121,30 @@ fn add_deleted(
     Ok(())
 }
 
+// What a change of a channel's overwrites uncovers, by what the viewer saw of the channel.
+fn add_synced_in(
+    alloc: Global,
+    seen: &Option<Seen>,
+    after: &Guild,
+    viewer: &Viewer,
+    me: &Member,
+    channel: Snowflake,
+    list: &mut Vec<Dispatch>,
+) -> Result<(), AllocError>
+    ensures { OnOk result (list.new.items ≡ list.old.items ++ synced_in after.now viewer.now seen.now me.now channel) }
+{
+    let Some(was) = seen else {
+        return Ok(());
+    };
+    if !viewer.intents.asks(Kind::ThreadListSync, false) {
+        return Ok(());
+    }
+    if let Some(gains) = sync_in(alloc, was, after, me, channel)? {
+        list.push(gains)?;
+    }
+    Ok(())
+}
+
 // A change of overwrites: the channel, then what it uncovers.
 fn add_rights(
     alloc: Global,
@@ -134,7 +158,7 @@ fn add_rights(
     ensures { OnOk result (list.new.items ≡ list.old.items ++ rights_changed after.now viewer.now seen.now me.now channel) }
 {
     add_updated(alloc, after, viewer, channel, list)?;
-    add_synced(alloc, seen, after, viewer, me, list)?;
+    add_synced_in(alloc, seen, after, viewer, me, channel, list)?;
     Ok(())
 }
 

@@ -3,6 +3,7 @@ use Rattle.std.proofs.Common.{◌≡◌, ℕ, ◌<◌, ◌-◌, ◌^◌, Bool, t
 use Rattle.std.specs.Prelude.{◌==◌, nat_lt, length, is_some, option_map}
 use Rattle.std.proofs.lemmas.Bool.{eqb-true}
 use Rattle.std.proofs.lemmas.Bool.Decides.{nat_tests}
+use Rattle.std.proofs.lemmas.List.{append-nil}
 use Rattle.collections.specs.ById.{find_id, has_id, IsById}
 use Rattle.collections.proofs.Finds.{key-found, find-put, find-map, find-changed, find-without}
 use Rattle.collections.proofs.Has.{All-found}
@@ -16,6 +17,7 @@ use Rattle.guild_model.specs.Tests.{refused_if, first_of, too_long, too_many, un
 use Rattle.guild_model.specs.Ascending.{IsAscending, IsWell, HoldsInOrder}
 use Rattle.guild_model.proofs.Tests.{first_passes, not_refused}
 use Rattle.dispatch_types.specs.declared.viewer.Viewer.{Viewer}
+use Rattle.dispatch_types.specs.declared.dispatch.Dispatch.{Dispatch}
 use Rattle.dispatch_types.specs.declared.dispatch.Dispatch.TheVariants.{GuildRoleCreate, GuildMemberAdd}
 use Rattle.dispatch_types.specs.Objects.{member_object}
 use Rattle.dispatch_types.specs.Fold.{Held, fold_from}
@@ -25,13 +27,14 @@ use Rattle.role_member_edit.specs.Roles.{role_taken, everyone_role, with_role_se
 use Rattle.role_member_edit.specs.Members.{new_member, member_added, member_add_verdict, owner_stays, member_removed, nick_verdict, with_member_changed, with_nick, with_timeout}
 use Rattle.role_member_edit.specs.HeldRoles.{holds, with_role}
 use Rattle.event_views.specs.Asked.{asked, told_if}
+use Rattle.event_views.specs.Synced.{synced}
 use Rattle.event_views.specs.Has.{Has}
 use Rattle.role_member_edit.specs.declared.RoleMemberEdit.{RoleMemberEdit}
 use Rattle.role_member_edit.specs.declared.RoleMemberEdit.TheVariants.{RoleCreate, RoleUpdate, RoleDelete, MemberAdd, MemberRemove, MemberNick, MemberTimeout, MemberRoleAdd, MemberRoleRemove}
 use Rattle.role_member_edit.specs.RoleMember.{role_member_verdict, role_member_applied}
-use Rattle.role_member_events.specs.Ends.{end_of, role_member_note}
+use Rattle.role_member_events.specs.Ends.{end_of, before_rights, before_nothing, before_own_rights, role_member_note}
 use Rattle.role_member_events.specs.Rows.{role_of, member_told, member_updated, member_ended, role_member_row}
-use Rattle.role_member_events.proofs.Membership.{follows-member_changed, follows-member_add}
+use Rattle.role_member_events.proofs.Membership.{follows-member_changed, follows-other, follows-member_add}
 use Rattle.role_member_events.proofs.Gone.{follows-gone}
 use Rattle.role_member_events.proofs.Rights.{follows-role_create, follows-role_update, follows-role_delete, follows-member_roles}
 
@@ -85,11 +88,28 @@ module _ (s : Record) (v : Viewer) (h : Held) (me : Member) (well : IsWell s) (o
         subst (λ (o : Option Member). Has (with_member_changed s user f) v me' (fold_from v.intents s.id h (member_told (with_member_changed s user f) v o))) (sym (told-changed user f found.0 same found.1))
         (follows-member_changed s v user f found.0 me me' same well.ascending found.1 own own' h (roles-ordered user f found.0 same after found.1) held has)
 
-    pub follows-roles : Has s v me h → Has (with_member_changed s user f) v me' (fold_from v.intents s.id h (member_updated (with_member_changed s user f) v user ++ told_if v (sync (visible_to s me) (with_member_changed s user f) me')))
-    follows-roles has =
-        let found = member_there s user known in
-        subst (λ (o : Option Member). Has (with_member_changed s user f) v me' (fold_from v.intents s.id h (member_told (with_member_changed s user f) v o ++ told_if v (sync (visible_to s me) (with_member_changed s user f) me')))) (sym (told-changed user f found.0 same found.1))
-        (follows-member_roles s v user f found.0 me me' same well found.1 own own' h (roles-ordered user f found.0 same after found.1) asks has)
+    abbrev t : Record
+    t = with_member_changed s user f
+
+    -- the own roles may change what is seen, and those of others do not
+    pub follows-roles : Has s v me h → Has t v me' (fold_from v.intents s.id h (member_updated t v user ++ synced (before_own_rights s me user).seen t v me'))
+    follows-roles has = by_own (user == me.user.id) refl
+      where
+        found : (x : Member) × (find_id member_id user s.members ≡ Some x)
+        found = member_there s user known
+
+        ordered : IsById own_id (f found.0).roles
+        ordered = roles-ordered user f found.0 same after found.1
+
+        by_own : (b : Bool) → (user == me.user.id) ≡ b → Has t v me' (fold_from v.intents s.id h (member_updated t v user ++ synced (if b then before_rights s me else before_nothing).seen t v me'))
+        by_own true is =
+            subst (λ (o : Option Member). Has t v me' (fold_from v.intents s.id h (member_told t v o ++ told_if v (sync (visible_to s me) t me')))) (sym (told-changed user f found.0 same found.1))
+            (follows-member_roles s v user f found.0 me me' same well found.1 own own' h ordered asks has)
+        by_own false is =
+            let other : (user == v.user) ≡ false = ap (λ u. user == u) (sym (key-found member_id v.user s.members me own)) ∙ is in
+            subst (λ (ds : List Dispatch). Has t v me' (fold_from v.intents s.id h ds)) (sym (append-nil (member_updated t v user)))
+            (subst (λ (o : Option Member). Has t v me' (fold_from v.intents s.id h (member_told t v o))) (sym (told-changed user f found.0 same found.1))
+            (follows-other s v user f found.0 me me' same well.ascending found.1 own own' h ordered other has))
 
   -- one that comes is not the viewer's bot, which is there
   pub follows-add : (user : ℕ) (name : List ℕ) (bot : Bool) (at : ℕ) (me' : Member) → find_id member_id v.user (member_added s user name bot at).members ≡ Some me' → member_add_verdict s user name ≡ None

@@ -106,19 +106,12 @@ module _ (s : Record) (v : Viewer) (user : ℕ) (f : Member → Member) (x me me
         let same-me : open_view s v.intents known me ≡ showing (open_view after v.intents known me) (open_view s v.intents known me).threads = same-parts (open_view s v.intents known me) members told-count refl in
         same-me ∙ ap (λ (m : Member). showing (open_view after v.intents known m) (open_view s v.intents known me).threads) (sym (own-stays other))
 
-  -- where the held roles stay, so does what is seen
-  pub follows-member_changed : (h : Held) → IsById own_id (f x).roles → ((m : Member) → (f m).roles ≡ m.roles)
+  -- where the own member holds the roles that it held, what is seen stays
+  pub follows-held : (h : Held) → IsById own_id (f x).roles → me'.roles ≡ me.roles
       → Has s v me h → Has after v me' (fold_from v.intents s.id h (asked v ((f x).user.id == v.user) (GuildMemberUpdate s.id (member_object (f x)))))
-  follows-member_changed h ordered held has =
+  follows-held h ordered held-after has =
       by_asked after v s.id h me' ((f x).user.id == v.user) (GuildMemberUpdate s.id (member_object (f x))) tells keeps_silent
     where
-      held-after : me'.roles ≡ me.roles
-      held-after = by_own (user == v.user) refl
-        where
-          by_own : (b : Bool) → (user == v.user) ≡ b → me'.roles ≡ me.roles
-          by_own true is = let e = own-changed is in ap (λ (m : Member). m.roles) e.1 ∙ (held x ∙ ap (λ (m : Member). m.roles) (sym e.0))
-          by_own false other = ap (λ (m : Member). m.roles) (own-stays other)
-
       threads : (known' : List ℕ) → (open_view after v.intents known' me').threads ≡ (open_view s v.intents h.known me).threads
       threads known' = threads_stay s after me me' v.intents h.known known' ascends refl own-user (members-changed-keep s me after.members me' own-user held-after)
 
@@ -134,6 +127,20 @@ module _ (s : Record) (v : Viewer) (user : ℕ) (f : Member → Member) (x me me
       keeps_silent blind =
           let parts = or_parts ((f x).user.id == v.user) (has_bit v.intents guild_members) blind in
           untold s after v h me me' (silent h.known (other-user parts.0) parts.1 ∙ ap (showing (open_view after v.intents h.known me')) (sym (threads h.known))) has
+
+  -- as it does where no roles change
+  pub follows-member_changed : (h : Held) → IsById own_id (f x).roles → ((m : Member) → (f m).roles ≡ m.roles)
+      → Has s v me h → Has after v me' (fold_from v.intents s.id h (asked v ((f x).user.id == v.user) (GuildMemberUpdate s.id (member_object (f x)))))
+  follows-member_changed h ordered held has = follows-held h ordered (by_own (user == v.user) refl) has
+    where
+      by_own : (b : Bool) → (user == v.user) ≡ b → me'.roles ≡ me.roles
+      by_own true is = let e = own-changed is in ap (λ (m : Member). m.roles) e.1 ∙ (held x ∙ ap (λ (m : Member). m.roles) (sym e.0))
+      by_own false other = ap (λ (m : Member). m.roles) (own-stays other)
+
+  -- and where those of another member do
+  pub follows-other : (h : Held) → IsById own_id (f x).roles → (user == v.user) ≡ false
+      → Has s v me h → Has after v me' (fold_from v.intents s.id h (asked v ((f x).user.id == v.user) (GuildMemberUpdate s.id (member_object (f x)))))
+  follows-other h ordered other has = follows-held h ordered (ap (λ (m : Member). m.roles) (own-stays other)) has
 
 -- ---- a member that comes
 

@@ -1,5 +1,5 @@
 -- What has to be known of the record before an edit of roles or members.
-use Rattle.std.specs.Prelude.{Option, Some, None}
+use Rattle.std.specs.Prelude.{ℕ, ◌==◌, Option, Some, None, if◌then◌else◌}
 use Rattle.collections.specs.ById.{find_id, has_id}
 use Rattle.guild_model.specs.declared.member.Member.{Member}
 use Rattle.guild_model.specs.Record.{Record, member_id, voice_id, presence_id}
@@ -26,11 +26,15 @@ before_rights s me = record { seen = Some (visible_to s me); end = None }
 abbrev pub before_nothing : RoleMemberNote
 before_nothing = record { seen = None; end = None }
 
+-- a change of a user's roles changes what the viewer sees only where the user is its own
+abbrev pub before_own_rights : Record → Member → ℕ → RoleMemberNote
+before_own_rights s me user = if user == me.user.id then before_rights s me else before_nothing
+
 abbrev pub role_member_note : Record → Member → RoleMemberEdit → RoleMemberNote
 role_member_note s me (RoleUpdate role name perms position) = before_rights s me
 role_member_note s me (RoleDelete role) = before_rights s me
-role_member_note s me (MemberRoleAdd user role) = before_rights s me
-role_member_note s me (MemberRoleRemove user role) = before_rights s me
+role_member_note s me (MemberRoleAdd user role) = before_own_rights s me user
+role_member_note s me (MemberRoleRemove user role) = before_own_rights s me user
 role_member_note s me (MemberRemove user) = record { seen = None; end = end_of s me (find_id member_id user s.members) }
 role_member_note s me (RoleCreate role name perms position) = before_nothing
 role_member_note s me (MemberAdd user name bot at) = before_nothing

@@ -4,7 +4,7 @@ ghost use Rattle.std.specs.Prelude.{◌≡◌, IfOk};
 ghost use Rattle.collections.specs.ById.{find_id};
 ghost use Rattle.guild_model.specs.Record.{member_id};
 ghost use Rattle.event_views.specs.Threads.{threads_left};
-ghost use Rattle.role_member_events.specs.Ends.{end_of, before_rights, role_member_note};
+ghost use Rattle.role_member_events.specs.Ends.{end_of, before_rights, before_own_rights, role_member_note};
 
 use collections::{Duplicate, Seq};
 use guild_model::{Guild, Member, User, Voice};
@@ -83,6 +83,25 @@ fn before_rights(alloc: Global, before: &Guild, me: &Member) -> Result<RoleMembe
     })
 }
 
+// Before the roles of a user change: what the viewer sees changes only where the user is its own.
+fn before_own_rights(
+    alloc: Global,
+    before: &Guild,
+    me: &Member,
+    user: Snowflake,
+) -> Result<RoleMemberNote, AllocError>
+    ensures { IfOk result (λ note. note ≡ before_own_rights before.now me.now user) }
+{
+    if user == me.user.id {
+        before_rights(alloc, before, me)
+    } else {
+        Ok(RoleMemberNote {
+            seen: None,
+            end: None,
+        })
+    }
+}
+
 /// Keeps what [`row`](crate::row) has to know of the record before an edit, where the viewer's own
 /// member is `me`.
 pub fn note(
@@ -96,8 +115,10 @@ pub fn note(
     match edit {
         RoleMemberEdit::RoleUpdate { .. } => before_rights(alloc, before, me),
         RoleMemberEdit::RoleDelete { .. } => before_rights(alloc, before, me),
-        RoleMemberEdit::MemberRoleAdd { .. } => before_rights(alloc, before, me),
-        RoleMemberEdit::MemberRoleRemove { .. } => before_rights(alloc, before, me),
+        RoleMemberEdit::MemberRoleAdd { user, .. } => before_own_rights(alloc, before, me, *user),
+        RoleMemberEdit::MemberRoleRemove { user, .. } => before_own_rights(
+            alloc, before, me, *user,
+        ),
         RoleMemberEdit::MemberRemove { user } => Ok(RoleMemberNote {
             seen: None,
             end: end_of(alloc, before, me, *user)?,

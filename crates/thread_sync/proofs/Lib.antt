@@ -5,3 +5,4 @@ pub mod Saw
 pub mod Synced
 pub mod Steps
 pub mod Gains
+pub mod OneChannel

@@ -1,9 +1,10 @@
 -- Lists that are filtered and mapped.
 use Rattle.std.proofs.Common.{◌≡◌, ℕ, Bool, true, false, List, [], ◌∷◌, map, Option, Some, None, if◌then◌else◌, refl, sym, ap, ◌∙◌, arith, eq-eqb, ◌&&◌, ◌||◌, ◌≤◌}
-use Rattle.std.specs.Prelude.{◌==◌, filter, cond, is_some, option_map}
+use Rattle.std.specs.Prelude.{◌==◌, filter, cond, is_some, option_map, option_to_list}
 use Rattle.std.specs.List.{find, list_any}
+use Rattle.std.proofs.lemmas.Bool.{eqb-true}
 use Rattle.std.proofs.lemmas.Bool.Decides.{nat_tests}
-use Rattle.collections.specs.ById.{find_id, has_id, IsById, keep_if}
+use Rattle.collections.specs.ById.{find_id, has_id, AllAbove, IsById, keep_if}
 use Rattle.collections.proofs.Ids.{find_above}
 use Rattle.collections.proofs.Finds.{key-found, same_by_id, find-filter, find-map, IsById-map}
 use Rattle.guild_model.specs.Record.{own_id}
@@ -30,6 +31,28 @@ none-passes key p id x (y ∷ ys) none found = grind (arith, nat_tests, none-pas
 pub has-passed : {T : Type 0} (key : T → ℕ) (p : T → Bool) (id : ℕ) (x : T) (xs : List T) → find_id key id xs ≡ Some x → p x ≡ true → has_id own_id id (map key (filter p xs)) ≡ true
 has-passed key p id x [] found is = absurd (cc)
 has-passed key p id x (y ∷ ys) found is = grind (arith, nat_tests, has-passed key p id x ys)
+
+-- of an ascending list those of one id are the one that is found
+pub filter-one : {T : Type 0} (key : T → ℕ) (id : ℕ) (xs : List T) → IsById key xs → filter (λ x. key x == id) xs ≡ option_to_list (find_id key id xs)
+filter-one key id [] h = refl
+filter-one key id (x ∷ xs) h = by_test (key x == id) refl (filter-one key id xs h.1)
+  where
+    by_test : (b : Bool) → (key x == id) ≡ b → filter (λ x. key x == id) xs ≡ option_to_list (find_id key id xs)
+        → cond b (x ∷ filter (λ x. key x == id) xs) (filter (λ x. key x == id) xs) ≡ option_to_list (if b then Some x else find_id key id xs)
+    by_test true is rest =
+        let le : id ≤ key x = let e = eqb-true (key x) id is in omega (arith, e) in
+        ap (λ ys. x ∷ ys) (rest ∙ ap option_to_list (find_above key id (key x) xs le h.0))
+    by_test false is rest = rest
+
+-- the key of an item that is found is among those of the items that pass exactly where it passes
+pub among-kept : {T : Type 0} (key : T → ℕ) (p : T → Bool) (id : ℕ) (x : T) (xs : List T) → IsById key xs → find_id key id xs ≡ Some x → has_id own_id id (map key (filter p xs)) ≡ p x
+among-kept key p id x xs h found =
+    ap (λ o. is_some o) (find-map key own_id key (λ x. refl) id (filter p xs) ∙ ap (option_map key) (find-filter key p id xs h ∙ ap (keep_if p) found))
+    ∙ by_test (p x)
+  where
+    by_test : (b : Bool) → is_some (option_map key (if b then Some x else None)) ≡ b
+    by_test true = refl
+    by_test false = refl
 
 -- two ways to map an ascending list that agree on what is found
 module _ {T U : Type 0} (key : T → ℕ) (as_key : U → ℕ) (f g : T → U) (by_f : (x : T) → as_key (f x) ≡ key x) (by_g : (x : T) → as_key (g x) ≡ key x) where
@@ -73,17 +96,25 @@ module _ {T : Type 0} where
   any-less p q less [] none = refl
   any-less p q less (x ∷ xs) none = let step = less x in let rest = any-less p q less xs in grind (arith, step, rest)
 
--- where none that is found passes, no item does
+-- where none that is found passes, no item does; and tests that agree on what is found
 module _ {T : Type 0} (key : T → ℕ) (p : T → Bool) where
+  -- what is found among the rest is found
+  later : (x : T) (xs : List T) → AllAbove key (key x) xs → (id : ℕ) (y : T) → find_id key id xs ≡ Some y → (if key x == id then Some x else find_id key id xs) ≡ Some y
+  later x xs h id y found = let above : id ≤ key x → find_id key id xs ≡ None = λ le. find_above key id (key x) xs le h in grind (arith, nat_tests)
+
   pub any-none : (xs : List T) → IsById key xs → ((id : ℕ) (x : T) → find_id key id xs ≡ Some x → p x ≡ false) → list_any p xs ≡ false
   any-none [] h none = refl
   any-none (x ∷ xs) h none =
       let here : p x ≡ false = none (key x) x (ap (λ b. if b then Some x else find_id key (key x) xs) (eq-eqb (key x) (key x) refl)) in
-      let rest : list_any p xs ≡ false = any-none xs h.1 (λ id y found. none id y (later id y found)) in
+      let rest : list_any p xs ≡ false = any-none xs h.1 (λ id y found. none id y (later x xs h.0 id y found)) in
       ap (λ b. b || list_any p xs) here ∙ rest
-    where
-      later : (id : ℕ) (y : T) → find_id key id xs ≡ Some y → (if key x == id then Some x else find_id key id xs) ≡ Some y
-      later id y found = let above : id ≤ key x → find_id key id xs ≡ None = λ le. find_above key id (key x) xs le h.0 in grind (arith, nat_tests)
+
+  pub any-same : (q : T → Bool) (xs : List T) → IsById key xs → ((id : ℕ) (x : T) → find_id key id xs ≡ Some x → p x ≡ q x) → list_any p xs ≡ list_any q xs
+  any-same q [] h same = refl
+  any-same q (x ∷ xs) h same =
+      let here : p x ≡ q x = same (key x) x (ap (λ b. if b then Some x else find_id key (key x) xs) (eq-eqb (key x) (key x) refl)) in
+      let rest : list_any p xs ≡ list_any q xs = any-same q xs h.1 (λ id y found. same id y (later x xs h.0 id y found)) in
+      ap (λ b. b || list_any p xs) here ∙ ap (λ b. q x || b) rest
 
   -- an id among those of the items that pass is that of an item that does
   pub among-passed : (id : ℕ) (xs : List T) → IsById key xs → has_id own_id id (map key (filter p xs)) ≡ true → (x : T) × (key x ≡ id) × (p x ≡ true)

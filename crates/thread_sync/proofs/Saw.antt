@@ -18,7 +18,7 @@ use Rattle.thread_sync.specs.declared.seen.Seen.{Seen}
 use Rattle.thread_sync.specs.Seen.{is_among, shows_channel, sees_channel, visible_to}
 use Rattle.thread_sync.specs.Sync.{is_new, uncovers, is_gained, gained_parents}
 use Rattle.thread_sync.specs.Law.{kind_in, ChangesRights}
-use Rattle.thread_sync.proofs.Lists.{unless, none-passes, has-passed}
+use Rattle.thread_sync.proofs.Lists.{unless, none-passes, has-passed, among-kept}
 
 -- a channel is among those that are seen exactly where it is seen
 pub among-seen : (s : Standing) (channel : ℕ) → IsById channel_id s.channels → is_among (map channel_id (filter (shows_channel s) s.channels)) channel ≡ sees s channel
@@ -35,15 +35,8 @@ among-seen s channel h =
     by_case (Some c) there = by_sight c (shows_channel s c) ∙ ap (sees s) (key-found channel_id channel s.channels c there)
 
 -- a thread that the member saw is an active one that it sees
-saw-thread : (s : Record) (me : Member) (id : ℕ) (x : Thread) → IsById thread_id s.threads → find_id thread_id id s.threads ≡ Some x → is_among (visible_to s me).threads id ≡ (is_active x && member_sees s me x)
-saw-thread s me id x h found =
-    ap (λ o. is_some o) (find-map thread_id own_id thread_id (λ x. refl) id (seen_threads s me)
-    ∙ ap (option_map thread_id) (find-filter thread_id (λ (x : Thread). is_active x && member_sees s me x) id s.threads h ∙ ap (keep_if (λ (x : Thread). is_active x && member_sees s me x)) found))
-    ∙ by_sight (is_active x && member_sees s me x)
-  where
-    by_sight : (b : Bool) → is_some (option_map thread_id (if b then Some x else None)) ≡ b
-    by_sight true = refl
-    by_sight false = refl
+pub saw-thread : (s : Record) (me : Member) (id : ℕ) (x : Thread) → IsById thread_id s.threads → find_id thread_id id s.threads ≡ Some x → is_among (visible_to s me).threads id ≡ (is_active x && member_sees s me x)
+saw-thread s me id x h found = among-kept thread_id (λ (x : Thread). is_active x && member_sees s me x) id x s.threads h found
 
 -- a parent before is one after
 parent-stays : (o p : Option Channel) → option_map kind_in p ≡ option_map kind_in o → is_parent o ≡ true → (c : Channel) × (p ≡ Some c) × (has_threads c.kind ≡ true)

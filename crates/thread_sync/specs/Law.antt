@@ -1,5 +1,5 @@
 -- What a client holds of the threads of a guild after a change of permissions.
-use Rattle.std.specs.Prelude.{◌≡◌, ℕ, List, Some, option_map, option_to_list}
+use Rattle.std.specs.Prelude.{◌≡◌, ℕ, List, ◌==◌, false, Some, option_map, option_to_list}
 use Rattle.collections.specs.ById.{find_id}
 use Rattle.guild_model.specs.declared.member.Member.{Member}
 use Rattle.guild_model.specs.declared.channel.Channel.{Channel}
@@ -13,6 +13,7 @@ use Rattle.dispatch_types.specs.Fold.{Held, purged, fold_from}
 use Rattle.thread_sync.specs.Sight.{KeepsGrants}
 use Rattle.thread_sync.specs.Seen.{visible_to}
 use Rattle.thread_sync.specs.Sync.{sync}
+use Rattle.thread_sync.specs.InChannel.{visible_in, sync_in}
 
 -- one that is granted what it was, wherever threads stand, holds the threads that it held
 abbrev pub ThreadsStay : Type 0
@@ -38,3 +39,16 @@ abbrev pub SyncRestores : Type 0
 SyncRestores = (s t : Record) (me me' : Member) (intents : ℕ) (h : Held) → IsWell s → ChangesRights s t → me'.user.id ≡ me.user.id
     → h.view ≡ Some (Open (purged intents t.id (told_plainly s me t me' intents h.known)))
     → fold_from intents t.id h (option_to_list (sync (visible_to s me) t me')) ≡ record h { view = Some (Open (open_view t intents h.known me')) }
+
+-- records that differ in one channel alone, as after an edit of its overwrites
+pub record ChangesChannel (s t : Record) (channel : ℕ) : Type 0 where
+  pub id : t.id ≡ s.id
+  pub owner : t.owner ≡ s.owner
+  pub roles : t.roles ≡ s.roles
+  pub threads : t.threads ≡ s.threads
+  pub others : (other : ℕ) → (other == channel) ≡ false → find_id channel_id other t.channels ≡ find_id channel_id other s.channels
+
+-- then what the member saw of that channel is all that has to be kept: the sync of it is the sync of all
+abbrev pub ChannelSyncIsWhole : Type 0
+ChannelSyncIsWhole = (s t : Record) (me : Member) (channel : ℕ) → IsAscending s → IsAscending t → ChangesChannel s t channel
+    → sync_in (visible_in s me channel) t me channel ≡ sync (visible_to s me) t me

@@ -1,4 +1,5 @@
 pub mod Sight
 pub mod Seen
 pub mod Sync
+pub mod InChannel
 pub mod Law

@@ -40,8 +40,12 @@ threads_in s me parents = filter (λ (t : Thread). is_among parents t.parent) (s
 abbrev pub own_membership : ℕ → Thread → Option ThreadMemberObject
 own_membership user t = option_map (thread_member_object t.id) (find_id thread_member_id user t.members)
 
+-- the sync of some parents to a user, with these threads
+abbrev pub listing : ℕ → ℕ → List ℕ → List Thread → Dispatch
+listing guild user parents ts = ThreadListSync guild parents (map (thread_object guild) ts) (filter_map (own_membership user) ts)
+
 abbrev pub sync_of : Record → Member → List ℕ → Dispatch
-sync_of s me parents = ThreadListSync s.id parents (map (thread_object s.id) (threads_in s me parents)) (filter_map (own_membership me.user.id) (threads_in s me parents))
+sync_of s me parents = listing s.id me.user.id parents (threads_in s me parents)
 
 -- a sync is sent exactly where some parent is gained
 abbrev pub sync_if_any : Record → Member → List ℕ → Option Dispatch

@@ -7,7 +7,7 @@ ghost use Rattle.guild_model.specs.Consistent.{has_threads};
 ghost use Rattle.guild_model.specs.Sight.{sees};
 ghost use Rattle.dispatch_types.specs.Objects.{thread_object};
 ghost use Rattle.thread_sync.specs.Seen.{is_among, shows_channel, shows, shows_in};
-ghost use Rattle.thread_sync.specs.Sync.{is_new, uncovers, is_gained, own_membership, sync, uncovered};
+ghost use Rattle.thread_sync.specs.Sync.{is_new, uncovers, is_gained, own_membership, listing, sync, uncovered};
 
 use crate::seen::{Seen, shows_in};
 use collections::{ById, Seq};
@@ -131,6 +131,25 @@ fn own_memberships(
     Ok(members)
 }
 
+// The sync of some parents, with these threads in them.
+pub(crate) fn sync_of(
+    alloc: Global,
+    guild: Snowflake,
+    user: Snowflake,
+    parents: Seq<Snowflake>,
+    threads: &[&Thread],
+) -> Result<Dispatch, AllocError>
+    ensures { IfOk result (λ told. told ≡ listing guild user parents (map (λ thread. thread.now) threads.now)) }
+{
+    let members = own_memberships(alloc, user, threads)?;
+    Ok(Dispatch::ThreadListSync {
+        guild,
+        channels: parents,
+        threads: objects(alloc, guild, threads)?,
+        members,
+    })
+}
+
 /// The sync of what a member sees now and did not see before, `was` being what it saw: each parent that
 /// it gained with all active threads in it that it sees and its memberships in them; nothing exactly
 /// where no parent is gained (Gateway Events, Thread List Sync; Threads, Syncing for Channel Gain).
@@ -152,12 +171,9 @@ pub fn sync(
     }
     let parents = ById::from_ascending(Vec::from_slice(alloc, gained.as_slice())?);
     let listed = listed(alloc, &standing, &parents, threads)?;
-    Ok(Some(Dispatch::ThreadListSync {
-        guild: guild.id,
-        channels: Seq::from_vec(gained),
-        threads: objects(alloc, guild.id, listed.as_slice())?,
-        members: own_memberships(alloc, me.user.id, listed.as_slice())?,
-    }))
+    let told = Seq::from_vec(gained);
+    let sync = sync_of(alloc, guild.id, me.user.id, told, listed.as_slice())?;
+    Ok(Some(sync))
 }
 
 /// The sync of what a viewer's user sees now and did not see before, `was` being what it saw: each

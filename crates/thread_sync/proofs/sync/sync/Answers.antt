@@ -1,16 +1,13 @@
 use Rattle.std.proofs.Common.{◌≡◌, ℕ, false, List, map, length, Some, refl, sym, ap, ◌∙◌}
 use Rattle.std.specs.Prelude.{◌==◌, filter}
-use Rattle.std.specs.List.{filter_map}
 use Rattle.collections.proofs.Finds.{IsById-filter, IsById-map}
 use Rattle.guild_model.specs.declared.channel.Channel.{Channel}
 use Rattle.guild_model.specs.declared.member.Member.{Member}
 use Rattle.guild_model.specs.Record.{Record, own_id, channel_id}
 use Rattle.guild_model.specs.Sight.{Standing, standing}
-use Rattle.dispatch_types.specs.declared.dispatch.Dispatch.TheVariants.{ThreadListSync}
-use Rattle.dispatch_types.specs.Objects.{thread_object}
 use Rattle.thread_sync.specs.declared.seen.Seen.{Seen}
 use Rattle.thread_sync.specs.Seen.{is_among, shows_in}
-use Rattle.thread_sync.specs.Sync.{uncovers, is_gained, threads_in, own_membership}
+use Rattle.thread_sync.specs.Sync.{uncovers, is_gained, threads_in, listing}
 use Rattle.thread_sync.proofs.Steps.{gained-seen, sync-some, listed-parts}
 use Rattle.thread_sync.proofs.sync.sync.Goals as goal
 
@@ -48,14 +45,10 @@ returns c =
     let listed : map (λ thread. thread.now) c.in_ok-listed.listed.items ≡ threads_in g me gained =
     c.in_ok-listed.ensures ∙ (ap (λ s. filter (shows_in s c.from_ascending-parents.result) c.as_slice-threads.result.now) stands
     ∙ (ap (λ ps. filter (shows_in s ps) c.as_slice-threads.result.now) parents ∙ (ap (λ ts. filter (shows_in s gained) ts) threads ∙ listed-parts g me gained))) in
-    let objects : c.in_ok-objects.field-0 ≡ map (thread_object g.id) (threads_in g me gained) =
-    c.in_ok-objects.ensures ∙ (ap (λ ts. map (thread_object c.guild.inside.id) (map (λ thread. thread.now) ts)) c.as_slice-2.ensures.value
-    ∙ (ap (λ ts. map (thread_object c.guild.inside.id) ts) listed ∙ ap (λ id. map (thread_object id) (threads_in g me gained)) id)) in
-    let members : c.in_ok-own_memberships.field-0 ≡ filter_map (own_membership me.user.id) (threads_in g me gained) =
-    c.in_ok-own_memberships.ensures ∙ (ap (λ ts. filter_map (own_membership me.user.id) (map (λ thread. thread.now) ts)) c.as_slice-3.ensures.value ∙ ap (filter_map (own_membership me.user.id)) listed) in
     let empty : (length gained == 0) ≡ false = ap (λ n. n == 0) (sym c.in_ok-gained.gained.ok.0) ∙ (sym c.is_empty.ensures ∙ c.if-is_empty.false) in
-    ap (λ (id : ℕ). Some (ThreadListSync id c.from_vec.result c.in_ok-objects.field-0 c.in_ok-own_memberships.field-0)) id
-    ∙ (ap (λ ps. Some (ThreadListSync g.id ps c.in_ok-objects.field-0 c.in_ok-own_memberships.field-0)) c.from_vec.ensures
-    ∙ (ap (λ ts. Some (ThreadListSync g.id gained ts c.in_ok-own_memberships.field-0)) objects
-    ∙ (ap (λ ms. Some (ThreadListSync g.id gained (map (thread_object g.id) (threads_in g me gained)) ms)) members
-    ∙ sync-some was g me uncovered gained uncovers_is gained_is empty)))
+    ap (λ told. Some told)
+    (c.in_ok-sync.ensures
+    ∙ (ap (λ ts. listing c.guild.inside.id me.user.id c.from_vec-told.result ts) (ap (λ ts. map (λ thread. thread.now) ts) c.as_slice-2.ensures.value ∙ listed)
+    ∙ (ap (λ (id : ℕ). listing id me.user.id c.from_vec-told.result (threads_in g me gained)) id
+    ∙ ap (λ (ps : List ℕ). listing g.id me.user.id ps (threads_in g me gained)) c.from_vec-told.ensures)))
+    ∙ sync-some was g me uncovered gained uncovers_is gained_is empty

@@ -1,0 +1,182 @@
+//! What a member sees of one channel, and the sync of it after a change of its overwrites.
+
+ghost use Rattle.std.specs.Prelude.{◌≡◌, ◌&&◌, [], ◌∷◌, IfOk, map, filter, if◌then◌else◌};
+ghost use Rattle.std.specs.List.{list_any};
+ghost use Rattle.collections.specs.ById.{find_id};
+ghost use Rattle.perm_bits.specs.Bits.{has_bit};
+ghost use Rattle.perm_bits.specs.Permissions.{view_channel, manage_threads};
+ghost use Rattle.guild_model.specs.Record.{channel_id, thread_id};
+ghost use Rattle.guild_model.specs.Sight.{standing};
+ghost use Rattle.thread_sync.specs.Sync.{is_new};
+ghost use Rattle.thread_sync.specs.InChannel.{visible_in, sync_in, sight_in, shows_under, gains_in};
+
+use crate::seen::Seen;
+use crate::sync::sync_of;
+use collections::{ById, Seq};
+use dispatch_types::Dispatch;
+use guild_model::{Guild, Member, Thread};
+use overwrite_eval::StandingRef;
+use perm_bits::Perms;
+use snowflake_id::Snowflake;
+use std::alloc::{AllocError, Global};
+
+/// What a member is granted in one channel, as far as sight goes: whether it sees the channel, and
+/// whether all private threads in it (Permissions, VIEW_CHANNEL, MANAGE_THREADS).
+#[derive(Clone, Copy)]
+pub struct ChannelSight {
+    pub channel: Snowflake,
+    pub user: Snowflake,
+    pub views: bool,
+    pub manages: bool,
+}
+
+fn may_view(mask: Perms) -> bool
+    ensures { result ≡ has_bit mask view_channel }
+{
+    mask.has(Perms::VIEW_CHANNEL)
+}
+
+fn may_manage_threads(mask: Perms) -> bool
+    ensures { result ≡ has_bit mask manage_threads }
+{
+    mask.has(Perms::MANAGE_THREADS)
+}
+
+// A member's sight in a channel, from one mask.
+fn sight_in(guild: &Guild, me: &Member, channel: Snowflake) -> ChannelSight
+    ensures { result ≡ sight_in (standing guild.now me.now) channel }
+{
+    let mask = StandingRef::in_guild(guild, me).mask(channel);
+    ChannelSight {
+        channel,
+        user: me.user.id,
+        views: may_view(mask),
+        manages: may_manage_threads(mask),
+    }
+}
+
+impl ChannelSight {
+    // Whether a thread is an active one of the channel that is seen. Most stand elsewhere.
+    fn shows(&self, thread: &Thread) -> bool
+        ensures { result ≡ shows_under self.now thread.now }
+    {
+        self.views
+            && thread.parent == self.channel
+            && !thread.archived
+            && (!thread.kind.is_private() || self.manages || thread.members.contains(self.user.0))
+    }
+}
+
+fn shown_channel(alloc: Global, sight: &ChannelSight) -> Result<ById<Snowflake>, AllocError>
+    ensures { IfOk result (λ ids. ids ≡ (if sight.now.views then sight.now.channel ∷ [] else [])) }
+{
+    let mut ids = ById::new(alloc);
+    if sight.views {
+        ids.put(sight.channel)?;
+    }
+    Ok(ids)
+}
+
+fn shown_threads(
+    alloc: Global,
+    sight: &ChannelSight,
+    threads: &[Thread],
+) -> Result<Vec<Snowflake>, AllocError>
+    ensures { IfOk result (λ ids. ids.items ≡ map thread_id (filter (shows_under sight.now) threads.now)) }
+{
+    threads
+        .iter()
+        .filter(|thread| sight.shows(thread))
+        .map(|thread| thread.id)
+        .collect(alloc)
+}
+
+/// A channel, if a member sees it, and the active threads in it that the member sees (Permissions,
+/// VIEW_CHANNEL; Threads, Private Threads).
+pub fn visible_in(
+    alloc: Global,
+    guild: &Guild,
+    me: &Member,
+    channel: Snowflake,
+) -> Result<Seen, AllocError>
+    ensures { IfOk result (λ seen. seen ≡ visible_in guild.now me.now channel) }
+{
+    let sight = sight_in(guild, me, channel);
+    let channels = shown_channel(alloc, &sight)?;
+    let threads = shown_threads(alloc, &sight, guild.threads.as_slice())?;
+    let threads = ById::from_ascending(threads);
+    Ok(Seen { channels, threads })
+}
+
+// Whether a thread is an active private one of the channel that is seen, and was not seen before.
+fn is_uncovered(was: &Seen, sight: &ChannelSight, thread: &Thread) -> bool
+    ensures { result ≡ (shows_under sight.now thread.now && is_new was.now thread.now) }
+{
+    sight.shows(thread) && thread.kind.is_private() && !was.threads.contains(thread.id.0)
+}
+
+fn is_any_uncovered(was: &Seen, sight: &ChannelSight, threads: &[Thread]) -> bool
+    ensures { result ≡ list_any (λ thread. shows_under sight.now thread && is_new was.now thread) threads.now }
+{
+    threads
+        .iter()
+        .any(|thread| is_uncovered(was, sight, thread))
+}
+
+// Whether the channel is a parent that is gained.
+fn gains(was: &Seen, sight: &ChannelSight, guild: &Guild) -> bool
+    ensures { result ≡ gains_in was.now sight.now guild.now.threads (find_id channel_id sight.now.channel guild.now.channels) }
+{
+    match guild.channel(sight.channel) {
+        Some(channel) => {
+            channel.kind.has_threads()
+                && sight.views
+                && (!was.channels.contains(sight.channel.0)
+                    || is_any_uncovered(was, sight, guild.threads.as_slice()))
+        }
+        None => false,
+    }
+}
+
+fn listed<'a>(
+    alloc: Global,
+    sight: &ChannelSight,
+    threads: &'a [Thread],
+) -> Result<Vec<&'a Thread>, AllocError>
+    ensures { IfOk result (λ listed. map (λ thread. thread.now) listed.items ≡ filter (shows_under sight.now) threads.now) }
+{
+    threads
+        .iter()
+        .filter(|thread| sight.shows(thread))
+        .collect(alloc)
+}
+
+fn one_parent(alloc: Global, channel: Snowflake) -> Result<Seq<Snowflake>, AllocError>
+    ensures { IfOk result (λ parents. parents ≡ channel ∷ []) }
+{
+    let mut parents = Seq::new(alloc);
+    parents.push(channel)?;
+    Ok(parents)
+}
+
+/// The sync of what a member sees of a channel now and did not see before, `was` being what it saw of
+/// it: all active threads in the channel that the member sees and its memberships in them. Nothing
+/// exactly where the channel is no gained parent, as [`sync`](crate::sync::sync) says it of each.
+pub fn sync_in(
+    alloc: Global,
+    was: &Seen,
+    guild: &Guild,
+    me: &Member,
+    channel: Snowflake,
+) -> Result<Option<Dispatch>, AllocError>
+    ensures { IfOk result (λ told. told ≡ sync_in was.now guild.now me.now channel) }
+{
+    let sight = sight_in(guild, me, channel);
+    if !gains(was, &sight, guild) {
+        return Ok(None);
+    }
+    let parents = one_parent(alloc, channel)?;
+    let listed = listed(alloc, &sight, guild.threads.as_slice())?;
+    let sync = sync_of(alloc, guild.id, me.user.id, parents, listed.as_slice())?;
+    Ok(Some(sync))
+}
