@@ -17,6 +17,3 @@ mod threads;
 mod voices;
 
 pub use cache::Cache;
-
-#[cfg(test)]
-mod tests;
