@@ -3,6 +3,7 @@ pub mod Grants
 pub mod Sights
 pub mod Saw
 pub mod Synced
+pub mod ChannelSights
 pub mod Steps
 pub mod Gains
 pub mod OneChannel

@@ -7,7 +7,7 @@ use Rattle.std.proofs.lemmas.Bool.Decides.{nat_tests}
 use Rattle.collections.specs.ById.{find_id, IsById}
 use Rattle.collections.proofs.Finds.{key-found, found-filter, IsById-filter}
 use Rattle.collections.proofs.Mapped.{filter-same}
-use Rattle.perm_bits.specs.Permissions.{view_channel, manage_threads}
+use Rattle.perm_bits.specs.Permissions.{view_channel}
 use Rattle.guild_model.specs.declared.member.Member.{Member}
 use Rattle.guild_model.specs.declared.channel.Channel.{Channel}
 use Rattle.guild_model.specs.declared.thread.Thread.{Thread}
@@ -17,12 +17,14 @@ use Rattle.guild_model.specs.Ascending.{IsAscending}
 use Rattle.guild_model.specs.Sight.{Standing, standing, granted, sees, is_private, is_in}
 use Rattle.dispatch_types.specs.Projection.{is_active, seen_threads}
 use Rattle.thread_sync.specs.declared.seen.Seen.{Seen}
-use Rattle.thread_sync.specs.declared.in_channel.ChannelSight.{ChannelSight}
+use Rattle.thread_sync.specs.declared.channel_sight.ChannelSight.{ChannelSight}
 use Rattle.thread_sync.specs.Seen.{is_among, shows, visible_to}
 use Rattle.thread_sync.specs.Sync.{is_new, uncovers, is_gained, gained_parents, threads_in, listing, sync_if_any}
-use Rattle.thread_sync.specs.InChannel.{stands_in, visible_in, gained_in, sync_in, sight_in, shows_under, gains_in}
+use Rattle.thread_sync.specs.ChannelSights.{sight_in, shows_under}
+use Rattle.thread_sync.specs.InChannel.{stands_in, visible_in, gained_in, sync_in, gains_in}
 use Rattle.thread_sync.specs.Law.{ChangesChannel, ChannelSyncIsWhole}
 use Rattle.thread_sync.proofs.Lists.{filter-one, filter-both, filter-alike, any-alike, any-filter, any-none, any-same, among-kept}
+use Rattle.thread_sync.proofs.ChannelSights.{under}
 use Rattle.thread_sync.proofs.Grants.{overwrites_in, granted-channels}
 use Rattle.thread_sync.proofs.Sights.{same-sees_in}
 use Rattle.thread_sync.proofs.Saw.{among-seen, saw-thread}
@@ -38,26 +40,10 @@ module _ (g : Record) (me : Member) (channel : ℕ) where
   stand = standing g me
 
   abbrev pub sight : ChannelSight
-  sight = sight_in stand channel
-
-  under : (t : Thread) → shows_under sight t ≡ (stands_in channel t && shows stand t)
-  under t = by_test (t.parent == channel) refl
-    where
-      elsewhere : (views active rest : Bool) → (views && (false && (active && rest))) ≡ false
-      elsewhere views active rest = grind arith
-
-      there : (views active private manages joined : Bool) → (views && (active && (not private || manages || joined))) ≡ (active && (views && (not private || joined || manages)))
-      there views active private manages joined = grind arith
-
-      by_test : (b : Bool) → (t.parent == channel) ≡ b
-          → (sees stand channel && (b && (is_active t && (not (is_private t.kind) || granted stand channel manage_threads || is_in me.user.id t)))) ≡ (b && shows stand t)
-      by_test true is =
-          there (sees stand channel) (is_active t) (is_private t.kind) (granted stand channel manage_threads) (is_in me.user.id t)
-          ∙ ap (λ p. is_active t && (sees stand p && (not (is_private t.kind) || is_in me.user.id t || granted stand p manage_threads))) (sym (eqb-true t.parent channel is))
-      by_test false is = elsewhere (sees stand channel) (is_active t) (not (is_private t.kind) || granted stand channel manage_threads || is_in me.user.id t)
+  sight = sight_in stand me.user.id channel
 
   seen-in : filter (shows_under sight) g.threads ≡ filter (stands_in channel) (seen_threads g me)
-  seen-in = filter-alike (shows_under sight) (λ t. stands_in channel t && shows stand t) under g.threads ∙ sym (filter-both (stands_in channel) (shows stand) g.threads)
+  seen-in = filter-alike (shows_under sight) (λ t. stands_in channel t && shows stand t) (under stand channel) g.threads ∙ sym (filter-both (stands_in channel) (shows stand) g.threads)
 
   listed-in : filter (shows_under sight) g.threads ≡ threads_in g me (channel ∷ [])
   listed-in = seen-in ∙ filter-alike (stands_in channel) (λ (t : Thread). is_among (channel ∷ []) t.parent) alone (seen_threads g me)
@@ -72,7 +58,7 @@ module _ (g : Record) (me : Member) (channel : ℕ) where
   uncovers-in : (was : Seen) → list_any (λ (t : Thread). shows_under sight t && is_new was t) g.threads ≡ uncovers was stand g.threads channel
   uncovers-in was =
       any-alike (λ (t : Thread). shows_under sight t && is_new was t) (λ (t : Thread). shows stand t && (stands_in channel t && is_new was t))
-      (λ t. ap (λ b. b && is_new was t) (under t) ∙ swap (stands_in channel t) (shows stand t) (is_new was t)) g.threads
+      (λ t. ap (λ b. b && is_new was t) (under stand channel t) ∙ swap (stands_in channel t) (shows stand t) (is_new was t)) g.threads
       ∙ sym (any-filter (λ (t : Thread). stands_in channel t && is_new was t) (shows stand) g.threads)
     where
       swap : (a b c : Bool) → ((a && b) && c) ≡ (b && (a && c))

@@ -1,10 +1,11 @@
 -- What the steps of the code make of lists.
-use Rattle.std.proofs.Common.{◌≡◌, ◌<◌, ◌+◌, ℕ, Bool, true, false, not, ◌&&◌, ◌||◌, List, [], ◌∷◌, ◌++◌, map, take, length, get_or, Option, Some, None, refl, sym, ap, subst, ◌∙◌, arith}
+use Rattle.std.proofs.Common.{◌≡◌, ◌<◌, ◌+◌, ℕ, Bool, true, false, not, ◌&&◌, ◌||◌, List, [], ◌∷◌, ◌++◌, map, take, length, get_or, Option, Some, None, refl, sym, ap, ◌∙◌, arith}
 use Rattle.std.specs.Prelude.{◌==◌, filter}
-use Rattle.std.specs.List.{filter_map, cons_option}
+use Rattle.std.specs.List.{list_any, filter_map, cons_option}
 use Rattle.std.proofs.lemmas.List.{map-append, take_more}
 use Rattle.std.proofs.lemmas.List.Elements.{filter_map-append}
 use Rattle.std.proofs.lemmas.List.Folds.{list_any_more}
+use Rattle.std.proofs.lemmas.Bool.Decides.{nat_tests}
 use Rattle.collections.specs.ById.{put_id, IsById}
 use Rattle.collections.proofs.Has.{has-put}
 use Rattle.guild_model.specs.declared.member.Member.{Member}
@@ -13,39 +14,41 @@ use Rattle.guild_model.specs.declared.thread.Thread.{Thread}
 use Rattle.guild_model.specs.Record.{Record, own_id, channel_id, thread_id}
 use Rattle.guild_model.specs.Consistent.{has_threads}
 use Rattle.guild_model.specs.Sight.{Standing, standing, sees}
-use Rattle.dispatch_types.specs.Projection.{is_active}
+use Rattle.dispatch_types.specs.Projection.{seen_threads}
 use Rattle.thread_sync.specs.declared.seen.Seen.{Seen}
-use Rattle.thread_sync.specs.Seen.{is_among, shows_channel, shows, shows_in, visible_to}
-use Rattle.thread_sync.specs.Sync.{is_new, uncovers, is_gained, gained_parents, threads_in, sync_of, sync_if_any}
-use Rattle.thread_sync.proofs.Lists.{filter-both, filter-alike, any-filter, among-passed}
-use Rattle.thread_sync.proofs.Saw.{among-seen}
+use Rattle.thread_sync.specs.declared.channel_sight.ChannelSight.{ChannelSight}
+use Rattle.thread_sync.specs.ChannelSights.{sight_id, seen_in, sights, is_in_sight, shows_among}
+use Rattle.thread_sync.specs.Seen.{is_among, shows_channel, shows, visible_to}
+use Rattle.thread_sync.specs.Sync.{is_new, uncovers_where, uncovers, is_gained_where, is_gained, gained_parents, threads_in, sync_of, sync_if_any}
+use Rattle.thread_sync.proofs.Lists.{filter-both, filter-alike, any-filter}
+use Rattle.thread_sync.proofs.ChannelSights.{in-sight, shown-among, seen-channels}
 
 -- one more thread, which is uncovered or not
-uncovers-more : (was : Seen) (s : Standing) (xs : List Thread) (i id : ℕ) (x : Thread) → i < length xs → get_or xs i x ≡ x
-    → uncovers was s (take (i + 1) xs) id ≡ (uncovers was s (take i xs) id || (shows s x && ((x.parent == id) && is_new was x)))
-uncovers-more was s xs i id x lt here =
-    any-filter within (shows s) (take (i + 1) xs)
-    ∙ (list_any_more (λ t. shows s t && within t) xs i x lt
-    ∙ (ap (λ b. b || (shows s (get_or xs i x) && within (get_or xs i x))) (sym (any-filter within (shows s) (take i xs)))
-    ∙ ap (λ t. uncovers was s (take i xs) id || (shows s t && within t)) here))
+uncovers-more : (was : Seen) (shown : Thread → Bool) (xs : List Thread) (i id : ℕ) (x : Thread) → i < length xs → get_or xs i x ≡ x
+    → uncovers_where was shown (take (i + 1) xs) id ≡ (uncovers_where was shown (take i xs) id || (shown x && ((x.parent == id) && is_new was x)))
+uncovers-more was shown xs i id x lt here =
+    any-filter within shown (take (i + 1) xs)
+    ∙ (list_any_more (λ t. shown t && within t) xs i x lt
+    ∙ (ap (λ b. b || (shown (get_or xs i x) && within (get_or xs i x))) (sym (any-filter within shown (take i xs)))
+    ∙ ap (λ t. uncovers_where was shown (take i xs) id || (shown t && within t)) here))
   where
     within : Thread → Bool
     within t = (t.parent == id) && is_new was t
 
-module _ (was : Seen) (s : Standing) (xs : List Thread) (i id : ℕ) (x : Thread) (lt : i < length xs) (here : get_or xs i x ≡ x) (parents : List ℕ) (invariant : is_among parents id ≡ uncovers was s (take i xs) id) where
-  pub uncovers-one : (shows s x && is_new was x) ≡ true → is_among (put_id own_id x.parent parents) id ≡ uncovers was s (take (i + 1) xs) id
+module _ (was : Seen) (shown : Thread → Bool) (xs : List Thread) (i id : ℕ) (x : Thread) (lt : i < length xs) (is_x : get_or xs i x ≡ x) (parents : List ℕ) (invariant : is_among parents id ≡ uncovers_where was shown (take i xs) id) where
+  pub uncovers-one : (shown x && is_new was x) ≡ true → is_among (put_id own_id x.parent parents) id ≡ uncovers_where was shown (take (i + 1) xs) id
   uncovers-one is =
       has-put own_id x.parent id parents ∙ (ap (λ b. (x.parent == id) || b) invariant
-      ∙ (adds (x.parent == id) (uncovers was s (take i xs) id) (shows s x) (is_new was x) is ∙ sym (uncovers-more was s xs i id x lt here)))
+      ∙ (adds (x.parent == id) (uncovers_where was shown (take i xs) id) (shown x) (is_new was x) is ∙ sym (uncovers-more was shown xs i id x lt is_x)))
     where
-      adds : (at some shown new : Bool) → (shown && new) ≡ true → (at || some) ≡ (some || (shown && (at && new)))
-      adds at some shown new e = grind arith
+      adds : (at some here new : Bool) → (here && new) ≡ true → (at || some) ≡ (some || (here && (at && new)))
+      adds at some here new e = grind arith
 
-  pub uncovers-none : (shows s x && is_new was x) ≡ false → is_among parents id ≡ uncovers was s (take (i + 1) xs) id
-  uncovers-none is = invariant ∙ (leaves (x.parent == id) (uncovers was s (take i xs) id) (shows s x) (is_new was x) is ∙ sym (uncovers-more was s xs i id x lt here))
+  pub uncovers-none : (shown x && is_new was x) ≡ false → is_among parents id ≡ uncovers_where was shown (take (i + 1) xs) id
+  uncovers-none is = invariant ∙ (leaves (x.parent == id) (uncovers_where was shown (take i xs) id) (shown x) (is_new was x) is ∙ sym (uncovers-more was shown xs i id x lt is_x))
     where
-      leaves : (at some shown new : Bool) → (shown && new) ≡ false → some ≡ (some || (shown && (at && new)))
-      leaves at some shown new e = grind arith
+      leaves : (at some here new : Bool) → (here && new) ≡ false → some ≡ (some || (here && (at && new)))
+      leaves at some here new e = grind arith
 
 -- one more item that has a part, or has none
 pub parts-more : {X T M : Type 0} (part : T → Option M) (f : X → T) (xs : List X) (i : ℕ) (x : X) → i < length xs → get_or xs i x ≡ x
@@ -56,48 +59,63 @@ parts-more part f xs i x lt here =
     ∙ (filter_map-append part (map f (take i xs)) (f (get_or xs i x) ∷ [])
     ∙ ap (λ y. filter_map part (map f (take i xs)) ++ cons_option (part (f y)) []) here))
 
--- what is seen, worked out by the channels that are
-pub visible-parts : (g : Record) (me : Member) (channels threads : List ℕ) → IsById channel_id g.channels → channels ≡ map channel_id (filter (shows_channel (standing g me)) g.channels)
-    → threads ≡ map thread_id (filter (shows_in (standing g me) channels) g.threads) → record { channels = channels; threads = threads } ≡ visible_to g me
-visible-parts g me channels threads ascends is_channels is_threads =
-    ap (λ ids. record { channels = ids; threads = threads }) is_channels
-    ∙ ap (λ ids. record { channels = map channel_id (filter (shows_channel (standing g me)) g.channels); threads = ids }) (is_threads ∙ ap (map thread_id) (filter-alike (shows_in (standing g me) channels) (shows (standing g me)) alike g.threads))
-  where
-    both : (among active views rest : Bool) → among ≡ views → (among && (active && (views && rest))) ≡ (active && (views && rest))
-    both among active views rest e = grind arith
+-- what is seen and the sync, worked out by the sights of the channels
+module _ (g : Record) (me : Member) (ascends : IsById channel_id g.channels) where
+  abbrev pub stand : Standing
+  stand = standing g me
 
-    alike : (t : Thread) → shows_in (standing g me) channels t ≡ shows (standing g me) t
-    alike t =
-        both (is_among channels t.parent) (is_active t) (sees (standing g me) t.parent) _
-        (ap (λ ids. is_among ids t.parent) is_channels ∙ among-seen (standing g me) t.parent ascends)
+  shown-threads : filter (shows_among (sights stand)) g.threads ≡ seen_threads g me
+  shown-threads = filter-alike (shows_among (sights stand)) (shows stand) (shown-among stand ascends) g.threads
 
--- a gained parent is seen
-pub gained-seen : (was : Seen) (uncovered : ℕ → Bool) (s : Standing) (channels : List Channel) (id : ℕ) → IsById channel_id channels
-    → is_among (map channel_id (filter (is_gained was uncovered s) channels)) id ≡ true → sees s id ≡ true
-gained-seen was uncovered s channels id ascends among =
-    let parent = among-passed channel_id (is_gained was uncovered s) id channels ascends among in
-    subst (λ (k : ℕ). sees s k ≡ true) parent.1 (middle (has_threads parent.0.kind) (sees s parent.0.id) _ parent.2)
-  where
-    middle : (a b c : Bool) → (a && (b && c)) ≡ true → b ≡ true
-    middle a b c e = grind arith
+  pub visible-parts : (channels threads : List ℕ) → channels ≡ map sight_id (sights stand) → threads ≡ map thread_id (filter (shows_among (sights stand)) g.threads)
+      → record { channels = channels; threads = threads } ≡ visible_to g me
+  visible-parts channels threads is_channels is_threads =
+      ap (λ ids. record { channels = ids; threads = threads }) (is_channels ∙ seen-channels stand ascends)
+      ∙ ap (λ ids. record { channels = map channel_id (filter (shows_channel stand) g.channels); threads = ids }) (is_threads ∙ ap (map thread_id) shown-threads)
 
--- the sync, worked out by the parents of uncovered threads
-module _ (was : Seen) (g : Record) (me : Member) (uncovered gained : List ℕ) (is_uncovered : (id : ℕ) → is_among uncovered id ≡ uncovers was (standing g me) g.threads id)
-    (is : gained ≡ map channel_id (filter (is_gained was (is_among uncovered) (standing g me)) g.channels)) where
-  pub gained-parts : gained ≡ gained_parents was g me
-  gained-parts =
-      is ∙ ap (map channel_id) (filter-alike (is_gained was (is_among uncovered) (standing g me)) (is_gained was (uncovers was (standing g me) g.threads) (standing g me))
-      (λ c. ap (λ b. has_threads c.kind && (shows_channel (standing g me) c && (not (is_among was.channels c.id) || b))) (is_uncovered c.id)) g.channels)
+  -- `u`, `cs`, `ts` and `found`: the standing, the channels, the threads and the sights that the code has
+  module _ (was : Seen) (u : Standing) (cs : List Channel) (ts : List Thread) (found : List ChannelSight) (uncovered gained : List ℕ)
+      (is_u : u ≡ stand) (is_cs : cs ≡ g.channels) (is_ts : ts ≡ g.threads) (is_found : found ≡ seen_in u me.user.id cs)
+      (is_uncovered : (id : ℕ) → is_among uncovered id ≡ uncovers_where was (shows_among found) ts id)
+      (is_gained_by : gained ≡ map channel_id (filter (is_gained_where was (is_among uncovered) (is_in_sight found)) cs)) where
+    found-all : found ≡ sights stand
+    found-all = is_found ∙ (ap (λ v. seen_in v me.user.id cs) is_u ∙ ap (seen_in stand me.user.id) is_cs)
 
-  pub sync-none : gained ≡ [] → None ≡ sync_if_any g me (gained_parents was g me)
-  sync-none none = ap (sync_if_any g me) (sym none ∙ gained-parts)
+    uncovers-all : (id : ℕ) → is_among uncovered id ≡ uncovers was stand g.threads id
+    uncovers-all id =
+        is_uncovered id
+        ∙ (ap (λ ls. uncovers_where was (shows_among ls) ts id) found-all
+        ∙ (ap (λ xs. uncovers_where was (shows_among (sights stand)) xs id) is_ts
+        ∙ ap (list_any (λ (t : Thread). t.parent == id && is_new was t)) shown-threads))
 
-  pub sync-some : (length gained == 0) ≡ false → Some (sync_of g me gained) ≡ sync_if_any g me (gained_parents was g me)
-  sync-some some = by_parents gained some ∙ ap (sync_if_any g me) gained-parts
-    where
-      by_parents : (parents : List ℕ) → (length parents == 0) ≡ false → Some (sync_of g me parents) ≡ sync_if_any g me parents
-      by_parents [] e = absurd (cc)
-      by_parents (p ∷ ps) e = refl
+    gained-parts : gained ≡ gained_parents was g me
+    gained-parts =
+        is_gained_by
+        ∙ (ap (λ ls. map channel_id (filter (is_gained_where was (is_among uncovered) (is_in_sight ls)) cs)) found-all
+        ∙ (ap (λ xs. map channel_id (filter (is_gained_where was (is_among uncovered) (is_in_sight (sights stand))) xs)) is_cs
+        ∙ ap (map channel_id) (filter-alike (is_gained_where was (is_among uncovered) (is_in_sight (sights stand))) (is_gained was (uncovers was stand g.threads) stand)
+        (λ c. ap (λ b. has_threads c.kind && (b && (not (is_among was.channels c.id) || is_among uncovered c.id))) (in-sight stand ascends c.id)
+        ∙ ap (λ b. has_threads c.kind && (sees stand c.id && (not (is_among was.channels c.id) || b))) (uncovers-all c.id)) g.channels)))
 
-pub listed-parts : (g : Record) (me : Member) (parents : List ℕ) → filter (shows_in (standing g me) parents) g.threads ≡ threads_in g me parents
-listed-parts g me parents = sym (filter-both (λ (t : Thread). is_among parents t.parent) (shows (standing g me)) g.threads)
+    pub listed-parts : (parents : List ℕ) (ps : List Thread) → parents ≡ gained → ps ≡ filter (λ (t : Thread). is_among parents t.parent && shows_among found t) ts → ps ≡ threads_in g me gained
+    listed-parts parents ps is_parents is =
+        is ∙ (ap (λ qs. filter (λ (t : Thread). is_among qs t.parent && shows_among found t) ts) is_parents
+        ∙ (ap (λ ls. filter (λ (t : Thread). is_among gained t.parent && shows_among ls t) ts) found-all
+        ∙ (ap (filter (λ (t : Thread). is_among gained t.parent && shows_among (sights stand) t)) is_ts
+        ∙ (filter-alike (λ (t : Thread). is_among gained t.parent && shows_among (sights stand) t) (λ (t : Thread). is_among gained t.parent && shows stand t)
+        (λ t. ap (λ b. is_among gained t.parent && b) (shown-among stand ascends t)) g.threads
+        ∙ sym (filter-both (λ (t : Thread). is_among gained t.parent) (shows stand) g.threads)))))
+
+    pub sync-none : (length gained == 0) ≡ true → None ≡ sync_if_any g me (gained_parents was g me)
+    sync-none none = by_parents gained none ∙ ap (sync_if_any g me) gained-parts
+      where
+        by_parents : (parents : List ℕ) → (length parents == 0) ≡ true → None ≡ sync_if_any g me parents
+        by_parents [] e = refl
+        by_parents (p ∷ ps) e = grind (arith, nat_tests)
+
+    pub sync-some : (length gained == 0) ≡ false → Some (sync_of g me gained) ≡ sync_if_any g me (gained_parents was g me)
+    sync-some some = by_parents gained some ∙ ap (sync_if_any g me) gained-parts
+      where
+        by_parents : (parents : List ℕ) → (length parents == 0) ≡ false → Some (sync_of g me parents) ≡ sync_if_any g me parents
+        by_parents [] e = absurd (cc)
+        by_parents (p ∷ ps) e = refl

@@ -3,17 +3,17 @@
 use Rattle.std.specs.Prelude.{ℕ, List, [], ◌∷◌, map, filter, Bool, false, not, ◌&&◌, ◌||◌, ◌==◌, Option, Some, None, option_to_list, if◌then◌else◌}
 use Rattle.std.specs.List.{list_any}
 use Rattle.collections.specs.ById.{find_id}
-use Rattle.perm_bits.specs.Permissions.{manage_threads}
 use Rattle.guild_model.specs.declared.member.Member.{Member}
 use Rattle.guild_model.specs.declared.channel.Channel.{Channel}
 use Rattle.guild_model.specs.declared.thread.Thread.{Thread}
 use Rattle.guild_model.specs.Record.{Record, channel_id, thread_id}
 use Rattle.guild_model.specs.Consistent.{has_threads}
-use Rattle.guild_model.specs.Sight.{Standing, standing, granted, sees, is_private, is_in}
+use Rattle.guild_model.specs.Sight.{standing, sees}
 use Rattle.dispatch_types.specs.declared.dispatch.Dispatch.{Dispatch}
-use Rattle.dispatch_types.specs.Projection.{is_active, seen_threads}
+use Rattle.dispatch_types.specs.Projection.{seen_threads}
 use Rattle.thread_sync.specs.declared.seen.Seen.{Seen}
-use Rattle.thread_sync.specs.declared.in_channel.ChannelSight.{ChannelSight}
+use Rattle.thread_sync.specs.declared.channel_sight.ChannelSight.{ChannelSight}
+use Rattle.thread_sync.specs.ChannelSights.{shows_under}
 use Rattle.thread_sync.specs.Seen.{is_among}
 use Rattle.thread_sync.specs.Sync.{is_new, uncovers, is_gained, sync_if_any}
 
@@ -34,13 +34,7 @@ gained_in was s me channel = map channel_id (filter (is_gained was (uncovers was
 abbrev pub sync_in : Seen → Record → Member → ℕ → Option Dispatch
 sync_in was s me channel = sync_if_any s me (gained_in was s me channel)
 
--- what the code works out once for a channel, and goes by for each thread
-abbrev pub sight_in : Standing → ℕ → ChannelSight
-sight_in s channel = record { channel = channel; user = s.me.user.id; views = sees s channel; manages = granted s channel manage_threads }
-
-abbrev pub shows_under : ChannelSight → Thread → Bool
-shows_under l t = l.views && (stands_in l.channel t && (is_active t && (not (is_private t.kind) || l.manages || is_in l.user t)))
-
+-- whether it is, by the sight of the channel
 abbrev pub gains_in : Seen → ChannelSight → List Thread → Option Channel → Bool
 gains_in was l threads None = false
 gains_in was l threads (Some c) = has_threads c.kind && (l.views && (not (is_among was.channels l.channel) || list_any (λ (t : Thread). shows_under l t && is_new was t) threads))

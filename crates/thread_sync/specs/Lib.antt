@@ -1,5 +1,6 @@
 pub mod Sight
 pub mod Seen
 pub mod Sync
+pub mod ChannelSights
 pub mod InChannel
 pub mod Law

@@ -20,10 +20,6 @@ shows_channel s c = sees s c.id
 abbrev pub shows : Standing → Thread → Bool
 shows s t = is_active t && sees_in s t.parent t.kind (is_in s.me.user.id t)
 
--- an active thread that is seen, in one of some channels
-abbrev pub shows_in : Standing → List ℕ → Thread → Bool
-shows_in s channels t = is_among channels t.parent && shows s t
-
 abbrev pub sees_channel : Record → Member → Channel → Bool
 sees_channel s me c = shows_channel (standing s me) c
 

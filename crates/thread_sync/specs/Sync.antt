@@ -9,26 +9,32 @@ use Rattle.guild_model.specs.declared.channel.Channel.{Channel}
 use Rattle.guild_model.specs.declared.thread.Thread.{Thread}
 use Rattle.guild_model.specs.Record.{Record, member_id, channel_id, thread_member_id}
 use Rattle.guild_model.specs.Consistent.{has_threads}
-use Rattle.guild_model.specs.Sight.{Standing, standing, is_private}
+use Rattle.guild_model.specs.Sight.{Standing, standing, sees, is_private}
 use Rattle.dispatch_types.specs.declared.threads.ThreadMemberObject.{ThreadMemberObject}
 use Rattle.dispatch_types.specs.declared.dispatch.Dispatch.{Dispatch}
 use Rattle.dispatch_types.specs.declared.dispatch.Dispatch.TheVariants.{ThreadListSync}
 use Rattle.dispatch_types.specs.Objects.{thread_object, thread_member_object}
 use Rattle.dispatch_types.specs.Projection.{seen_threads}
 use Rattle.thread_sync.specs.declared.seen.Seen.{Seen}
-use Rattle.thread_sync.specs.Seen.{is_among, shows_channel, shows}
+use Rattle.thread_sync.specs.Seen.{is_among, shows}
 
 -- a private thread that was not seen before
 abbrev pub is_new : Seen → Thread → Bool
 is_new was t = is_private t.kind && not (is_among was.threads t.id)
 
 -- there is such a thread in a channel, and it is seen
+abbrev pub uncovers_where : Seen → (Thread → Bool) → List Thread → ℕ → Bool
+uncovers_where was shown threads channel = list_any (λ (t : Thread). t.parent == channel && is_new was t) (filter shown threads)
+
 abbrev pub uncovers : Seen → Standing → List Thread → ℕ → Bool
-uncovers was s threads channel = list_any (λ (t : Thread). t.parent == channel && is_new was t) (filter (shows s) threads)
+uncovers was s threads channel = uncovers_where was (shows s) threads channel
 
 -- a parent is gained where it is seen, and either was not seen before or has such a thread
+abbrev pub is_gained_where : Seen → (ℕ → Bool) → (ℕ → Bool) → Channel → Bool
+is_gained_where was uncovered sees c = has_threads c.kind && (sees c.id && (not (is_among was.channels c.id) || uncovered c.id))
+
 abbrev pub is_gained : Seen → (ℕ → Bool) → Standing → Channel → Bool
-is_gained was uncovered s c = has_threads c.kind && (shows_channel s c && (not (is_among was.channels c.id) || uncovered c.id))
+is_gained was uncovered s c = is_gained_where was uncovered (sees s) c
 
 abbrev pub gained_parents : Seen → Record → Member → List ℕ
 gained_parents was s me = map channel_id (filter (is_gained was (uncovers was (standing s me) s.threads) (standing s me)) s.channels)

@@ -3,69 +3,20 @@
 ghost use Rattle.std.specs.Prelude.{◌≡◌, ◌&&◌, [], ◌∷◌, IfOk, map, filter, if◌then◌else◌};
 ghost use Rattle.std.specs.List.{list_any};
 ghost use Rattle.collections.specs.ById.{find_id};
-ghost use Rattle.perm_bits.specs.Bits.{has_bit};
-ghost use Rattle.perm_bits.specs.Permissions.{view_channel, manage_threads};
 ghost use Rattle.guild_model.specs.Record.{channel_id, thread_id};
-ghost use Rattle.guild_model.specs.Sight.{standing};
 ghost use Rattle.thread_sync.specs.Sync.{is_new};
-ghost use Rattle.thread_sync.specs.InChannel.{visible_in, sync_in, sight_in, shows_under, gains_in};
+ghost use Rattle.thread_sync.specs.ChannelSights.{shows_under};
+ghost use Rattle.thread_sync.specs.InChannel.{visible_in, sync_in, gains_in};
 
+use crate::channel_sight::{ChannelSight, sight_in};
 use crate::seen::Seen;
 use crate::sync::sync_of;
 use collections::{ById, Seq};
 use dispatch_types::Dispatch;
 use guild_model::{Guild, Member, Thread};
 use overwrite_eval::StandingRef;
-use perm_bits::Perms;
 use snowflake_id::Snowflake;
 use std::alloc::{AllocError, Global};
-
-/// What a member is granted in one channel, as far as sight goes: whether it sees the channel, and
-/// whether all private threads in it (Permissions, VIEW_CHANNEL, MANAGE_THREADS).
-#[derive(Clone, Copy)]
-pub struct ChannelSight {
-    pub channel: Snowflake,
-    pub user: Snowflake,
-    pub views: bool,
-    pub manages: bool,
-}
-
-fn may_view(mask: Perms) -> bool
-    ensures { result ≡ has_bit mask view_channel }
-{
-    mask.has(Perms::VIEW_CHANNEL)
-}
-
-fn may_manage_threads(mask: Perms) -> bool
-    ensures { result ≡ has_bit mask manage_threads }
-{
-    mask.has(Perms::MANAGE_THREADS)
-}
-
-// A member's sight in a channel, from one mask.
-fn sight_in(guild: &Guild, me: &Member, channel: Snowflake) -> ChannelSight
-    ensures { result ≡ sight_in (standing guild.now me.now) channel }
-{
-    let mask = StandingRef::in_guild(guild, me).mask(channel);
-    ChannelSight {
-        channel,
-        user: me.user.id,
-        views: may_view(mask),
-        manages: may_manage_threads(mask),
-    }
-}
-
-impl ChannelSight {
-    // Whether a thread is an active one of the channel that is seen. Most stand elsewhere.
-    fn shows(&self, thread: &Thread) -> bool
-        ensures { result ≡ shows_under self.now thread.now }
-    {
-        self.views
-            && thread.parent == self.channel
-            && !thread.archived
-            && (!thread.kind.is_private() || self.manages || thread.members.contains(self.user.0))
-    }
-}
 
 fn shown_channel(alloc: Global, sight: &ChannelSight) -> Result<ById<Snowflake>, AllocError>
     ensures { IfOk result (λ ids. ids ≡ (if sight.now.views then sight.now.channel ∷ [] else [])) }
@@ -101,7 +52,8 @@ pub fn visible_in(
 ) -> Result<Seen, AllocError>
     ensures { IfOk result (λ seen. seen ≡ visible_in guild.now me.now channel) }
 {
-    let sight = sight_in(guild, me, channel);
+    let standing = StandingRef::in_guild(guild, me);
+    let sight = sight_in(&standing, me.user.id, channel);
     let channels = shown_channel(alloc, &sight)?;
     let threads = shown_threads(alloc, &sight, guild.threads.as_slice())?;
     let threads = ById::from_ascending(threads);
@@ -171,7 +123,8 @@ pub fn sync_in(
 ) -> Result<Option<Dispatch>, AllocError>
     ensures { IfOk result (λ told. told ≡ sync_in was.now guild.now me.now channel) }
 {
-    let sight = sight_in(guild, me, channel);
+    let standing = StandingRef::in_guild(guild, me);
+    let sight = sight_in(&standing, me.user.id, channel);
     if !gains(was, &sight, guild) {
         return Ok(None);
     }

@@ -1,6 +1,7 @@
 //! Which threads a change of permissions uncovers to a bot, and what a client then holds.
 #![tactic(auto)]
 
+pub mod channel_sight;
 pub mod in_channel;
 pub mod law;
 pub mod seen;

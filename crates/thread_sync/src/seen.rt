@@ -1,13 +1,14 @@
 //! What a viewer sees of a guild.
 
-ghost use Rattle.std.specs.Prelude.{◌≡◌, ℕ, true, IfOk, map, filter};
-ghost use Rattle.guild_model.specs.Record.{channel_id, thread_id};
-ghost use Rattle.guild_model.specs.Sight.{sees};
-ghost use Rattle.thread_sync.specs.Seen.{is_among, shows_channel, shows_in, visible_to, visible};
+ghost use Rattle.std.specs.Prelude.{◌≡◌, IfOk, map, filter};
+ghost use Rattle.guild_model.specs.Record.{thread_id};
+ghost use Rattle.thread_sync.specs.ChannelSights.{sight_id, shows_among};
+ghost use Rattle.thread_sync.specs.Seen.{visible_to, visible};
 
+use crate::channel_sight::{ChannelSight, shows_among, sights};
 use collections::ById;
 use dispatch_types::Viewer;
-use guild_model::{Channel, Guild, Member, Thread};
+use guild_model::{Guild, Member, Thread};
 use overwrite_eval::StandingRef;
 use snowflake_id::Snowflake;
 use std::alloc::{AllocError, Global};
@@ -19,43 +20,22 @@ pub struct Seen {
     pub threads: ById<Snowflake>,
 }
 
-// Whether a thread is active, seen, and in one of these channels, which are seen. A public one is seen
-// with its channel.
-pub(crate) fn shows_in(standing: &StandingRef, channels: &ById<Snowflake>, thread: &Thread) -> bool
-    requires { is_among channels.now thread.now.parent ≡ true → sees standing.now thread.now.parent ≡ true }
-    ensures { result ≡ shows_in standing.now channels.now thread.now }
+fn seen_channels(alloc: Global, sights: &[ChannelSight]) -> Result<Vec<Snowflake>, AllocError>
+    ensures { IfOk result (λ ids. ids.items ≡ map sight_id sights.now) }
 {
-    !thread.archived
-        && channels.contains(thread.parent.0)
-        && (!thread.kind.is_private() || standing.sees_thread(thread))
-}
-
-fn seen_channels(
-    alloc: Global,
-    standing: &StandingRef,
-    channels: &[Channel],
-) -> Result<Vec<Snowflake>, AllocError>
-    ensures { IfOk result (λ ids. ids.items ≡ map channel_id (filter (shows_channel standing.now) channels.now)) }
-{
-    channels
-        .iter()
-        .filter(|channel| standing.sees(channel.id))
-        .map(|channel| channel.id)
-        .collect(alloc)
+    sights.iter().map(|sight| sight.channel).collect(alloc)
 }
 
 fn seen_threads(
     alloc: Global,
-    standing: &StandingRef,
-    channels: &ById<Snowflake>,
+    sights: &ById<ChannelSight>,
     threads: &[Thread],
 ) -> Result<Vec<Snowflake>, AllocError>
-    requires { (id : ℕ) → is_among channels.now id ≡ true → sees standing.now id ≡ true }
-    ensures { IfOk result (λ ids. ids.items ≡ map thread_id (filter (shows_in standing.now channels.now) threads.now)) }
+    ensures { IfOk result (λ ids. ids.items ≡ map thread_id (filter (shows_among sights.now) threads.now)) }
 {
     threads
         .iter()
-        .filter(|thread| shows_in(standing, channels, thread))
+        .filter(|thread| shows_among(sights, thread))
         .map(|thread| thread.id)
         .collect(alloc)
 }
@@ -66,9 +46,10 @@ pub fn visible_to(alloc: Global, guild: &Guild, me: &Member) -> Result<Seen, All
     ensures { IfOk result (λ seen. seen ≡ visible_to guild.now me.now) }
 {
     let standing = StandingRef::in_guild(guild, me);
-    let channels = seen_channels(alloc, &standing, guild.channels.as_slice())?;
+    let sights = sights(alloc, &standing, me.user.id, guild.channels.as_slice())?;
+    let channels = seen_channels(alloc, sights.as_slice())?;
     let channels = ById::from_ascending(channels);
-    let threads = seen_threads(alloc, &standing, &channels, guild.threads.as_slice())?;
+    let threads = seen_threads(alloc, &sights, guild.threads.as_slice())?;
     let threads = ById::from_ascending(threads);
     Ok(Seen { channels, threads })
 }

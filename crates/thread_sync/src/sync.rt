@@ -4,12 +4,13 @@ ghost use Rattle.std.specs.Prelude.{◌≡◌, ℕ, ◌&&◌, ◌||◌, not, tru
 ghost use Rattle.std.specs.List.{list_any, filter_map};
 ghost use Rattle.guild_model.specs.Record.{channel_id};
 ghost use Rattle.guild_model.specs.Consistent.{has_threads};
-ghost use Rattle.guild_model.specs.Sight.{sees};
 ghost use Rattle.dispatch_types.specs.Objects.{thread_object};
-ghost use Rattle.thread_sync.specs.Seen.{is_among, shows_channel, shows, shows_in};
-ghost use Rattle.thread_sync.specs.Sync.{is_new, uncovers, is_gained, own_membership, listing, sync, uncovered};
+ghost use Rattle.thread_sync.specs.ChannelSights.{is_in_sight, shows_among};
+ghost use Rattle.thread_sync.specs.Seen.{is_among, shows_channel, shows};
+ghost use Rattle.thread_sync.specs.Sync.{is_new, uncovers_where, is_gained_where, own_membership, listing, sync, uncovered};
 
-use crate::seen::{Seen, shows_in};
+use crate::channel_sight::{ChannelSight, shows_among, sights};
+use crate::seen::Seen;
 use collections::{ById, Seq};
 use dispatch_types::{Dispatch, ThreadMemberObject, ThreadObject, Viewer};
 use guild_model::{Channel, Guild, Member, Thread};
@@ -18,27 +19,24 @@ use snowflake_id::Snowflake;
 use std::alloc::{AllocError, Global};
 
 // Whether a thread is an active private one that is seen, and was not seen before.
-fn is_uncovered(was: &Seen, standing: &StandingRef, thread: &Thread) -> bool
-    ensures { result ≡ (shows standing.now thread.now && is_new was.now thread.now) }
+fn is_uncovered(was: &Seen, sights: &ById<ChannelSight>, thread: &Thread) -> bool
+    ensures { result ≡ (shows_among sights.now thread.now && is_new was.now thread.now) }
 {
-    !thread.archived
-        && thread.kind.is_private()
-        && !was.threads.contains(thread.id.0)
-        && standing.sees_thread(thread)
+    thread.kind.is_private() && !was.threads.contains(thread.id.0) && shows_among(sights, thread)
 }
 
 // The parents of such threads.
 fn uncovered_parents(
     alloc: Global,
     was: &Seen,
-    standing: &StandingRef,
+    sights: &ById<ChannelSight>,
     threads: &[Thread],
 ) -> Result<ById<Snowflake>, AllocError>
-    ensures { IfOk result (λ parents. (id : ℕ) → is_among parents id ≡ uncovers was.now standing.now threads.now id) }
+    ensures { IfOk result (λ parents. (id : ℕ) → is_among parents id ≡ uncovers_where was.now (shows_among sights.now) threads.now id) }
 {
     let mut parents = ById::new(alloc);
     for thread in threads {
-        if is_uncovered(was, standing, thread) {
+        if is_uncovered(was, sights, thread) {
             parents.put(thread.parent)?;
         }
     }
@@ -48,45 +46,50 @@ fn uncovered_parents(
 fn is_gained(
     was: &Seen,
     uncovered: &ById<Snowflake>,
-    standing: &StandingRef,
+    sights: &ById<ChannelSight>,
     channel: &Channel,
 ) -> bool
-    ensures { result ≡ is_gained was.now (is_among uncovered.now) standing.now channel.now }
+    ensures { result ≡ is_gained_where was.now (is_among uncovered.now) (is_in_sight sights.now) channel.now }
 {
     channel.kind.has_threads()
         && (!was.channels.contains(channel.id.0) || uncovered.contains(channel.id.0))
-        && standing.sees(channel.id)
+        && sights.contains(channel.id.0)
 }
 
 fn gained_parents(
     alloc: Global,
     was: &Seen,
     uncovered: &ById<Snowflake>,
-    standing: &StandingRef,
+    sights: &ById<ChannelSight>,
     channels: &[Channel],
 ) -> Result<Vec<Snowflake>, AllocError>
-    ensures { IfOk result (λ ids. ids.items ≡ map channel_id (filter (is_gained was.now (is_among uncovered.now) standing.now) channels.now)) }
+    ensures { IfOk result (λ ids. ids.items ≡ map channel_id (filter (is_gained_where was.now (is_among uncovered.now) (is_in_sight sights.now)) channels.now)) }
 {
     channels
         .iter()
-        .filter(|channel| is_gained(was, uncovered, standing, channel))
+        .filter(|channel| is_gained(was, uncovered, sights, channel))
         .map(|channel| channel.id)
         .collect(alloc)
 }
 
-// The threads that are listed.
+// Whether a thread is listed: it is in one of these parents, active and seen.
+fn is_listed(sights: &ById<ChannelSight>, parents: &ById<Snowflake>, thread: &Thread) -> bool
+    ensures { result ≡ (is_among parents.now thread.now.parent && shows_among sights.now thread.now) }
+{
+    parents.contains(thread.parent.0) && shows_among(sights, thread)
+}
+
 fn listed<'a>(
     alloc: Global,
-    standing: &StandingRef,
+    sights: &ById<ChannelSight>,
     parents: &ById<Snowflake>,
     threads: &'a [Thread],
 ) -> Result<Vec<&'a Thread>, AllocError>
-    requires { (id : ℕ) → is_among parents.now id ≡ true → sees standing.now id ≡ true }
-    ensures { IfOk result (λ listed. map (λ thread. thread.now) listed.items ≡ filter (shows_in standing.now parents.now) threads.now) }
+    ensures { IfOk result (λ listed. map (λ thread. thread.now) listed.items ≡ filter (λ thread. is_among parents.now thread.parent && shows_among sights.now thread) threads.now) }
 {
     threads
         .iter()
-        .filter(|thread| shows_in(standing, parents, thread))
+        .filter(|thread| is_listed(sights, parents, thread))
         .collect(alloc)
 }
 
@@ -164,13 +167,14 @@ pub fn sync(
     let standing = StandingRef::in_guild(guild, me);
     let threads = guild.threads.as_slice();
     let channels = guild.channels.as_slice();
-    let uncovered = uncovered_parents(alloc, was, &standing, threads)?;
-    let gained = gained_parents(alloc, was, &uncovered, &standing, channels)?;
+    let sights = sights(alloc, &standing, me.user.id, channels)?;
+    let uncovered = uncovered_parents(alloc, was, &sights, threads)?;
+    let gained = gained_parents(alloc, was, &uncovered, &sights, channels)?;
     if gained.is_empty() {
         return Ok(None);
     }
     let parents = ById::from_ascending(Vec::from_slice(alloc, gained.as_slice())?);
-    let listed = listed(alloc, &standing, &parents, threads)?;
+    let listed = listed(alloc, &sights, &parents, threads)?;
     let told = Seq::from_vec(gained);
     let sync = sync_of(alloc, guild.id, me.user.id, told, listed.as_slice())?;
     Ok(Some(sync))
@@ -210,12 +214,22 @@ fn is_any_parent_new(was: &Seen, standing: &StandingRef, channels: &[Channel]) -
         .any(|channel| is_new_parent(was, standing, channel))
 }
 
-fn is_any_uncovered(was: &Seen, standing: &StandingRef, threads: &[Thread]) -> bool
+// Whether a thread is one that uncovers its parent, as `sync` has it.
+fn is_new_thread(was: &Seen, standing: &StandingRef, thread: &Thread) -> bool
+    ensures { result ≡ (shows standing.now thread.now && is_new was.now thread.now) }
+{
+    !thread.archived
+        && thread.kind.is_private()
+        && !was.threads.contains(thread.id.0)
+        && standing.sees_thread(thread)
+}
+
+fn is_any_thread_new(was: &Seen, standing: &StandingRef, threads: &[Thread]) -> bool
     ensures { result ≡ list_any (λ thread. shows standing.now thread && is_new was.now thread) threads.now }
 {
     threads
         .iter()
-        .any(|thread| is_uncovered(was, standing, thread))
+        .any(|thread| is_new_thread(was, standing, thread))
 }
 
 // Whether a member gains a parent.
@@ -224,7 +238,7 @@ fn gains(was: &Seen, guild: &Guild, me: &Member) -> bool
 {
     let standing = StandingRef::in_guild(guild, me);
     is_any_parent_new(was, &standing, guild.channels.as_slice())
-        || is_any_uncovered(was, &standing, guild.threads.as_slice())
+        || is_any_thread_new(was, &standing, guild.threads.as_slice())
 }
 
 /// Whether [`uncovered`] gives a sync.

@@ -1,5 +1,6 @@
 pub mod Logs
 pub mod Lists
+pub mod Picking
 pub mod Folds
 pub mod Sessions
 pub mod Greetings

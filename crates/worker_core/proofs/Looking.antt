@@ -1,5 +1,5 @@
 -- One session more is told an entry, and one entry more is looked at.
-use Rattle.std.proofs.Common.{◌≡◌, ℕ, ◌+◌, ◌<◌, List, [], ◌∷◌, ◌++◌, Bool, true, false, Some, length, map, take, drop, get_or, refl, sym, ap, ◌∙◌, append_assoc, arith}
+use Rattle.std.proofs.Common.{◌≡◌, ℕ, ◌+◌, ◌<◌, List, [], ◌∷◌, ◌++◌, Bool, true, false, Option, Some, None, length, map, take, drop, get_or, refl, sym, ap, ◌∙◌, append_assoc, arith}
 use Rattle.std.specs.Prelude.{◌||◌, flat_map, slice_get, option_map}
 use Rattle.std.specs.List.{list_any}
 use Rattle.std.proofs.lemmas.List.{length-map, length-take-le, take-append-drop}
@@ -8,7 +8,9 @@ use Rattle.guild_model.specs.Record.{Record}
 use Rattle.dispatch_types.specs.declared.dispatch.Dispatch.{Dispatch}
 use Rattle.dispatch_types.specs.declared.viewer.Viewer.{Viewer}
 use Rattle.dispatch_types.specs.Serves.{served}
-use Rattle.edit_apply.specs.Edits.{accepts, applied, after}
+use Rattle.std.specs.Option.{is_none}
+use Rattle.guild_model.specs.declared.verdict.Verdict.{Verdict}
+use Rattle.edit_apply.specs.Edits.{verdict, accepts, applied, after, after_verdict}
 use Rattle.edit_apply.specs.declared.Edit.{Edit}
 use Rattle.edit_events.specs.Due.{owed, due_between}
 use Rattle.edit_events.specs.Was.{was_of}
@@ -25,6 +27,8 @@ use Rattle.worker_core.specs.declared.io.StepFault.{StepFault}
 use Rattle.worker_core.specs.declared.io.StepFault.TheVariants.{Spent, Memory}
 use Rattle.worker_core.proofs.Lists.{append_none, map_join}
 use Rattle.worker_core.proofs.Kept.{any_join, flat_map_join}
+use Rattle.worker_core.specs.Audience.{Picks, picked_by, viewer_of}
+use Rattle.worker_core.proofs.Picking.{item_at, at_place, as_many_picked}
 use Rattle.worker_core.proofs.Telling.{split_at, get_at, last_taken, rest_dropped, past_no}
 
 -- the session at a place
@@ -39,13 +43,35 @@ here_at xs i lt =
     let found : slice_get xs i ≡ Some split.item = ap (λ ys. slice_get ys i) split.whole ∙ (ap (λ n. slice_get (split.front ++ split.item ∷ split.back) n) split.place ∙ get_at split.front split.item split.back) in
     record { item = split.item; found = found; read = get_or_from_slice_get xs i split.item split.item found }
 
--- the note of the session at a place
-pub note_at : (ns : List Was) (f : Session Replay → Was) (xs : List (Session Replay)) (i : ℕ) (x : Session Replay) (d : Was) → ns ≡ map f xs → slice_get xs i ≡ Some x → get_or ns i d ≡ f x
-note_at ns f xs i x d all found = get_or_from_slice_get ns i (f x) d (ap (λ ms. slice_get ms i) all ∙ (slice_get-map f xs i ∙ ap (option_map f) found))
+-- what is owed to the session at a place, where it is picked by its viewer
+pub owed_at : (s : Record) (e : Edit) (viewers : List Viewer) (whose : List ℕ) (told : List (List Dispatch)) (which : List ℕ) (xs : List (Session Replay)) (i k d : ℕ) → i < length xs → (here : Here xs i)
+    → Picks viewers whose (map viewer_of xs) → Picks told which (map (owed s e) viewers) → k ≡ get_or whose i d
+    → picked_by told (slice_get which k) ≡ Some (owed s e here.item.viewer)
+owed_at s e viewers whose told which xs i k d lt here audience picks is =
+    let v : Viewer = here.item.viewer in
+    let many : length whose ≡ length xs = as_many_picked viewers whose (map viewer_of xs) audience ∙ length-map xs viewer_of in
+    let place = item_at whose i (omega (arith, lt, many)) in
+    let same : k ≡ place.item = is ∙ get_or_from_slice_get whose i place.item d place.found in
+    let mine : slice_get (map viewer_of xs) i ≡ Some v = slice_get-map viewer_of xs i ∙ ap (option_map viewer_of) here.found in
+    let found : slice_get viewers k ≡ Some v =
+    ap (slice_get viewers) same ∙ (ap (picked_by viewers) (sym place.found) ∙ at_place viewers whose (map viewer_of xs) i v audience mine) in
+    at_place told which (map (owed s e) viewers) k (owed s e v) picks (slice_get-map (owed s e) viewers k ∙ ap (option_map (owed s e)) found)
 
-owed_accepted : (s : Record) (e : Edit) (v : Viewer) → accepts s e ≡ true → due_between (applied s e) v (was_of s v e) (served v (applied s e)) e ≡ owed s e v
+-- the viewers of sessions stay
+pub viewers_stay : (s : Record) (e : Edit) (xs : List (Session Replay)) → map viewer_of (map (told_more s e) xs) ≡ map viewer_of xs
+viewers_stay s e [] = refl
+viewers_stay s e (x ∷ xs) = ap (λ vs. x.viewer ∷ vs) (viewers_stay s e xs)
+
+pub owed_accepted : (s : Record) (e : Edit) (v : Viewer) → accepts s e ≡ true → due_between (applied s e) v (was_of s v e) (served v (applied s e)) e ≡ owed s e v
 unfolding owed
 owed_accepted s e v accepted = simp accepted refl
+
+pub after_accepted : (s : Record) (e : Edit) → accepts s e ≡ true → after s e ≡ applied s e
+after_accepted s e accepted = made (verdict s e) accepted
+  where
+    made : (v : Option Verdict) → is_none v ≡ true → after_verdict v s e ≡ applied s e
+    made None fine = refl
+    made (Some v) fine = absurd (cc)
 
 owed_refused : (s : Record) (e : Edit) (v : Viewer) → accepts s e ≡ false → owed s e v ≡ []
 unfolding owed
@@ -61,27 +87,17 @@ module _ (s : Record) (e : Edit) (old : State Replay) where
     pub out : outm ≡ before ++ all_written (flat_map (told_sends s e) (take i xs))
     pub counted : list_any (told_spends s e) (take i xs) ≡ false
 
-  module _ (g : Record) (was : Was) (mid : State Replay) (before outm : List Written) (i : ℕ) (lt : i < length xs) (here : Here xs i) (told : Told i mid before outm) where
-    abbrev due_to : Session Replay → List Dispatch
-    due_to y = due_between g y.viewer was (served y.viewer g) e
-
+  module _ (ds : List Dispatch) (mid : State Replay) (before outm : List Written) (i : ℕ) (lt : i < length xs) (here : Here xs i) (told : Told i mid before outm) (due : ds ≡ owed s e here.item.viewer) where
     between : IsAt i (map (told_more s e) (take i xs)) here.item (drop (i + 1) xs) mid
     between = (
       ap (λ (m : State Replay). m.sessions) told.sessions ∙ ap (λ ys. map (told_more s e) (take i xs) ++ ys) (rest_dropped xs i here.item lt here.read),
       sym (length-map (take i xs) (told_more s e) ∙ length-take-le i xs (omega arith)),
     )
 
-    same_due : g ≡ applied s e → accepts s e ≡ true → was ≡ was_of s here.item.viewer e → due_to here.item ≡ owed s e here.item.viewer
-    same_due is accepted noted =
-        ap (λ (w : Was). due_between g here.item.viewer w (served here.item.viewer g) e) noted
-        ∙ (ap (λ h. due_between h here.item.viewer (was_of s here.item.viewer e) (served here.item.viewer h) e) is ∙ owed_accepted s e here.item.viewer accepted)
-
-    pub each_more : g ≡ applied s e → accepts s e ≡ true → was ≡ was_of s here.item.viewer e → (new : State Replay) (out : List Written)
-        → TellsAt i due_to mid new outm out → Told (i + 1) new before out
-    each_more is accepted noted new out tells =
+    pub each_more : (new : State Replay) (out : List Written) → TellsAt i (λ x. ds) mid new outm out → Told (i + 1) new before out
+    each_more new out tells =
         let x = here.item in
         let step = tells (map (told_more s e) (take i xs)) (drop (i + 1) xs) x between in
-        let due = same_due is accepted noted in
         let taken = last_taken xs i x lt here.read in
         record {
           sessions = step.0
@@ -91,7 +107,7 @@ module _ (s : Record) (e : Edit) (old : State Replay) where
               (sym (append_assoc (map (told_more s e) (take i xs)) (told_more s e x ∷ []) (drop (i + 1) xs))
               ∙ ap (λ ys. ys ++ drop (i + 1) xs) (sym (map_join (told_more s e) (take i xs) (x ∷ [])) ∙ ap (map (told_more s e)) (sym taken)))));
           out = step.1.0
-              ∙ (ap (λ ws. ws ++ all_written (sends x.place x.sent.last (due_to x))) told.out
+              ∙ (ap (λ ws. ws ++ all_written (sends x.place x.sent.last ds)) told.out
               ∙ (ap (λ ds. (before ++ all_written (flat_map (told_sends s e) (take i xs))) ++ all_written (sends x.place x.sent.last ds)) due
               ∙ (append_assoc before (all_written (flat_map (told_sends s e) (take i xs))) (all_written (told_sends s e x))
               ∙ ap (λ ws. before ++ ws)
@@ -105,12 +121,11 @@ module _ (s : Record) (e : Edit) (old : State Replay) where
               ∙ (ap (λ b. b || list_any (told_spends s e) (x ∷ [])) told.counted ∙ ap (λ b. b || false) one));
         }
 
-    pub each_fails : g ≡ applied s e → accepts s e ≡ true → was ≡ was_of s here.item.viewer e → (fault : StepFault)
-        → FailsAt i due_to mid fault → FailsEach s e old fault
-    each_fails is accepted noted Memory fails = tt
-    each_fails is accepted noted Spent fails =
+    pub each_fails : (fault : StepFault) → FailsAt i (λ x. ds) mid fault → FailsEach s e old fault
+    each_fails Memory fails = tt
+    each_fails Spent fails =
         let x = here.item in
-        let past : told_spends s e x ≡ true = ap (λ ds. is_past x.sent.last (length ds)) (sym (same_due is accepted noted)) ∙ fails (map (told_more s e) (take i xs)) (drop (i + 1) xs) x between in
+        let past : told_spends s e x ≡ true = ap (λ ds. is_past x.sent.last (length ds)) (sym due) ∙ fails (map (told_more s e) (take i xs)) (drop (i + 1) xs) x between in
         let whole : xs ≡ take i xs ++ x ∷ drop (i + 1) xs = sym (take-append-drop i xs) ∙ ap (λ ys. take i xs ++ ys) (rest_dropped xs i x lt here.read) in
         ap (list_any (told_spends s e)) whole ∙ (any_join (told_spends s e) (take i xs) (x ∷ drop (i + 1) xs)
         ∙ (ap (λ b. list_any (told_spends s e) (take i xs) || (b || list_any (told_spends s e) (drop (i + 1) xs))) past

@@ -1,5 +1,5 @@
 -- Sessions by their places, and what a call that sends to them leaves.
-use Rattle.std.proofs.Common.{◌≡◌, ℕ, ◌+◌, ◌-◌, ◌^◌, ◌<◌, ◌≤◌, List, [], ◌∷◌, ◌++◌, true, false, Option, Some, suc, zero, length, take, drop, get_or, refl, sym, ap, ◌∙◌, append_assoc, arith}
+use Rattle.std.proofs.Common.{◌≡◌, ℕ, ◌+◌, ◌-◌, ◌^◌, ◌<◌, ◌≤◌, List, [], ◌∷◌, ◌++◌, true, false, Option, Some, Result, Ok, Err, MatchResult, OnOk, suc, zero, length, take, drop, get_or, refl, sym, ap, ◌∙◌, append_assoc, arith}
 use Rattle.std.specs.Prelude.{◌&&◌, nat_lt, slice_get, slice_set}
 use Rattle.std.specs.Prelude.{option_map}
 use Rattle.std.specs.Option.{option_map_or}
@@ -179,3 +179,8 @@ as_many_at place due old new before out lt told =
     let x = split.item in
     ap (λ (s : State Replay). length s.sessions) (told split.front split.back x (split.whole, split.place)).0
     ∙ (length-append split.front (further (due x) x ∷ split.back) ∙ (sym (length-append split.front (x ∷ split.back)) ∙ ap length (sym split.whole)))
+
+pub kept_many : (r : Result (Unit {0}) StepFault) (place : ℕ) (due : Session Replay → List Dispatch) (old new : State Replay) (before out : List Written) → place < length old.sessions
+    → MatchResult r (λ _. TellsAt place due old new before out) (FailsAt place due old) → OnOk r (length new.sessions ≡ length old.sessions)
+kept_many (Ok x) place due old new before out lt told = as_many_at place due old new before out lt told
+kept_many (Err fault) place due old new before out lt fails = tt

@@ -1,4 +1,5 @@
 pub mod Bodies
+pub mod Audience
 pub mod World
 pub mod Law
 pub mod Entries

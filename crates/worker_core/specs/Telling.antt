@@ -25,11 +25,6 @@ abbrev pub sent_to : Option ℕ → List ℕ → List Written
 sent_to None text = []
 sent_to (Some conn) text = Send conn text ∷ []
 
--- what was told is found where it is these dispatches
-abbrev pub IsFound : Option (List Dispatch) → List Dispatch → Type 0
-IsFound None ds = Unit {0}
-IsFound (Some told) ds = told ≡ ds
-
 -- with these dispatches more
 abbrev pub further : List Dispatch → Session Replay → Session Replay
 further ds x = record x { sent = pushed_all x.sent (texts_from x.sent.last ds) }

@@ -2,6 +2,7 @@
 //! every run, and the worker itself.
 #![tactic(auto)]
 
+mod audience;
 mod greet;
 pub mod io;
 pub mod law;

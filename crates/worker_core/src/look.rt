@@ -1,64 +1,39 @@
 //! The entries of a log, one after another, for each session.
 
-ghost use Rattle.std.specs.Prelude.{◌≡◌, ◌++◌, ◌<◌, true, false, length, map, IfOk, OnOk, MatchResult};
+ghost use Rattle.std.specs.Prelude.{◌≡◌, ◌++◌, true, false, length, map, IfOk, OnOk, MatchResult};
 ghost use Rattle.guild_model.specs.Record.{Record};
-ghost use Rattle.dispatch_types.specs.Serves.{served};
 ghost use Rattle.edit_apply.specs.Edits.{accepts, applied, after, state_from};
-ghost use Rattle.edit_events.specs.Due.{due_between};
 ghost use Rattle.edit_events.specs.Was.{was_of};
+ghost use Rattle.worker_core.specs.Audience.{Picks, viewer_of};
 ghost use Rattle.worker_core.specs.Kept.{kept_looked, kept_sends};
 ghost use Rattle.worker_core.specs.Outputs.{all_written};
 ghost use Rattle.worker_core.specs.Spent.{kept_spends};
-ghost use Rattle.worker_core.specs.Telling.{TellsAt, FailsAt, TellsEach, FailsEach, FaultBy, kept_with};
+ghost use Rattle.worker_core.specs.Telling.{TellsEach, FailsEach, FaultBy, kept_with};
 
+use crate::audience::Audience;
 use crate::io::{Output, StepFault};
-use crate::told::{Told, tell_owed};
+use crate::told::Owed;
+use dispatch_types::Viewer;
 use edit_apply::{Edit, apply, judge};
-use edit_events::{Was, events, note};
+use edit_events::{Was, note};
 use guild_model::Guild;
 use session_core::Sessions;
 use std::alloc::{AllocError, Global};
 
-/// What has to be known of the record before an entry, for each session by its place.
+/// What has to be known of the record before an entry, for each viewer by its place.
 fn notes(
     alloc: Global,
     guild: &Guild,
     entry: &Edit,
-    sessions: &Sessions,
+    viewers: &[Viewer],
 ) -> Result<Vec<Was>, AllocError>
-    ensures { IfOk result (λ notes. notes.items ≡ map (λ x. was_of guild.now x.viewer entry.now) sessions.now.sessions) }
+    ensures { IfOk result (λ notes. notes.items ≡ map (λ v. was_of guild.now v entry.now) viewers.now) }
 {
-    let mut notes = Vec::with_capacity(alloc, sessions.len())?;
-    for place in 0..sessions.len() {
-        let Some(viewer) = sessions.viewer_at(place) else {
-            return Ok(notes);
-        };
+    let mut notes = Vec::with_capacity(alloc, viewers.len())?;
+    for viewer in viewers {
         notes.push(note(alloc, guild, entry, viewer)?)?;
     }
     Ok(notes)
-}
-
-/// An accepted entry, told to the session at a place.
-fn tell_entry(
-    alloc: Global,
-    guild: &Guild,
-    entry: &Edit,
-    was: &Was,
-    told: &mut Vec<Told>,
-    sessions: &mut Sessions,
-    place: usize,
-    out: &mut Vec<Output>,
-) -> Result<(), StepFault>
-    requires { place < length sessions.old.sessions }
-    ensures { MatchResult result
-        (λ _. TellsAt place (λ x. due_between guild.now x.viewer was.now (served x.viewer guild.now) entry.now) sessions.old sessions.new out.old.items out.new.items)
-        (FailsAt place (λ x. due_between guild.now x.viewer was.now (served x.viewer guild.now) entry.now) sessions.old) }
-{
-    let Some(viewer) = sessions.viewer_at(place) else {
-        return Ok(());
-    };
-    let owed = events(alloc, guild, entry, was, viewer)?;
-    tell_owed(alloc, told, owed, sessions, place, out)
 }
 
 /// An accepted entry, told to each session, by the record after it and the notes of that before it.
@@ -67,17 +42,19 @@ fn tell_each(
     guild: &Guild,
     entry: &Edit,
     notes: &[Was],
+    audience: &Audience,
     sessions: &mut Sessions,
     out: &mut Vec<Output>,
 ) -> Result<(), StepFault>
-    requires { length notes.now ≡ length sessions.old.sessions }
-    ensures { (s : Record) → notes.now ≡ map (λ x. was_of s x.viewer entry.now) sessions.old.sessions → guild.now ≡ applied s entry.now → accepts s entry.now ≡ true
+    requires notes { length notes.now ≡ length audience.now.viewers.items }
+    requires audience { Picks audience.now.viewers.items audience.now.whose.items (map viewer_of sessions.old.sessions) }
+    ensures { (s : Record) → notes.now ≡ map (λ v. was_of s v entry.now) audience.now.viewers.items → guild.now ≡ applied s entry.now → accepts s entry.now ≡ true
         → MatchResult result (λ _. TellsEach s entry.now sessions.old sessions.new out.old.items out.new.items) (FailsEach s entry.now sessions.old) }
 {
-    let mut told = Vec::new(alloc);
-    for place in 0..notes.len() {
-        let was = &notes[place];
-        tell_entry(alloc, guild, entry, was, &mut told, sessions, place, out)?;
+    let owed = Owed::of(alloc, guild, entry, notes, audience.viewers.as_slice())?;
+    let whose = audience.whose.as_slice();
+    for place in 0..whose.len() {
+        owed.tell(alloc, whose[place], sessions, place, out)?;
     }
     Ok(())
 }
@@ -88,18 +65,28 @@ fn enter(
     alloc: Global,
     guild: &mut Guild,
     entry: &Edit,
+    audience: &Audience,
     sessions: &mut Sessions,
     out: &mut Vec<Output>,
 ) -> Result<(), StepFault>
+    requires { Picks audience.now.viewers.items audience.now.whose.items (map viewer_of sessions.old.sessions) }
     ensures guild { OnOk result (guild.new ≡ after guild.old entry.now) }
     ensures told { MatchResult result (λ _. TellsEach guild.old entry.now sessions.old sessions.new out.old.items out.new.items) (FailsEach guild.old entry.now sessions.old) }
 {
     if judge(guild, entry).is_err() {
         return Ok(());
     }
-    let notes = notes(alloc, guild, entry, sessions)?;
+    let notes = notes(alloc, guild, entry, audience.viewers.as_slice())?;
     let _ = apply(alloc, guild, entry.copy(alloc)?)?;
-    tell_each(alloc, guild, entry, notes.as_slice(), sessions, out)
+    tell_each(
+        alloc,
+        guild,
+        entry,
+        notes.as_slice(),
+        audience,
+        sessions,
+        out,
+    )
 }
 
 /// Entries in their order.
@@ -115,8 +102,9 @@ pub fn look(
     ensures out { OnOk result (out.new.items ≡ out.old.items ++ all_written (kept_sends guild.old entries.now sessions.old.sessions)) }
     ensures spent { MatchResult result (λ _. kept_spends guild.old entries.now sessions.old.sessions ≡ false) (FaultBy (kept_spends guild.old entries.now sessions.old.sessions)) }
 {
+    let audience = Audience::of(alloc, sessions)?;
     for entry in entries {
-        enter(alloc, guild, entry, sessions, out)?;
+        enter(alloc, guild, entry, &audience, sessions, out)?;
     }
     Ok(())
 }

@@ -1,20 +1,25 @@
 //! What sessions are told of one entry: the same text serves for all that are told the same.
 
-ghost use Rattle.std.specs.Prelude.{◌≡◌, ◌<◌, ◌↔◌, length, IsTrue, IfOk, MatchResult};
-ghost use Rattle.std.specs.Option.{option_copied};
-ghost use Rattle.worker_core.specs.Telling.{TellsAt, FailsAt, IsFound};
+ghost use Rattle.std.specs.Prelude.{◌≡◌, ◌<◌, ◌↔◌, Some, List, true, length, map, slice_get, IsTrue, IfOk, OnOk, MatchResult};
+ghost use Rattle.guild_model.specs.Record.{Record};
+ghost use Rattle.dispatch_types.specs.declared.dispatch.Dispatch.{Dispatch};
+ghost use Rattle.edit_apply.specs.Edits.{accepts, applied};
+ghost use Rattle.edit_events.specs.Due.{owed};
+ghost use Rattle.edit_events.specs.Was.{was_of};
+ghost use Rattle.worker_core.specs.Audience.{Picks, IsLonger, picked_by};
+ghost use Rattle.worker_core.specs.Telling.{TellsAt, FailsAt};
 
 use crate::io::{Output, StepFault};
 use crate::tell::{bodies_of, tell_written};
-use dispatch_types::Dispatch;
+use dispatch_types::{Dispatch, Viewer};
+use edit_apply::Edit;
+use edit_events::{Was, events};
 use event_json::Body;
+use guild_model::Guild;
 use same_views::same_list;
 use session_core::Sessions;
 use std::alloc::{AllocError, Global};
 use std::marker::Model;
-
-/// The most lists of dispatches whose texts are kept of an entry.
-const MOST_KEPT: usize = 8;
 
 /// Dispatches, and the text of each without its number.
 #[derive(Drop)]
@@ -60,45 +65,90 @@ impl Told {
         out: &mut Vec<Output>,
     ) -> Result<(), StepFault>
         requires { place < length sessions.old.sessions }
-        ensures { MatchResult result (λ _. TellsAt place (λ x. self.now) sessions.old sessions.new out.old.items out.new.items) (FailsAt place (λ x. self.now) sessions.old) }
+        ensures told { MatchResult result (λ _. TellsAt place (λ x. self.now) sessions.old sessions.new out.old.items out.new.items) (FailsAt place (λ x. self.now) sessions.old) }
+        ensures as_many { OnOk result (length sessions.new.sessions ≡ length sessions.old.sessions) }
     {
         let dispatches = self.dispatches.as_slice();
-        tell_written(alloc, sessions, place, dispatches, self.bodies.as_slice(), out)
+        tell_written(
+            alloc,
+            sessions,
+            place,
+            dispatches,
+            self.bodies.as_slice(),
+            out,
+        )
     }
 }
 
-// The one with these dispatches, if it is among these.
-fn find<'a>(told: &'a [Told], dispatches: &[Dispatch]) -> Option<&'a Told>
-    ensures { IsFound (option_copied result) dispatches.now }
-{
-    told.iter().find(|one| one.is(dispatches))
-}
-
-fn keep(told: &mut Vec<Told>, next: Told) -> Result<(), AllocError> {
-    if told.len() < MOST_KEPT {
-        told.push(next)?;
-    }
-    Ok(())
-}
-
-/// Tells the session at a place what is owed to it, by the texts that were written for another where
-/// it is the same.
-pub fn tell_owed(
+// The place of dispatches among some, to which they are added where they are not there.
+fn place_of(
     alloc: Global,
     told: &mut Vec<Told>,
-    owed: Vec<Dispatch>,
-    sessions: &mut Sessions,
-    place: usize,
-    out: &mut Vec<Output>,
-) -> Result<(), StepFault>
-    requires { place < length sessions.old.sessions }
-    ensures { MatchResult result (λ _. TellsAt place (λ x. owed.items) sessions.old sessions.new out.old.items out.new.items) (FailsAt place (λ x. owed.items) sessions.old) }
+    dispatches: Vec<Dispatch>,
+) -> Result<usize, AllocError>
+    ensures found { IfOk result (λ place. slice_get told.new.items place ≡ Some dispatches.items) }
+    ensures longer { OnOk result (IsLonger told.old.items told.new.items) }
 {
-    if let Some(same) = find(told.as_slice(), owed.as_slice()) {
-        return same.tell(alloc, sessions, place, out);
+    let found = told.iter().position(|one| one.is(dispatches.as_slice()));
+    if let Some(place) = found {
+        return Ok(place);
     }
-    let next = Told::of(alloc, owed)?;
-    next.tell(alloc, sessions, place, out)?;
-    keep(told, next)?;
-    Ok(())
+    let place = told.len();
+    told.push(Told::of(alloc, dispatches)?)?;
+    Ok(place)
+}
+
+/// What an entry owes to viewers: lists of dispatches, each once, and for each viewer, by its place,
+/// which of them is its.
+#[derive(Drop)]
+pub struct Owed {
+    pub told: Vec<Told>,
+    pub whose: Vec<usize>,
+}
+
+impl Owed {
+    /// What an accepted entry owes to each of the viewers, by the record after it and the notes of that
+    /// before it.
+    pub fn of(
+        alloc: Global,
+        guild: &Guild,
+        entry: &Edit,
+        notes: &[Was],
+        viewers: &[Viewer],
+    ) -> Result<Owed, AllocError>
+        requires { length notes.now ≡ length viewers.now }
+        ensures { IfOk result (λ o. (s : Record) → notes.now ≡ map (λ v. was_of s v entry.now) viewers.now → guild.now ≡ applied s entry.now → accepts s entry.now ≡ true
+            → Picks o.told.items o.whose.items (map (owed s entry.now) viewers.now)) }
+    {
+        let mut told = Vec::new(alloc);
+        let mut whose = Vec::with_capacity(alloc, viewers.len())?;
+        for place in 0..viewers.len() {
+            let owed = events(alloc, guild, entry, &notes[place], &viewers[place])?;
+            whose.push(place_of(alloc, &mut told, owed)?)?;
+        }
+        Ok(Owed { told, whose })
+    }
+
+    /// Tells the session at a place what is owed to the viewer at another.
+    pub fn tell(
+        &self,
+        alloc: Global,
+        viewer: usize,
+        sessions: &mut Sessions,
+        place: usize,
+        out: &mut Vec<Output>,
+    ) -> Result<(), StepFault>
+        requires { place < length sessions.old.sessions }
+        ensures as_many { OnOk result (length sessions.new.sessions ≡ length sessions.old.sessions) }
+        ensures told { (ds : List Dispatch) → picked_by self.now.told.items (slice_get self.now.whose.items viewer) ≡ Some ds
+            → MatchResult result (λ _. TellsAt place (λ x. ds) sessions.old sessions.new out.old.items out.new.items) (FailsAt place (λ x. ds) sessions.old) }
+    {
+        let Some(at) = self.whose.get(viewer) else {
+            return Ok(());
+        };
+        match self.told.get(*at) {
+            Some(told) => told.tell(alloc, sessions, place, out),
+            None => Ok(()),
+        }
+    }
 }

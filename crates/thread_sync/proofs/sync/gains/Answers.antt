@@ -30,5 +30,5 @@ returns-else-is_any_parent_new c =
     let threads : c.guild.inside.threads ≡ g.threads = ap (λ (g : Record). g.threads) c.guild.view_is in
     let ascends : IsById thread_id g.threads = subst (IsById thread_id) threads c.as_slice-else-is_any_parent_new.ensures.ascending in
     let new = c.is_any_parent_new.ensures ∙ (ap (λ s. any_new s c.as_slice.result.now) c.in_guild-standing.ensures ∙ ap (any_new s) (c.as_slice.ensures.items ∙ channels)) in
-    let uncovered = c.is_any_uncovered.ensures ∙ (ap (λ s. any_uncovered s c.as_slice-else-is_any_parent_new.result.now) c.in_guild-standing.ensures ∙ ap (any_uncovered s) (c.as_slice-else-is_any_parent_new.ensures.items ∙ threads)) in
+    let uncovered = c.is_any_thread_new.ensures ∙ (ap (λ s. any_uncovered s c.as_slice-else-is_any_parent_new.result.now) c.in_guild-standing.ensures ∙ ap (any_uncovered s) (c.as_slice-else-is_any_parent_new.ensures.items ∙ threads)) in
     uncovered ∙ sym (sync-either c.args.was.now g c.args.me.now (subst (λ (g : Record). IsConsistent g) c.guild.view_is c.guild.invariant) ascends ∙ ap (λ b. b || any_uncovered s g.threads) (sym new ∙ c.if-is_any_parent_new.false))

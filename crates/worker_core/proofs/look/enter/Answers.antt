@@ -1,12 +1,14 @@
 -- A refused entry tells nothing.
-use Rattle.std.proofs.Common.{◌≡◌, true, false, Option, Some, None, refl, sym, ap, ◌∙◌}
+use Rattle.std.proofs.Common.{◌≡◌, map, true, false, Option, Some, None, refl, sym, ap, ◌∙◌}
 use Rattle.std.specs.Option.{is_none}
 use Rattle.std.specs.Result.{is_err}
 use Rattle.guild_model.specs.declared.verdict.Verdict.{Verdict}
 use Rattle.guild_model.specs.Tests.{outcome}
-use Rattle.edit_apply.specs.Edits.{verdict}
+use Rattle.dispatch_types.specs.declared.viewer.Viewer.{Viewer}
+use Rattle.edit_apply.specs.Edits.{verdict, accepts, applied, after}
+use Rattle.edit_events.specs.Was.{was_of}
 use Rattle.worker_core.proofs.look.enter.Goals as goal
-use Rattle.worker_core.proofs.Looking.{none_told}
+use Rattle.worker_core.proofs.Looking.{none_told, after_accepted}
 
 refused_by : (v : Option Verdict) → is_err (outcome v) ≡ true → is_none v ≡ false
 refused_by None err = sym err
@@ -17,3 +19,15 @@ returns-then-is_err-clause-told c =
     let g = c.args.guild.now in
     let e = c.args.entry.now in
     none_told g e c.args.sessions.now (refused_by (verdict g e) (ap is_err (sym c.judge.ensures) ∙ (sym c.is_err.ensures.value ∙ c.if-is_err.true))) c.args.out.now.items
+
+accepted_by : (v : Option Verdict) → is_err (outcome v) ≡ false → is_none v ≡ true
+accepted_by None fine = refl
+accepted_by (Some v) fine = absurd (cc)
+
+pub returns-clause-told : goal.returns-clause-told
+returns-clause-told c =
+    let g = c.args.guild.now in
+    let e = c.args.entry.now in
+    let accepted : accepts g e ≡ true = accepted_by (verdict g e) (ap is_err (sym c.judge.ensures) ∙ (sym c.is_err.ensures.value ∙ c.if-is_err.false)) in
+    let made : c.apply.new.guild ≡ applied g e = c.in_ok-apply.ensures.record ∙ (ap (after g) c.in_ok-copy.ensures ∙ after_accepted g e accepted) in
+    c.tell_each.ensures g (c.as_slice-2.ensures.value ∙ (c.in_ok-notes.ensures ∙ ap (map (λ (v : Viewer). was_of g v e)) c.as_slice.ensures.value)) made accepted

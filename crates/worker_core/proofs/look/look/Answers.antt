@@ -1,6 +1,10 @@
 -- One entry more.
-use Rattle.std.proofs.Common.{◌≡◌, ◌∷◌, ◌++◌, ◌+◌, ◌<◌, List, length, drop, sym, ap, subst, ◌∙◌, arith}
+use Rattle.std.proofs.Common.{◌≡◌, map, ◌∷◌, ◌++◌, ◌+◌, ◌<◌, List, length, drop, sym, ap, subst, ◌∙◌, arith}
 use Rattle.std.proofs.lemmas.Result.{err_from_is_err_and}
+use Rattle.dispatch_types.specs.declared.viewer.Viewer.{Viewer}
+use Rattle.replay_ring.specs.Replay.{Replay}
+use Rattle.session_core.specs.State.{State}
+use Rattle.worker_core.specs.Audience.{Picks, viewer_of}
 use Rattle.edit_apply.specs.Edits.{state_from}
 use Rattle.edit_apply.specs.declared.Edit.{Edit}
 use Rattle.worker_core.specs.declared.io.StepFault.{StepFault}
@@ -10,7 +14,7 @@ use Rattle.worker_core.specs.Spent.{kept_spends}
 use Rattle.worker_core.specs.Telling.{FaultBy, kept_with}
 use Rattle.worker_core.proofs.look.look.Goals as goal
 use Rattle.worker_core.proofs.Telling.{rest_dropped}
-use Rattle.worker_core.proofs.Looking.{looked_more, sent_more, spent_more, spent_first}
+use Rattle.worker_core.proofs.Looking.{looked_more, sent_more, spent_more, spent_first, viewers_stay}
 
 pub returns-in_err-enter-clause-spent : goal.returns-in_err-enter-clause-spent
 returns-in_err-enter-clause-spent c =
@@ -21,7 +25,7 @@ returns-in_err-enter-clause-spent c =
     let lt : i < length es = omega arith in
     let rest = rest_dropped es i e lt (sym c.entry-item.is) in
     let fault : StepFault = c.in_err-enter.field-0.0 in
-    let p = err_from_is_err_and c.from_residual.result c.from_residual.ensures.1 in
+    let p = err_from_is_err_and c.from_residual-in_err-enter.result c.from_residual-in_err-enter.ensures.1 in
     rw p.1 (subst (λ (f : StepFault). FaultBy (kept_spends c.args.guild.now es c.args.sessions.now.sessions) f) (sym p.2)
     (subst (λ b. FaultBy b fault) c.loop-entry.invariant.spent
     (subst (λ (ds : List Edit). FaultBy (kept_spends g ds c.loop-entry.sessions.sessions) fault) (sym rest)
@@ -40,6 +44,8 @@ loop-entry-preserved c =
     let told = c.in_ok-enter.ensures.told in
     let now = c.in_ok-enter.ensures.guild in
     record {
+      audience = subst (λ (vs : List Viewer). Picks c.in_ok-audience.audience.viewers.items c.in_ok-audience.audience.whose.items vs)
+          (sym (ap (λ (n : State Replay). map viewer_of n.sessions) told.0 ∙ viewers_stay g e s.sessions)) c.loop-entry.invariant.audience;
       guild = ap (λ h. state_from h later) now ∙ (ap (state_from g) (sym rest) ∙ c.loop-entry.invariant.guild);
       sessions = ap (λ h. kept_with (kept_looked h later c.enter.new.sessions.sessions) c.enter.new.sessions) now
           ∙ (looked_more g e later s c.enter.new.sessions c.loop-entry.out.items c.enter.new.out.items told
@@ -51,3 +57,6 @@ loop-entry-preserved c =
           ∙ (spent_more g e later s c.enter.new.sessions c.loop-entry.out.items c.enter.new.out.items told
           ∙ (ap (λ (ds : List Edit). kept_spends g ds s.sessions) (sym rest) ∙ c.loop-entry.invariant.spent));
     }
+
+pub enter-requires : goal.enter-requires
+enter-requires c = c.loop-entry.invariant.audience

@@ -1,8 +1,8 @@
+-- the notes so far
 use Rattle.std.proofs.Common.{◌≡◌, map, take}
-use Rattle.replay_ring.specs.Replay.{Replay}
-use Rattle.session_core.specs.State.{Session}
+use Rattle.dispatch_types.specs.declared.viewer.Viewer.{Viewer}
 use Rattle.edit_events.specs.Was.{was_of}
 use Rattle.worker_core.proofs.look.notes.Given as goal
 
-abbrev pub invariant-loop-place : goal.invariant-loop-place
-invariant-loop-place l = l.notes.items ≡ map (λ (x : Session Replay). was_of l.guild x.viewer l.entry) (take l.place l.sessions.sessions)
+abbrev pub invariant-loop-viewer : goal.invariant-loop-viewer
+invariant-loop-viewer l = l.notes.items ≡ map (λ (v : Viewer). was_of l.guild v l.entry) (take l.viewer-index l.viewers)

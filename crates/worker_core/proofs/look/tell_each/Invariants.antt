@@ -2,8 +2,7 @@ use Rattle.std.proofs.Common.{◌≡◌, true, false, ◌++◌, map, take, drop,
 use Rattle.std.specs.Prelude.{flat_map}
 use Rattle.std.specs.List.{list_any}
 use Rattle.guild_model.specs.Record.{Record}
-use Rattle.replay_ring.specs.Replay.{Replay}
-use Rattle.session_core.specs.State.{Session}
+use Rattle.dispatch_types.specs.declared.viewer.Viewer.{Viewer}
 use Rattle.edit_apply.specs.Edits.{accepts, applied}
 use Rattle.edit_events.specs.Was.{was_of}
 use Rattle.worker_core.specs.Kept.{told_more, told_sends}
@@ -14,7 +13,7 @@ use Rattle.worker_core.proofs.look.tell_each.Given as goal
 
 abbrev pub invariant-loop-place : goal.invariant-loop-place
 invariant-loop-place l = record {
-  told : (s : Record) → l.notes ≡ map (λ (x : Session Replay). was_of s x.viewer l.entry) l.fn.sessions.sessions → l.guild ≡ applied s l.entry → accepts s l.entry ≡ true
+  told : (s : Record) → l.notes ≡ map (λ (v : Viewer). was_of s v l.entry) l.audience.viewers.items → l.guild ≡ applied s l.entry → accepts s l.entry ≡ true
       → (l.sessions ≡ kept_with (map (told_more s l.entry) (take l.place l.fn.sessions.sessions) ++ drop l.place l.fn.sessions.sessions) l.fn.sessions)
       × ((l.out.items ≡ l.fn.out.items ++ all_written (flat_map (told_sends s l.entry) (take l.place l.fn.sessions.sessions)))
       × (list_any (told_spends s l.entry) (take l.place l.fn.sessions.sessions) ≡ false));

@@ -1,0 +1,112 @@
+//! What a member is granted in a channel, as far as sight goes, from one mask a channel.
+
+ghost use Rattle.std.specs.Prelude.{◌≡◌, IfOk};
+ghost use Rattle.collections.specs.ById.{IsById};
+ghost use Rattle.perm_bits.specs.Bits.{has_bit};
+ghost use Rattle.perm_bits.specs.Permissions.{view_channel, manage_threads};
+ghost use Rattle.guild_model.specs.Record.{channel_id};
+ghost use Rattle.thread_sync.specs.ChannelSights.{sight_in, shows_under, seen_in, shows_among};
+
+use collections::{ById, Keyed};
+use guild_model::{Channel, Thread};
+use overwrite_eval::StandingRef;
+use perm_bits::Perms;
+use snowflake_id::Snowflake;
+use std::alloc::{AllocError, Global};
+
+/// What a member is granted in one channel, as far as sight goes: whether it sees the channel, and
+/// whether all private threads in it (Permissions, VIEW_CHANNEL, MANAGE_THREADS).
+#[derive(Clone, Copy)]
+pub struct ChannelSight {
+    pub channel: Snowflake,
+    pub user: Snowflake,
+    pub views: bool,
+    pub manages: bool,
+}
+
+impl Keyed for ChannelSight {
+    ghost key = { λ l. l.channel };
+
+    fn key(&self) -> u64 {
+        self.channel.0
+    }
+}
+
+fn may_view(mask: Perms) -> bool
+    ensures { result ≡ has_bit mask view_channel }
+{
+    mask.has(Perms::VIEW_CHANNEL)
+}
+
+fn may_manage_threads(mask: Perms) -> bool
+    ensures { result ≡ has_bit mask manage_threads }
+{
+    mask.has(Perms::MANAGE_THREADS)
+}
+
+// The sight of a user's member in a channel.
+pub(crate) fn sight_in(standing: &StandingRef, user: Snowflake, channel: Snowflake) -> ChannelSight
+    ensures { result ≡ sight_in standing.now user channel }
+{
+    let mask = standing.mask(channel);
+    ChannelSight {
+        channel,
+        user,
+        views: may_view(mask),
+        manages: may_manage_threads(mask),
+    }
+}
+
+impl ChannelSight {
+    // Whether a thread is an active one of the channel that is seen. Most stand elsewhere.
+    pub(crate) fn shows(&self, thread: &Thread) -> bool
+        ensures { result ≡ shows_under self.now thread.now }
+    {
+        self.views
+            && thread.parent == self.channel
+            && !thread.archived
+            && (!thread.kind.is_private() || self.manages || thread.members.contains(self.user.0))
+    }
+}
+
+fn seen_in(
+    alloc: Global,
+    standing: &StandingRef,
+    user: Snowflake,
+    channels: &[Channel],
+) -> Result<Vec<ChannelSight>, AllocError>
+    ensures { IfOk result (λ sights. sights.items ≡ seen_in standing.now user channels.now) }
+{
+    channels
+        .iter()
+        .map(|channel| sight_in(standing, user, channel.id))
+        .filter(|sight| sight.views)
+        .collect(alloc)
+}
+
+// The sights of a user's member in those channels that it sees, ascending.
+pub(crate) fn sights(
+    alloc: Global,
+    standing: &StandingRef,
+    user: Snowflake,
+    channels: &[Channel],
+) -> Result<ById<ChannelSight>, AllocError>
+    requires { IsById channel_id channels.now }
+    ensures { IfOk result (λ found. found ≡ seen_in standing.now user channels.now) }
+{
+    let seen = seen_in(alloc, standing, user, channels)?;
+    Ok(ById::from_ascending(seen))
+}
+
+// Whether a thread is active and seen, by the sights of the member.
+pub(crate) fn shows_among(sights: &ById<ChannelSight>, thread: &Thread) -> bool
+    ensures { result ≡ shows_among sights.now thread.now }
+{
+    if thread.archived {
+        return false;
+    }
+    match sights.get(thread.parent.0) {
+        Some(sight) => sight.shows(thread),
+        None => false,
+    }
+}
