@@ -179,7 +179,7 @@ fn refused_edits_are_written(rt: HostRuntime) -> Result<(), Fail> {
 fn a_sink_that_fails_keeps_what_it_took(rt: HostRuntime) -> Result<(), Fail> {
     let alloc = rt.alloc();
     let bytes = joined(alloc, &[HEADS, IDENTIFY, RENAME])?;
-    let mut house = house(alloc, bytes, 1 << 16, Vec::new(alloc))?;
+    let mut house = house(alloc, bytes, HEADS.len(), Vec::new(alloc))?;
     let mut sink = MemSink::new(alloc, 1 << 20, [2].to_vec(alloc)?);
     answers(
         &rt,

@@ -1,35 +1,77 @@
 -- Fronts of texts that were written.
-use Rattle.std.proofs.Common.{◌≡◌, ℕ, List, [], ◌∷◌, ◌++◌, length, take, drop, get_or, ◌<◌, suc, refl, sym, ap, ◌∙◌, append_assoc, take-append-drop}
-use Rattle.std.specs.Prelude.{flat_map}
-use Rattle.std.proofs.lemmas.Grind.{flat_map-append}
-use Rattle.std.proofs.Math.Seq.{split_at}
+use Rattle.std.proofs.Common.{◌≡◌, ℕ, List, [], ◌++◌, take, drop, sym, ap, ◌∙◌, subst, append_assoc, append-nil, take-append-drop}
 use Rattle.std.specs.declared.option.Option.{Option}
 use Rattle.std.specs.Io.KnownBytes.{Appends}
 use Rattle.std.proofs.KnownBytes.{Appends-trans, Appends-nil}
 use Rattle.gate_outside.specs.Streams.{AppendsPart}
-use Rattle.scenario.specs.Played.{AppendsFront}
+use Rattle.scenario.specs.Played.{AppendsFront, Carries, CarriesFront}
 
 pub part_front : (got0 got1 : Option (List ℕ)) (text : List ℕ) → AppendsPart got0 got1 text → AppendsFront got0 got1 text
 part_front got0 got1 text h = (take h.0 text, drop h.0 text, take-append-drop h.0 text, h.2)
 
--- nothing was written
-pub no_front : (got : Option (List ℕ)) (text : List ℕ) → AppendsFront got got text
-no_front got text = ([], text, refl, Appends-nil got)
+-- ---- what waits
 
--- all of the first text, and a front of the second
-pub front_after : (got0 got1 got2 : Option (List ℕ)) (text more : List ℕ) → Appends got0 got1 text → AppendsFront got1 got2 more → AppendsFront got0 got2 (text ++ more)
-front_after got0 got1 got2 text more wrote h =
-    (text ++ h.0, h.1, append_assoc text h.0 h.1 ∙ ap (λ l. text ++ l) h.2, Appends-trans got0 got1 got2 text h.0 wrote h.3)
+-- more was put
+pub puts : (got : Option (List ℕ)) (waits0 waits1 text : List ℕ) → waits1 ≡ waits0 ++ text → Carries got got waits1 (waits0 ++ text)
+puts got waits0 waits1 text is = record { sent = []; is = is; wrote = Appends-nil got }
+
+-- a front of it was put
+pub puts_front : (got : Option (List ℕ)) (waits back text : List ℕ) → waits ++ back ≡ text → CarriesFront got got waits text
+puts_front got waits back text is = record { sent = []; back = back; is = is; wrote = Appends-nil got }
+
+-- what waited was written
+pub sends_all : (got0 got1 : Option (List ℕ)) (waits0 waits1 : List ℕ) → Appends got0 got1 waits0 → waits1 ≡ [] → Carries got0 got1 waits1 waits0
+sends_all got0 got1 waits0 waits1 wrote none = record { sent = waits0; is = ap (λ l. waits0 ++ l) none ∙ append-nil waits0; wrote = wrote }
+
+-- a front of it was
+sends_front : (got0 got1 : Option (List ℕ)) (waits0 waits1 : List ℕ) → AppendsFront got0 got1 waits0 → waits1 ≡ [] → CarriesFront got0 got1 waits1 waits0
+sends_front got0 got1 waits0 waits1 h none = record { sent = h.0; back = h.1; is = ap (λ l. (h.0 ++ l) ++ h.1) none ∙ (ap (λ l. l ++ h.1) (append-nil h.0) ∙ h.2); wrote = h.3 }
+
+pub carries_more : (got0 got1 got2 : Option (List ℕ)) (waits1 waits2 text more : List ℕ) → Carries got0 got1 waits1 text → Carries got1 got2 waits2 (waits1 ++ more) → Carries got0 got2 waits2 (text ++ more)
+carries_more got0 got1 got2 waits1 waits2 text more first second = record {
+  sent = first.sent ++ second.sent;
+  is = append_assoc first.sent second.sent waits2 ∙ (ap (λ l. first.sent ++ l) second.is ∙ (sym (append_assoc first.sent waits1 more) ∙ ap (λ l. l ++ more) first.is));
+  wrote = Appends-trans got0 got1 got2 first.sent second.sent first.wrote second.wrote;
+}
+
+-- then a front of more
+pub front_of_more : (got0 got1 got2 : Option (List ℕ)) (waits1 waits2 text more : List ℕ) → Carries got0 got1 waits1 text → CarriesFront got1 got2 waits2 (waits1 ++ more) → CarriesFront got0 got2 waits2 (text ++ more)
+front_of_more got0 got1 got2 waits1 waits2 text more first second = record {
+  sent = first.sent ++ second.sent;
+  back = second.back;
+  is = ap (λ l. l ++ second.back) (append_assoc first.sent second.sent waits2) ∙ (append_assoc first.sent (second.sent ++ waits2) second.back
+      ∙ (ap (λ l. first.sent ++ l) second.is ∙ (sym (append_assoc first.sent waits1 more) ∙ ap (λ l. l ++ more) first.is)));
+  wrote = Appends-trans got0 got1 got2 first.sent second.sent first.wrote second.wrote;
+}
 
 -- a front of the first text alone
-pub front_before : (got0 got1 : Option (List ℕ)) (text more : List ℕ) → AppendsFront got0 got1 text → AppendsFront got0 got1 (text ++ more)
-front_before got0 got1 text more h = (h.0, h.1 ++ more, sym (append_assoc h.0 h.1 more) ∙ ap (λ l. l ++ more) h.2, h.3)
+pub front_before : (got0 got1 : Option (List ℕ)) (waits text more : List ℕ) → CarriesFront got0 got1 waits text → CarriesFront got0 got1 waits (text ++ more)
+front_before got0 got1 waits text more h =
+    record { sent = h.sent; back = h.back ++ more; is = sym (append_assoc (h.sent ++ waits) h.back more) ∙ ap (λ l. l ++ more) h.is; wrote = h.wrote }
 
--- the texts of the first items, and a front of the next one's
-pub front_at : {A : Type 0} (f : A → List ℕ) (xs : List A) (i : ℕ) (x : A) (got0 got1 got2 : Option (List ℕ)) → i < length xs → x ≡ get_or xs i x
-    → Appends got0 got1 (flat_map f (take i xs)) → AppendsFront got1 got2 (f x) → AppendsFront got0 got2 (flat_map f xs)
-front_at f xs i x got0 got1 got2 h is wrote front =
-    let split : flat_map f xs ≡ flat_map f (take i xs) ++ (f x ++ flat_map f (drop (suc i) xs)) =
-    ap (flat_map f) (split_at xs i x h) ∙ (flat_map-append f (take i xs) (get_or xs i x ∷ drop (suc i) xs)
-    ∙ ap (λ y. flat_map f (take i xs) ++ (f y ++ flat_map f (drop (suc i) xs))) (sym is)) in
-    rw split (front_after got0 got1 got2 (flat_map f (take i xs)) (f x ++ flat_map f (drop (suc i) xs)) wrote (front_before got1 got2 (f x) (flat_map f (drop (suc i) xs)) front))
+pub carries_front : (got0 got1 : Option (List ℕ)) (waits text : List ℕ) → Carries got0 got1 waits text → CarriesFront got0 got1 waits text
+carries_front got0 got1 waits text h = record { sent = h.sent; back = []; is = append-nil (h.sent ++ waits) ∙ h.is; wrote = h.wrote }
+
+-- ---- then what waits is written
+
+pub all_sent : (got0 got1 got2 : Option (List ℕ)) (waits text : List ℕ) → Carries got0 got1 waits text → Appends got1 got2 waits → Appends got0 got2 text
+all_sent got0 got1 got2 waits text h wrote = subst (λ (l : List ℕ). Appends got0 got2 l) h.is (Appends-trans got0 got1 got2 h.sent waits h.wrote wrote)
+
+pub front_sent : (got0 got1 got2 : Option (List ℕ)) (waits text : List ℕ) → CarriesFront got0 got1 waits text → AppendsFront got1 got2 waits → AppendsFront got0 got2 text
+front_sent got0 got1 got2 waits text h front = (
+  h.sent ++ front.0,
+  front.1 ++ h.back,
+  sym (append_assoc (h.sent ++ front.0) front.1 h.back) ∙ (ap (λ l. l ++ h.back) (append_assoc h.sent front.0 front.1 ∙ ap (λ l. h.sent ++ l) front.2) ∙ h.is),
+  Appends-trans got0 got1 got2 h.sent front.0 h.wrote front.3,
+)
+
+pub all_front : (got0 got1 : Option (List ℕ)) (text : List ℕ) → Appends got0 got1 text → AppendsFront got0 got1 text
+all_front got0 got1 text wrote = (text, [], append-nil text, wrote)
+
+-- what waits is not written
+pub front_left : (got0 got1 : Option (List ℕ)) (waits text : List ℕ) → CarriesFront got0 got1 waits text → AppendsFront got0 got1 text
+front_left got0 got1 waits text h = (h.sent, waits ++ h.back, sym (append_assoc h.sent waits h.back) ∙ h.is, h.wrote)
+
+-- nothing waits
+pub all_written : (got0 got1 : Option (List ℕ)) (waits text : List ℕ) → waits ≡ [] → Carries got0 got1 waits text → Appends got0 got1 text
+all_written got0 got1 waits text none h = subst (λ (l : List ℕ). Appends got0 got1 l) (sym (append-nil h.sent) ∙ (sym (ap (λ l. h.sent ++ l) none) ∙ h.is)) h.wrote

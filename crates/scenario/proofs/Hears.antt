@@ -1,8 +1,6 @@
 -- One line, as it is read and played.
-use Rattle.std.proofs.Common.{◌≡◌, ◌⊎◌, ℕ, List, [], ◌++◌, false, Option, Some, None, Result, Ok, Err, OnOk, if◌then◌else◌, inl, inr, refl, sym, ap, ◌∙◌, subst}
+use Rattle.std.proofs.Common.{◌≡◌, ◌⊎◌, ℕ, List, [], ◌++◌, false, Option, Some, None, Result, Ok, Err, OnOk, if◌then◌else◌, inl, inr, refl, sym, ap, ◌∙◌, subst, append-nil}
 use Rattle.std.specs.declared.option.Option.{Option as Known}
-use Rattle.std.specs.Io.KnownBytes.{Appends}
-use Rattle.std.proofs.KnownBytes.{Appends-nil}
 use Rattle.gate_outside.specs.declared.faults.Fault.{Fault}
 use Rattle.gate_outside.specs.declared.faults.Fault.TheVariants as outside
 use Rattle.edit_text.specs.declared.fault.LineFault.{LineFault}
@@ -20,8 +18,8 @@ use Rattle.scenario.specs.Player.{Player, with_line, line_sends, played}
 use Rattle.scenario.specs.Texts.{refused_text}
 use Rattle.scenario.specs.Transcript.{outputs_text, Ending, Whole, Spends, line_refusal, line_text, line_spends, line_ending, read_text, read_ending, after_read, heard_text, heard_ending}
 use Rattle.scenario.specs.Stands.{Stands, PlaysNot}
-use Rattle.scenario.specs.Played.{fault_of, step_fault, AppendsFront, answer_text, Ends, Hears}
-use Rattle.scenario.proofs.Fronts.{no_front}
+use Rattle.scenario.specs.Played.{fault_of, step_fault, Carries, CarriesFront, answer_text, Leaves, Hears}
+use Rattle.scenario.proofs.Fronts.{puts, puts_front}
 
 -- ---- what was read
 
@@ -35,13 +33,14 @@ read_err result answer f is other (inr same) = sym same ∙ is
 
 -- ---- a line that is played
 
-pub fails_ends : (fault : StepFault) (p : Player) (line : Line) (number : ℕ) (got : Known (List ℕ)) → PlaysNot p line fault → Ends got got (line_text p number line) (line_ending p line) (step_fault fault)
-fails_ends step.Spent p line number got h = (no_front got (line_text p number line), ap (λ b. if b then Spends else Whole) h)
-fails_ends step.Memory p line number got h = no_front got (line_text p number line)
+pub fails_ends : (fault : StepFault) (p : Player) (line : Line) (number : ℕ) (got : Known (List ℕ)) (waits : List ℕ) → PlaysNot p line fault
+    → Leaves got got waits (waits ++ line_text p number line) (line_ending p line) (step_fault fault)
+fails_ends step.Spent p line number got waits h = (puts_front got waits (line_text p number line) (waits ++ line_text p number line) refl, ap (λ b. if b then Spends else Whole) h)
+fails_ends step.Memory p line number got waits h = puts_front got waits (line_text p number line) (waits ++ line_text p number line) refl
 
-pub write_ends : (fault : Fault) (got0 got1 : Known (List ℕ)) (text : List ℕ) (end : Ending) → AppendsFront got0 got1 text → Ends got0 got1 text end (fault_of fault)
-write_ends outside.Failed got0 got1 text end h = h
-write_ends outside.Memory got0 got1 text end h = h
+pub write_ends : (fault : Fault) (got0 got1 : Known (List ℕ)) (waits text : List ℕ) (end : Ending) → CarriesFront got0 got1 waits text → Leaves got0 got1 waits text end (fault_of fault)
+write_ends outside.Failed got0 got1 waits text end h = h
+write_ends outside.Memory got0 got1 waits text end h = h
 
 pub text_is : (p : Player) (number : ℕ) (line : Line) (a : Answer) → a.refusal ≡ line_refusal p line → a.outputs.items ≡ line_sends p line → answer_text (with_line p line) number a ≡ line_text p number line
 text_is p number line a refusal outputs =
@@ -49,27 +48,28 @@ text_is p number line a refusal outputs =
 
 -- ---- a line that is heard
 
-module _ (r : StepReader) (p : Player) (bytes : List ℕ) (number : ℕ) (counted : number ≡ (reader_after r bytes).lines) (got0 got1 : Known (List ℕ)) where
+module _ (r : StepReader) (p : Player) (bytes : List ℕ) (number : ℕ) (counted : number ≡ (reader_after r bytes).lines) (got0 got1 : Known (List ℕ)) (waits0 waits1 : List ℕ) where
   HearsAs : Result (Option Line) LineFault → ℕ → Stage → Type 0
-  HearsAs o n new = Stands new (after_read p o) × (Appends got0 got1 (read_text p n o) × (read_ending p n o ≡ Whole))
+  HearsAs o n new = Stands new (after_read p o) × (Carries got0 got1 waits1 (waits0 ++ read_text p n o) × (read_ending p n o ≡ Whole))
 
-  pub hears_line : (new : Stage) (line : Line) → line_of r bytes ≡ Ok (Some line) → Stands new (played p line) → Appends got0 got1 (line_text p number line) → line_spends p line ≡ false
-      → Hears r p bytes got0 got1 new
+  pub hears_line : (new : Stage) (line : Line) → line_of r bytes ≡ Ok (Some line) → Stands new (played p line) → Carries got0 got1 waits1 (waits0 ++ line_text p number line) → line_spends p line ≡ false
+      → Hears r p bytes got0 got1 waits0 waits1 new
   unfolding HearsAs
   hears_line new line is stands wrote spends =
       subst (λ o. HearsAs o (reader_after r bytes).lines new) (sym is)
       (subst (λ n. HearsAs (Ok (Some line)) n new) counted (stands, (wrote, ap (λ b. if b then Spends else Whole) spends)))
 
-  pub hears_blank : (new : Stage) → line_of r bytes ≡ Ok None → Stands new p → got1 ≡ got0 → Hears r p bytes got0 got1 new
+  pub hears_blank : (new : Stage) → line_of r bytes ≡ Ok None → Stands new p → got1 ≡ got0 → waits1 ≡ waits0 → Hears r p bytes got0 got1 waits0 waits1 new
   unfolding HearsAs
-  hears_blank new is stands same =
-      subst (λ o. HearsAs o (reader_after r bytes).lines new) (sym is) (stands, (subst (λ g. Appends got0 g []) (sym same) (Appends-nil got0), refl))
+  hears_blank new is stands same wait =
+      let nothing : Carries got0 got0 waits1 (waits0 ++ []) = puts got0 waits0 waits1 [] (wait ∙ sym (append-nil waits0)) in
+      subst (λ o. HearsAs o (reader_after r bytes).lines new) (sym is) (stands, (subst (λ (g : Known (List ℕ)). Carries got0 g waits1 (waits0 ++ [])) (sym same) nothing, refl))
 
-  pub ends_as : (o : Result (Option Line) LineFault) (fault : PlayFault) → line_of r bytes ≡ o → Ends got0 got1 (read_text p number o) (read_ending p number o) fault
-      → Ends got0 got1 (heard_text r p bytes) (heard_ending r p bytes) fault
+  pub ends_as : (o : Result (Option Line) LineFault) (fault : PlayFault) → line_of r bytes ≡ o → Leaves got0 got1 waits1 (waits0 ++ read_text p number o) (read_ending p number o) fault
+      → Leaves got0 got1 waits1 (waits0 ++ heard_text r p bytes) (heard_ending r p bytes) fault
   ends_as o fault is ends =
-      subst (λ a. Ends got0 got1 (read_text p (reader_after r bytes).lines a) (read_ending p (reader_after r bytes).lines a) fault) (sym is)
-      (subst (λ n. Ends got0 got1 (read_text p n o) (read_ending p n o) fault) counted ends)
+      subst (λ a. Leaves got0 got1 waits1 (waits0 ++ read_text p (reader_after r bytes).lines a) (read_ending p (reader_after r bytes).lines a) fault) (sym is)
+      (subst (λ n. Leaves got0 got1 waits1 (waits0 ++ read_text p n o) (read_ending p n o) fault) counted ends)
 
 -- ---- what a reader has read
 

@@ -3,6 +3,8 @@ pub mod Fronts
 pub mod Follows
 pub mod Stops
 pub mod Bytes
+pub mod Feeding
+pub mod Settling
 pub mod Hears
 pub mod Plays
 pub mod Seats

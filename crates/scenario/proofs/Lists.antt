@@ -1,7 +1,8 @@
 -- The lines among bytes, as more bytes come.
-use Rattle.std.proofs.Common.{◌≡◌, ℕ, List, [], ◌∷◌, ◌++◌, Bool, true, false, refl, sym, ap, ◌∙◌, append_assoc, append-nil}
+use Rattle.std.proofs.Common.{◌≡◌, ◌≢◌, ℕ, ◌<◌, suc, List, [], ◌∷◌, ◌++◌, Bool, true, false, length, refl, sym, ap, ◌∙◌, append_assoc, append-nil, length-append, arith}
 use Rattle.std.specs.Prelude.{◌==◌, if◌then◌else◌}
-use Rattle.scenario.specs.Lines.{whole_from, tail_from, whole_lines, tail, last_line, lines_of}
+use Rattle.std.proofs.lemmas.Bool.Decides.{nat_tests}
+use Rattle.scenario.specs.Lines.{whole_from, tail_from, whole_lines, tail, last_line, lines_of, IsPiece}
 
 pub whole-more : (xs part ys : List ℕ) → whole_from part (xs ++ ys) ≡ whole_from part xs ++ whole_from (tail_from part xs) ys
 whole-more [] part ys = refl
@@ -22,20 +23,41 @@ tail-more (b ∷ xs) part ys = by_feed (b == 10) (λ p. tail-more xs p ys)
     by_feed true rest = rest []
     by_feed false rest = rest (part ++ b ∷ [])
 
--- ---- one more byte
+-- ---- a piece of a line
 
-pub whole_feed : (bytes : List ℕ) → whole_lines (bytes ++ 10 ∷ []) ≡ whole_lines bytes ++ tail bytes ∷ []
-whole_feed bytes = whole-more bytes [] (10 ∷ [])
+first_byte : (b : ℕ) (xs : List ℕ) → IsPiece (b ∷ xs) → (b == 10) ≡ false
+first_byte b xs h = let differs : b ≢ 10 = h 0 (omega arith) in grind (arith, nat_tests, differs)
 
-pub tail_feed : (bytes : List ℕ) → tail (bytes ++ 10 ∷ []) ≡ []
-tail_feed bytes = tail-more bytes [] (10 ∷ [])
+later_bytes : (b : ℕ) (xs : List ℕ) → IsPiece (b ∷ xs) → IsPiece xs
+later_bytes b xs h k below = h (suc k) (omega arith)
 
-pub whole_byte : (bytes : List ℕ) (b : ℕ) → (b == 10) ≡ false → whole_lines (bytes ++ b ∷ []) ≡ whole_lines bytes
-whole_byte bytes b differs =
-    whole-more bytes [] (b ∷ []) ∙ (ap (λ t. whole_lines bytes ++ (if t then tail bytes ∷ [] else [])) differs ∙ append-nil (whole_lines bytes))
+whole_piece : (xs part ys : List ℕ) → IsPiece xs → whole_from part (xs ++ ys) ≡ whole_from (part ++ xs) ys
+whole_piece [] part ys h = ap (λ l. whole_from l ys) (sym (append-nil part))
+whole_piece (b ∷ xs) part ys h =
+    ap (λ t. if t then part ∷ whole_from [] (xs ++ ys) else whole_from (part ++ b ∷ []) (xs ++ ys)) (first_byte b xs h)
+    ∙ (whole_piece xs (part ++ b ∷ []) ys (later_bytes b xs h) ∙ ap (λ l. whole_from l ys) (append_assoc part (b ∷ []) xs))
 
-pub tail_byte : (bytes : List ℕ) (b : ℕ) → (b == 10) ≡ false → tail (bytes ++ b ∷ []) ≡ tail bytes ++ b ∷ []
-tail_byte bytes b differs = tail-more bytes [] (b ∷ []) ∙ ap (λ t. if t then [] else tail bytes ++ b ∷ []) differs
+tail_piece : (xs part ys : List ℕ) → IsPiece xs → tail_from part (xs ++ ys) ≡ tail_from (part ++ xs) ys
+tail_piece [] part ys h = ap (λ l. tail_from l ys) (sym (append-nil part))
+tail_piece (b ∷ xs) part ys h =
+    ap (λ t. if t then tail_from [] (xs ++ ys) else tail_from (part ++ b ∷ []) (xs ++ ys)) (first_byte b xs h)
+    ∙ (tail_piece xs (part ++ b ∷ []) ys (later_bytes b xs h) ∙ ap (λ l. tail_from l ys) (append_assoc part (b ∷ []) xs))
+
+-- the line ends with it
+pub whole_line : (bytes piece : List ℕ) → IsPiece piece → whole_lines (bytes ++ (piece ++ 10 ∷ [])) ≡ whole_lines bytes ++ (tail bytes ++ piece) ∷ []
+whole_line bytes piece h = whole-more bytes [] (piece ++ 10 ∷ []) ∙ ap (λ ls. whole_lines bytes ++ ls) (whole_piece piece (tail bytes) (10 ∷ []) h)
+
+pub tail_line : (bytes piece : List ℕ) → IsPiece piece → tail (bytes ++ (piece ++ 10 ∷ [])) ≡ []
+tail_line bytes piece h = tail-more bytes [] (piece ++ 10 ∷ []) ∙ tail_piece piece (tail bytes) (10 ∷ []) h
+
+-- the line goes on after it
+pub whole_part : (bytes piece : List ℕ) → IsPiece piece → whole_lines (bytes ++ piece) ≡ whole_lines bytes
+whole_part bytes piece h =
+    whole-more bytes [] piece ∙ (ap (λ l. whole_lines bytes ++ whole_from (tail bytes) l) (sym (append-nil piece))
+    ∙ (ap (λ ls. whole_lines bytes ++ ls) (whole_piece piece (tail bytes) [] h) ∙ append-nil (whole_lines bytes)))
+
+pub tail_part : (bytes piece : List ℕ) → IsPiece piece → tail (bytes ++ piece) ≡ tail bytes ++ piece
+tail_part bytes piece h = tail-more bytes [] piece ∙ (ap (tail_from (tail bytes)) (sym (append-nil piece)) ∙ tail_piece piece (tail bytes) [] h)
 
 -- ---- all lines
 
@@ -49,9 +71,9 @@ lines-more bytes rest =
     ∙ (ap (λ t. (whole_lines bytes ++ whole_from (tail bytes) rest) ++ last_line t) (tail-more bytes [] rest)
     ∙ append_assoc (whole_lines bytes) (whole_from (tail bytes) rest) (last_line (tail_from (tail bytes) rest)))
 
-last_some : (part : List ℕ) (b : ℕ) → last_line (part ++ b ∷ []) ≡ (part ++ b ∷ []) ∷ []
-last_some [] b = refl
-last_some (c ∷ part) b = refl
+last_some : (part : List ℕ) → 0 < length part → last_line part ≡ part ∷ []
+last_some [] h = absurd (omega arith)
+last_some (b ∷ part) h = refl
 
 -- a line that has begun is a front of the first line
 pub record Begins (part : List ℕ) (lines : List (List ℕ)) : Type 0 where
@@ -59,12 +81,14 @@ pub record Begins (part : List ℕ) (lines : List (List ℕ)) : Type 0 where
   pub later : List (List ℕ)
   pub is : lines ≡ (part ++ more) ∷ later
 
-pub begun : (rest part : List ℕ) (b : ℕ) → Begins (part ++ b ∷ []) (lines_from (part ++ b ∷ []) rest)
-begun [] part b = record { more = []; later = []; is = last_some part b ∙ ap (λ l. l ∷ []) (sym (append-nil (part ++ b ∷ []))) }
-begun (c ∷ rest) part b = by_feed (c == 10) (begun rest (part ++ b ∷ []) c)
+longer : (part : List ℕ) (b : ℕ) → 0 < length (part ++ b ∷ [])
+longer part b = simp length-append (omega arith)
+
+pub begun : (rest part : List ℕ) → 0 < length part → Begins part (lines_from part rest)
+begun [] part h = record { more = []; later = []; is = last_some part h ∙ ap (λ l. l ∷ []) (sym (append-nil part)) }
+begun (c ∷ rest) part h = by_feed (c == 10) (begun rest (part ++ c ∷ []) (longer part c))
   where
-    by_feed : (t : Bool) → Begins ((part ++ b ∷ []) ++ c ∷ []) (lines_from ((part ++ b ∷ []) ++ c ∷ []) rest)
-        → Begins (part ++ b ∷ []) ((if t then (part ++ b ∷ []) ∷ whole_from [] rest else whole_from ((part ++ b ∷ []) ++ c ∷ []) rest)
-        ++ last_line (if t then tail_from [] rest else tail_from ((part ++ b ∷ []) ++ c ∷ []) rest))
-    by_feed true later = record { more = []; later = lines_from [] rest; is = ap (λ l. l ∷ lines_from [] rest) (sym (append-nil (part ++ b ∷ []))) }
-    by_feed false later = record { more = c ∷ later.more; later = later.later; is = later.is ∙ ap (λ l. l ∷ later.later) (append_assoc (part ++ b ∷ []) (c ∷ []) later.more) }
+    by_feed : (t : Bool) → Begins (part ++ c ∷ []) (lines_from (part ++ c ∷ []) rest)
+        → Begins part ((if t then part ∷ whole_from [] rest else whole_from (part ++ c ∷ []) rest) ++ last_line (if t then tail_from [] rest else tail_from (part ++ c ∷ []) rest))
+    by_feed true later = record { more = []; later = lines_from [] rest; is = ap (λ l. l ∷ lines_from [] rest) (sym (append-nil part)) }
+    by_feed false later = record { more = c ∷ later.more; later = later.later; is = later.is ∙ ap (λ l. l ∷ later.later) (append_assoc part (c ∷ []) later.more) }

@@ -2,8 +2,6 @@
 use Rattle.std.proofs.Common.{◌≡◌, ℕ, ◌+◌, ◌<◌, List, [], ◌∷◌, ◌++◌, Bool, true, false, Option, Some, None, Result, Ok, Err, length, refl, sym, ap, ◌∙◌, append_assoc, append-nil, length-append, arith}
 use Rattle.std.specs.Prelude.{if◌then◌else◌, nat_lt, not, ◌||◌}
 use Rattle.std.specs.declared.option.Option.{Option as Known}
-use Rattle.std.specs.Io.KnownBytes.{Appends}
-use Rattle.std.proofs.KnownBytes.{Appends-trans}
 use Rattle.std.proofs.lemmas.Bool.Decides.{nat_tests}
 use Rattle.edit_text.specs.declared.fault.LineFault.{LineFault}
 use Rattle.edit_text.specs.declared.fault.LineFault.TheVariants.{TooLong}
@@ -17,7 +15,8 @@ use Rattle.scenario.specs.Player.{Player, first_player}
 use Rattle.scenario.specs.declared.stage.Stage.{Stage}
 use Rattle.scenario.specs.Transcript.{first_reader, Ending, Whole, Stops, Spends, is_read, read_text, read_ending, heard, heard_text, heard_ending, then_ending, text_from, ending_from, reader_from, player_from, line_spends, text_of, ending_of, reader_of, player_of}
 use Rattle.scenario.specs.Stands.{Stands}
-use Rattle.scenario.specs.Played.{AppendsFront, Ends, Hears}
+use Rattle.scenario.specs.Played.{Carries, CarriesFront, Leaves, Hears, IsCounted}
+use Rattle.scenario.proofs.Fronts.{carries_more, front_of_more, front_before}
 
 -- ---- lines that do not end the play
 
@@ -74,27 +73,24 @@ then_nothing Spends = refl
 -- ---- the line that ends the play
 
 -- a text and its ending, in the midst of a longer text
-pub ends_within : (fault : PlayFault) (got got0 got1 : Known (List ℕ)) (before text back full : List ℕ) (end all : Ending)
-    → Appends got got0 before → full ≡ before ++ (text ++ back)
+pub ends_within : (fault : PlayFault) (got got0 got1 : Known (List ℕ)) (waits0 waits1 before text back full : List ℕ) (end all : Ending)
+    → Carries got got0 waits0 before → full ≡ before ++ (text ++ back)
     → ((n : ℕ) (f : LineFault) → end ≡ Stops n f → (back ≡ []) × (all ≡ Stops n f)) → (end ≡ Spends → all ≡ Spends)
-    → Ends got0 got1 text end fault → Ends got got1 full all fault
-ends_within fault got got0 got1 before text back full end all wrote is stops spends ends = by_fault fault ends
+    → Leaves got0 got1 waits1 (waits0 ++ text) end fault → Leaves got got1 waits1 full all fault
+ends_within fault got got0 got1 waits0 waits1 before text back full end all wrote is stops spends ends = by_fault fault ends
   where
-    front : AppendsFront got0 got1 text → AppendsFront got got1 full
-    front h = (
-      before ++ h.0,
-      h.1 ++ back,
-      append_assoc before h.0 (h.1 ++ back) ∙ (ap (λ l. before ++ l) (sym (append_assoc h.0 h.1 back) ∙ ap (λ l. l ++ back) h.2) ∙ sym is),
-      Appends-trans got got0 got1 before h.0 wrote h.3,
-    )
+    front : CarriesFront got0 got1 waits1 (waits0 ++ text) → CarriesFront got got1 waits1 full
+    front h =
+        let more : CarriesFront got0 got1 waits1 (waits0 ++ (text ++ back)) = rw (append_assoc waits0 text back) at (front_before got0 got1 waits1 (waits0 ++ text) back h) in
+        rw is (front_of_more got got0 got1 waits0 waits1 before (text ++ back) wrote more)
 
-    by_fault : (fault : PlayFault) → Ends got0 got1 text end fault → Ends got got1 full all fault
+    by_fault : (fault : PlayFault) → Leaves got0 got1 waits1 (waits0 ++ text) end fault → Leaves got got1 waits1 full all fault
     by_fault play.Read h = h
     by_fault play.Write h = front h
     by_fault (play.Line n f) h =
         let both = stops n f h.1 in
         let whole : full ≡ before ++ text = is ∙ ap (λ l. before ++ l) (ap (λ b. text ++ b) both.0 ∙ append-nil text) in
-        (rw whole (Appends-trans got got0 got1 before text wrote h.0), both.1)
+        (rw whole (carries_more got got0 got1 waits0 waits1 before text wrote h.0), both.1)
     by_fault play.Spent h = (front h.0, spends h.1)
     by_fault play.Memory h = front h
 
@@ -111,16 +107,16 @@ stops_unread p m (Err fault) n f e = refl
 after : StepReader → Player → List ℕ → List (List ℕ) → List ℕ
 after r p line later = if is_read (line_of r line) then text_from (reader_after r line) (heard r p line) later else []
 
-pub ends_among : (fault : PlayFault) (xs : List (List ℕ)) (line : List ℕ) (later : List (List ℕ)) (got got0 got1 : Known (List ℕ))
-    → ending_of xs ≡ Whole → Appends got got0 (text_of xs)
-    → Ends got0 got1 (heard_text (reader_of xs) (player_of xs) line) (heard_ending (reader_of xs) (player_of xs) line) fault
-    → Ends got got1 (text_of (xs ++ line ∷ later)) (ending_of (xs ++ line ∷ later)) fault
+pub ends_among : (fault : PlayFault) (xs : List (List ℕ)) (line : List ℕ) (later : List (List ℕ)) (got got0 got1 : Known (List ℕ)) (waits0 waits1 : List ℕ)
+    → ending_of xs ≡ Whole → Carries got got0 waits0 (text_of xs)
+    → Leaves got0 got1 waits1 (waits0 ++ heard_text (reader_of xs) (player_of xs) line) (heard_ending (reader_of xs) (player_of xs) line) fault
+    → Leaves got got1 waits1 (text_of (xs ++ line ∷ later)) (ending_of (xs ++ line ∷ later)) fault
 unfolding after
-ends_among fault xs line later got got0 got1 goes wrote ends =
+ends_among fault xs line later got got0 got1 waits0 waits1 goes wrote ends =
     let r : StepReader = reader_of xs in
     let p : Player = player_of xs in
     let end : ending_of (xs ++ line ∷ later) ≡ then_ending (heard_ending r p line) (ending_from (reader_after r line) (heard r p line) later) = ending-more xs first_reader first_player (line ∷ later) goes in
-    ends_within fault got got0 got1 (text_of xs) (heard_text r p line) (after r p line later) (text_of (xs ++ line ∷ later)) (heard_ending r p line) (ending_of (xs ++ line ∷ later)) wrote
+    ends_within fault got got0 got1 waits0 waits1 (text_of xs) (heard_text r p line) (after r p line later) (text_of (xs ++ line ∷ later)) (heard_ending r p line) (ending_of (xs ++ line ∷ later)) wrote
     (text-more xs first_reader first_player (line ∷ later) goes)
     (λ n f stops. (
       ap (λ t. if t then text_from (reader_after r line) (heard r p line) later else []) (stops_unread p (reader_after r line).lines (line_of r line) n f stops),
@@ -131,15 +127,15 @@ ends_among fault xs line later got got0 got1 goes wrote ends =
 
 -- ---- a line that is played
 
-pub heard_line : (xs : List (List ℕ)) (line : List ℕ) (got got0 got1 : Known (List ℕ)) (stage : Stage) → Appends got got0 (text_of xs) → ending_of xs ≡ Whole
-    → Hears (reader_of xs) (player_of xs) line got0 got1 stage
-    → Stands stage (player_of (xs ++ line ∷ [])) × Appends got got1 (text_of (xs ++ line ∷ [])) × (ending_of (xs ++ line ∷ []) ≡ Whole)
-heard_line xs line got got0 got1 stage wrote goes hears =
+pub heard_line : (xs : List (List ℕ)) (line : List ℕ) (got got0 got1 : Known (List ℕ)) (waits0 waits1 : List ℕ) (stage : Stage) → Carries got got0 waits0 (text_of xs) → ending_of xs ≡ Whole
+    → Hears (reader_of xs) (player_of xs) line got0 got1 waits0 waits1 stage
+    → Stands stage (player_of (xs ++ line ∷ [])) × Carries got got1 waits1 (text_of (xs ++ line ∷ [])) × (ending_of (xs ++ line ∷ []) ≡ Whole)
+heard_line xs line got got0 got1 waits0 waits1 stage wrote goes hears =
     let r : StepReader = reader_of xs in
     let p : Player = player_of xs in
     let text : text_of (xs ++ line ∷ []) ≡ text_of xs ++ heard_text r p line = text-more xs first_reader first_player (line ∷ []) goes ∙ ap (λ l. text_of xs ++ l) (one_text r p line) in (
       rw (player-more xs first_reader first_player (line ∷ [])) hears.0,
-      rw text (Appends-trans got got0 got1 (text_of xs) (heard_text r p line) wrote hears.1.0),
+      rw text (carries_more got got0 got1 waits0 waits1 (text_of xs) (heard_text r p line) wrote hears.1.0),
       ending-more xs first_reader first_player (line ∷ []) goes ∙ (then_nothing (heard_ending r p line) ∙ hears.1.1),
     )
 
@@ -164,16 +160,14 @@ pub long_stops : (r : StepReader) (p : Player) (line : List ℕ) → 65536 < len
 long_stops r p line h whole =
     absurd (cc (whole, ap (λ o. read_ending p (after_line o r).lines o) (too_long r line h)))
 
-within : (a b : Bool) (r : Result (Option Line) LineFault) (o : Option Line) → (if (a || not b) then Err TooLong else r) ≡ Ok o → b ≡ true
+within : (a b : Bool) (r : Result (Option Line) LineFault) (o : Option Line) → (if (a || not b) then Err TooLong else r) ≡ Ok o → (a ≡ false) × (b ≡ true)
 within true b r o e = absurd (cc)
-within false true r o e = refl
+within false true r o e = (refl, refl)
 within false false r o e = absurd (cc)
 
-below : (r : StepReader) (line : List ℕ) (o : Option Line) → line_of r line ≡ Ok o → r.lines < 1000000
+tests : (r : StepReader) (line : List ℕ) (o : Option Line) → line_of r line ≡ Ok o → (nat_lt 65536 (length line) ≡ false) × (nat_lt r.lines 1000000 ≡ true)
 unfolding line_of
-below r line o e =
-    let yes : nat_lt r.lines 1000000 ≡ true = within (nat_lt 65536 (length line)) (nat_lt r.lines 1000000) _ o e in
-    grind (arith, nat_tests, yes)
+tests r line o e = within (nat_lt 65536 (length line)) (nat_lt r.lines 1000000) _ o e
 
 noted_lines : (line : Line) (r : StepReader) → (noted line r).lines ≡ r.lines
 noted_lines (Bot token user name privileged) r = refl
@@ -193,8 +187,13 @@ read_lines (Some line) r = ap (λ n. if nat_lt 1000000 n then n else n + 1) (not
 counted_next : (r : StepReader) → r.lines < 1000000 → (counted r).lines ≡ r.lines + 1
 counted_next r h = let more : nat_lt 1000000 r.lines ≡ false = grind (arith, nat_tests) in ap (λ b. if b then r.lines else r.lines + 1) more
 
--- a line that is read has a number that a file's lines may have
-pub counted_line : (r : StepReader) (line : List ℕ) (o : Option Line) → line_of r line ≡ Ok o → (r.lines < 1000000) × ((reader_after r line).lines ≡ r.lines + 1)
+-- a line that is read is not too long, and has a number that a file's lines may have
+pub counted_line : (r : StepReader) (line : List ℕ) (o : Option Line) → line_of r line ≡ Ok o → IsCounted r line (reader_after r line)
 counted_line r line o e =
-    let h = below r line o e in
-    (h, ap (λ a. (after_line a r).lines) e ∙ (read_lines o r ∙ counted_next r h))
+    let (is_short, is_early) = tests r line o e in
+    let few : r.lines < 1000000 = grind (arith, nat_tests, is_early) in
+    record {
+      few = few;
+      short = grind (arith, nat_tests, is_short);
+      next = ap (λ a. (after_line a r).lines) e ∙ (read_lines o r ∙ counted_next r few);
+    }

@@ -1,5 +1,5 @@
 -- The lines of a file: each ends with a line feed, which the last may lack.
-use Rattle.std.specs.Prelude.{ℕ, ◌==◌, List, [], ◌∷◌, ◌++◌, if◌then◌else◌}
+use Rattle.std.specs.Prelude.{◌≢◌, ℕ, ◌<◌, ◌==◌, List, [], ◌∷◌, ◌++◌, length, slice_index, if◌then◌else◌}
 
 -- the lines among bytes that end with a line feed, after part of the first
 abbrev pub whole_from : List ℕ → List ℕ → List (List ℕ)
@@ -24,3 +24,7 @@ last_line (b ∷ bs) = (b ∷ bs) ∷ []
 
 abbrev pub lines_of : List ℕ → List (List ℕ)
 lines_of bytes = whole_lines bytes ++ last_line (tail bytes)
+
+-- a piece of a line: no byte of it is a line feed
+abbrev pub IsPiece : List ℕ → Type 0
+IsPiece bytes = (k : ℕ) → k < length bytes → slice_index bytes k ≢ 10

@@ -1,5 +1,5 @@
 -- What playing leaves in a source and a sink.
-use Rattle.std.specs.Prelude.{◌≡◌, ℕ, ◌≤◌, ◌-◌, ◌*◌, List, [], ◌++◌, length, Result, Ok, Err}
+use Rattle.std.specs.Prelude.{◌≡◌, ℕ, ◌+◌, ◌<◌, ◌≤◌, ◌-◌, ◌*◌, List, [], ◌++◌, length, Result, Ok, Err}
 use Rattle.std.specs.declared.option.Option.{Option}
 use Rattle.std.specs.declared.option.Option.TheVariants.{Some}
 use Rattle.std.specs.Io.KnownBytes.{Appends, Consumes, IsAtEnd}
@@ -36,14 +36,34 @@ step_fault step.Memory = Memory
 abbrev pub AppendsFront : (got0 got1 : Option (List ℕ)) → List ℕ → Type 0
 AppendsFront got0 got1 text = (front back : List ℕ) × (front ++ back ≡ text) × Appends got0 got1 front
 
--- a sink's count rose exactly where the answer is that a write failed
+-- what was put is a front of the text
+abbrev pub IsFront : (front text : List ℕ) → Type 0
+IsFront front text = (back : List ℕ) × (front ++ back ≡ text)
+
+-- the text was written, but for its end, which waits
+pub record Carries (got0 got1 : Option (List ℕ)) (waits text : List ℕ) : Type 0 where
+  pub sent : List ℕ
+  pub is : sent ++ waits ≡ text
+  pub wrote : Appends got0 got1 sent
+
+-- a front of it was, but for the end of that front
+pub record CarriesFront (got0 got1 : Option (List ℕ)) (waits text : List ℕ) : Type 0 where
+  pub sent : List ℕ
+  pub back : List ℕ
+  pub is : (sent ++ waits) ++ back ≡ text
+  pub wrote : Appends got0 got1 sent
+
+-- a sink's count rose exactly where the fault is that a write failed
+abbrev pub FaultCause : (before now : ℕ) → PlayFault → Type 0
+FaultCause before now Read = ⊥
+FaultCause before now Write = Rose before now
+FaultCause before now (Line line fault) = now ≡ before
+FaultCause before now Spent = now ≡ before
+FaultCause before now Memory = now ≡ before
+
 abbrev pub WriteCause : {T : Type 0} → (before now : ℕ) → Result T PlayFault → Type 0
 WriteCause before now (Ok x) = now ≡ before
-WriteCause before now (Err Read) = ⊥
-WriteCause before now (Err Write) = Rose before now
-WriteCause before now (Err (Line line fault)) = now ≡ before
-WriteCause before now (Err Spent) = now ≡ before
-WriteCause before now (Err Memory) = now ≡ before
+WriteCause before now (Err fault) = FaultCause before now fault
 
 -- ---- one line
 
@@ -59,9 +79,28 @@ Ends got0 got1 text end (Line line fault) = Appends got0 got1 text × (end ≡ S
 Ends got0 got1 text end Spent = AppendsFront got0 got1 text × (end ≡ Spends)
 Ends got0 got1 text end Memory = AppendsFront got0 got1 text
 
--- a line that was played
-abbrev pub Hears : StepReader → Player → List ℕ → (got0 got1 : Option (List ℕ)) → Stage → Type 0
-Hears r p line got0 got1 new = Stands new (heard r p line) × (Appends got0 got1 (heard_text r p line) × (heard_ending r p line ≡ Whole))
+-- the same, where what was put for it may still wait
+abbrev pub Leaves : (got0 got1 : Option (List ℕ)) → (waits text : List ℕ) → Ending → PlayFault → Type 0
+Leaves got0 got1 waits text end Read = ⊥
+Leaves got0 got1 waits text end Write = CarriesFront got0 got1 waits text
+Leaves got0 got1 waits text end (Line line fault) = Carries got0 got1 waits text × (end ≡ Stops line fault)
+Leaves got0 got1 waits text end Spent = CarriesFront got0 got1 waits text × (end ≡ Spends)
+Leaves got0 got1 waits text end Memory = CarriesFront got0 got1 waits text
+
+-- what holds of the fault, where there is one
+abbrev pub AtFault : {T : Type 0} → Result T PlayFault → (PlayFault → Type 0) → Type 0
+AtFault (Ok x) P = Unit {0}
+AtFault (Err fault) P = P fault
+
+-- a line that was played, after what waited before
+abbrev pub Hears : StepReader → Player → List ℕ → (got0 got1 : Option (List ℕ)) → (waits0 waits1 : List ℕ) → Stage → Type 0
+Hears r p line got0 got1 waits0 waits1 new = Stands new (heard r p line) × (Carries got0 got1 waits1 (waits0 ++ heard_text r p line) × (heard_ending r p line ≡ Whole))
+
+-- a line that was read is not too long, and neither is the file
+pub record IsCounted (old : StepReader) (line : List ℕ) (new : StepReader) : Type 0 where
+  pub few : old.lines < 1000000
+  pub short : length line ≤ 65536
+  pub next : new.lines ≡ old.lines + 1
 
 -- ---- bytes
 
@@ -70,12 +109,21 @@ pub record Playing (got0 got1 : Option (List ℕ)) (k : Play) (bytes : List ℕ)
   pub reader : k.reader ≡ reader_of (whole_lines bytes)
   pub part : k.part.items ≡ tail bytes
   pub stands : Stands k.stage (player_of (whole_lines bytes))
-  pub wrote : Appends got0 got1 (text_of (whole_lines bytes))
+  pub wrote : Carries got0 got1 k.waits.items (text_of (whole_lines bytes))
   pub goes_on : ending_of (whole_lines bytes) ≡ Whole
+
+-- and all that comes of them was written
+pub record Written (got0 got1 : Option (List ℕ)) (k : Play) (bytes : List ℕ) : Type 0 where
+  pub playing : Playing got0 got1 k bytes
+  pub sent : k.waits.items ≡ []
 
 -- how a play stopped among these bytes, whichever of these bytes follow
 abbrev pub StopsAt : (got0 got1 : Option (List ℕ)) → List ℕ → (List ℕ → Type 0) → PlayFault → Type 0
 StopsAt got0 got1 bytes Follows fault = (rest : List ℕ) → Follows rest → Ends got0 got1 (transcript (bytes ++ rest)) (ending (bytes ++ rest)) fault
+
+-- the same, where the end of its transcript may still wait
+abbrev pub LeavesAt : (got0 got1 : Option (List ℕ)) → (waits bytes : List ℕ) → (List ℕ → Type 0) → PlayFault → Type 0
+LeavesAt got0 got1 waits bytes Follows fault = (rest : List ℕ) → Follows rest → Leaves got0 got1 waits (transcript (bytes ++ rest)) (ending (bytes ++ rest)) fault
 
 abbrev pub Anything : List ℕ → Type 0
 Anything rest = Unit {0}

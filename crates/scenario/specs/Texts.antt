@@ -17,30 +17,34 @@ written_line (Close conn code) = codes "close " ++ (decimal conn ++ (32 ∷ (dec
 written_line (Wish guild edit) = codes "wish " ++ (decimal guild ++ (32 ∷ (name_text (edit_name edit) ++ 10 ∷ [])))
 
 -- the limit of a verdict that has one
-abbrev pub limit_text : Verdict → List ℕ
-limit_text verdict.NotOpen = []
-limit_text verdict.AlreadyOpen = []
-limit_text verdict.Unavailable = []
-limit_text verdict.UnknownRole = []
-limit_text verdict.UnknownMember = []
-limit_text verdict.UnknownChannel = []
-limit_text verdict.UnknownThread = []
-limit_text verdict.UnknownMessage = []
-limit_text verdict.IdTaken = []
-limit_text verdict.WrongType = []
-limit_text verdict.EveryoneRole = []
-limit_text verdict.OwnerStays = []
-limit_text verdict.Archived = []
-limit_text verdict.NotArchived = []
-limit_text verdict.InThread = []
-limit_text verdict.NotInThread = []
-limit_text verdict.NotInVoice = []
-limit_text (verdict.TooMany limit) = 32 ∷ decimal limit
-limit_text (verdict.TooLong limit) = 32 ∷ decimal limit
+abbrev pub limit_of : Verdict → Option ℕ
+limit_of verdict.NotOpen = None
+limit_of verdict.AlreadyOpen = None
+limit_of verdict.Unavailable = None
+limit_of verdict.UnknownRole = None
+limit_of verdict.UnknownMember = None
+limit_of verdict.UnknownChannel = None
+limit_of verdict.UnknownThread = None
+limit_of verdict.UnknownMessage = None
+limit_of verdict.IdTaken = None
+limit_of verdict.WrongType = None
+limit_of verdict.EveryoneRole = None
+limit_of verdict.OwnerStays = None
+limit_of verdict.Archived = None
+limit_of verdict.NotArchived = None
+limit_of verdict.InThread = None
+limit_of verdict.NotInThread = None
+limit_of verdict.NotInVoice = None
+limit_of (verdict.TooMany limit) = Some limit
+limit_of (verdict.TooLong limit) = Some limit
+
+abbrev pub limit_text : Option ℕ → List ℕ
+limit_text None = []
+limit_text (Some limit) = 32 ∷ decimal limit
 
 -- an edit that is refused, by the number of its line
 abbrev pub refused_line : ℕ → Verdict → List ℕ
-refused_line number v = codes "refused " ++ (decimal number ++ (32 ∷ (decimal (verdict_number v) ++ (32 ∷ (verdict_name v ++ (limit_text v ++ 10 ∷ []))))))
+refused_line number v = codes "refused " ++ (decimal number ++ (32 ∷ (decimal (verdict_number v) ++ (32 ∷ (verdict_name v ++ (limit_text (limit_of v) ++ 10 ∷ []))))))
 
 abbrev pub refused_text : ℕ → Option Verdict → List ℕ
 refused_text number None = []

@@ -24,10 +24,13 @@ wish_refusal p (Send conn text) = None
 wish_refusal p (Close conn code) = None
 wish_refusal p (Wish guild edit) = refusal p guild edit
 
--- what goes out after a line of this number, each wish followed at once by its edit
+-- what goes out after a line of this number; a wish is followed at once by its edit
+abbrev pub output_text : Player → ℕ → Output → List ℕ
+output_text p number o = written_line o ++ refused_text number (wish_refusal p o)
+
 abbrev pub outputs_text : Player → ℕ → List Output → List ℕ
 outputs_text p number [] = []
-outputs_text p number (o ∷ os) = written_line o ++ (refused_text number (wish_refusal p o) ++ outputs_text (follow p o) number os)
+outputs_text p number (o ∷ os) = output_text p number o ++ outputs_text (follow p o) number os
 
 -- ---- one line
 

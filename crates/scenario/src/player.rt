@@ -1,51 +1,100 @@
 //! Bytes of a step file, played as they come.
-ghost use Rattle.std.specs.Prelude.{◌≡◌, ◌<◌, ◌≤◌, ◌+◌, ◌++◌, ◌∷◌, [], ℕ, List, false, length, MatchResult, OnOk};
+ghost use Rattle.std.specs.Prelude.{◌≡◌, ◌<◌, ◌≤◌, ◌+◌, ◌++◌, ◌∷◌, [], ℕ, List, false, length, MatchOption, MatchResult, OnOk, OnErr};
 ghost use Rattle.std.specs.declared.option.Option.{Option};
 ghost use Rattle.std.specs.Io.KnownBytes.{Appends};
 ghost use Rattle.edit_text.specs.Lines.{reader_after};
+ghost use Rattle.scenario.specs.Lines.{IsPiece};
 ghost use Rattle.scenario.specs.Player.{Player, played};
-ghost use Rattle.scenario.specs.Transcript.{line_text, line_spends, line_ending, heard_text, heard_ending, transcript, ending, Whole};
+ghost use Rattle.scenario.specs.Transcript.{Ending, Whole, line_text, line_spends, line_ending, heard_text, heard_ending, transcript, ending};
 ghost use Rattle.scenario.specs.Stands.{Stands};
-ghost use Rattle.scenario.specs.Played.{WriteCause, Ends, Hears, Playing, StopsAt, Anything, Nothing, Fits, room};
+ghost use Rattle.scenario.specs.Played.{FaultCause, WriteCause, AtFault, Ends, Leaves, Carries, CarriesFront, Hears, IsCounted, Playing, Written, StopsAt, LeavesAt, Anything, Nothing, Fits, room};
 
 use crate::fault::PlayFault;
 use crate::stage::Stage;
-use crate::writing::{write_answer, write_stop};
+use crate::texts::put_stop;
+use crate::writing::{write_answer, write_waiting};
 use edit_text::{FileKind, Line, LineFault, MAX_LINE_BYTES, StepReader};
 use gate_outside::streams::Sink;
+use memchr::memchr;
 use std::alloc::Global;
+use std::mem;
 
-/// A reader of lines, the line that has begun, and what the lines are played on.
+/// A reader of lines, the line that has begun, what the lines are played on, and the end of the transcript
+/// so far, which waits to be written.
 #[derive(Drop)]
 pub struct Play {
     alloc: Global,
     reader: StepReader,
     part: Vec<u8>,
     stage: Stage,
+    waits: Vec<u8>,
+}
+
+// The bytes before the first line feed, and those after it, where there is one.
+fn first_line(bytes: &[u8]) -> Option<(&[u8], &[u8])>
+    ensures { MatchOption result (IsPiece bytes.now) (λ parts. IsPiece parts.0.now × (bytes.now ≡ parts.0.now ++ 10 ∷ parts.1.now)) }
+{
+    let at = memchr(b'\n', bytes)?;
+    Some((&bytes[..at], &bytes[at + 1..]))
 }
 
 // Plays a line that was read.
 fn play_line<K: Sink>(
-    alloc: Global,
     stage: &mut Stage,
     sink: &mut K,
+    waits: &mut Vec<u8>,
     number: u64,
     line: Line,
 ) -> Result<(), PlayFault>
     ensures plays { (p : Player) → Stands stage.old p → MatchResult result
-        (λ _. Stands stage.new (played p line) × (Appends (K.got sink.old) (K.got sink.new) (line_text p number line) × (line_spends p line ≡ false)))
-        (Ends (K.got sink.old) (K.got sink.new) (line_text p number line) (line_ending p line)) }
+        (λ _. Stands stage.new (played p line) × (Carries (K.got sink.old) (K.got sink.new) waits.new.items (waits.old.items ++ line_text p number line) × (line_spends p line ≡ false)))
+        (Leaves (K.got sink.old) (K.got sink.new) waits.new.items (waits.old.items ++ line_text p number line) (line_ending p line)) }
     ensures cause { WriteCause (K.faults sink.old) (K.faults sink.new) result }
 {
     let answer = stage.play(line)?;
-    write_answer(alloc, stage, sink, number, &answer)?;
+    write_answer(stage, sink, waits, number, &answer)?;
     Ok(())
+}
+
+// Writes what waits at a fault, but not after a write that failed.
+fn write_at_fault<K: Sink>(sink: &mut K, waits: &mut Vec<u8>, fault: PlayFault) -> PlayFault
+    ensures ends { (got : Option (List ℕ)) (text : List ℕ) (end : Ending) → Leaves got (K.got sink.old) waits.old.items text end fault → Ends got (K.got sink.new) text end result }
+    ensures cause { (before : ℕ) → FaultCause before (K.faults sink.old) fault → FaultCause before (K.faults sink.new) result }
+{
+    match fault {
+        PlayFault::Write => PlayFault::Write,
+        _ => match write_waiting(sink, waits) {
+            Ok(()) => fault,
+            Err(refused) => PlayFault::from(refused),
+        },
+    }
+}
+
+// Writes what waits after lines were played, also where they were not played to their end.
+fn write_after<K: Sink>(
+    sink: &mut K,
+    waits: &mut Vec<u8>,
+    played: Result<(), PlayFault>,
+) -> Result<(), PlayFault>
+    ensures fails { OnErr played (OnOk result ⊥) }
+    ensures ok { OnOk result (Appends (K.got sink.old) (K.got sink.new) waits.old.items × (waits.new.items ≡ [])) }
+    ensures ends { (got : Option (List ℕ)) (text : List ℕ) (end : Ending) → MatchResult played (λ _. CarriesFront got (K.got sink.old) waits.old.items text) (Leaves got (K.got sink.old) waits.old.items text end)
+        → AtFault result (Ends got (K.got sink.new) text end) }
+    ensures cause { (before : ℕ) → WriteCause before (K.faults sink.old) played → WriteCause before (K.faults sink.new) result }
+{
+    match played {
+        Ok(()) => {
+            write_waiting(sink, waits)?;
+            Ok(())
+        }
+        Err(fault) => Err(write_at_fault(sink, waits, fault)),
+    }
 }
 
 impl Play {
     /// Before the first byte.
     pub fn new(alloc: Global) -> Play
-        ensures plays { (got : Option (List ℕ)) → Playing got got result [] }
+        ensures plays { (got : Option (List ℕ)) → Written got got result [] }
         ensures fits { Fits result }
     {
         Play {
@@ -53,28 +102,28 @@ impl Play {
             reader: StepReader::new(alloc, FileKind::Run),
             part: Vec::new(alloc),
             stage: Stage::new(alloc),
+            waits: Vec::new(alloc),
         }
     }
 
-    // Plays the line that has come to its end.
-    fn end_line<K: Sink>(&mut self, sink: &mut K) -> Result<(), PlayFault>
+    // Plays a line.
+    fn hear<K: Sink>(&mut self, sink: &mut K, bytes: &[u8]) -> Result<(), PlayFault>
         ensures hears { (p : Player) → Stands self.old.stage p → MatchResult result
-            (λ _. Hears self.old.reader p self.old.part.items (K.got sink.old) (K.got sink.new) self.new.stage)
-            (Ends (K.got sink.old) (K.got sink.new) (heard_text self.old.reader p self.old.part.items) (heard_ending self.old.reader p self.old.part.items)) }
-        ensures reader { OnOk result (self.new.reader ≡ reader_after self.old.reader self.old.part.items) }
-        ensures part { OnOk result (self.new.part.items ≡ []) }
-        ensures before { OnOk result ((self.old.reader.lines < 1000000) × (self.new.reader.lines ≡ self.old.reader.lines + 1)) }
+            (λ _. Hears self.old.reader p bytes.now (K.got sink.old) (K.got sink.new) self.old.waits.items self.new.waits.items self.new.stage)
+            (Leaves (K.got sink.old) (K.got sink.new) self.new.waits.items (self.old.waits.items ++ heard_text self.old.reader p bytes.now) (heard_ending self.old.reader p bytes.now)) }
+        ensures reader { OnOk result (self.new.reader ≡ reader_after self.old.reader bytes.now) }
+        ensures part { self.new.part ≡ self.old.part }
+        ensures counted { OnOk result (IsCounted self.old.reader bytes.now self.new.reader) }
         ensures cause { WriteCause (K.faults sink.old) (K.faults sink.new) result }
     {
-        let line = self.reader.line(self.alloc, self.part.as_slice());
+        let line = self.reader.line(self.alloc, bytes);
         let number = self.reader.lines();
-        self.part.clear();
         match line {
             Ok(None) => Ok(()),
-            Ok(Some(line)) => play_line(self.alloc, &mut self.stage, sink, number, line),
+            Ok(Some(line)) => play_line(&mut self.stage, sink, &mut self.waits, number, line),
             Err(LineFault::Memory) => Err(PlayFault::Memory),
             Err(fault) => {
-                write_stop(self.alloc, sink, number, fault)?;
+                put_stop(&mut self.waits, number, fault)?;
                 Err(PlayFault::Line {
                     line: number,
                     fault,
@@ -83,36 +132,91 @@ impl Play {
         }
     }
 
-    // Takes the next byte. A line is refused as soon as it is too long.
-    fn take<K: Sink>(&mut self, sink: &mut K, byte: u8) -> Result<(), PlayFault>
-        ensures plays { (got : Option (List ℕ)) (bytes : List ℕ) → Playing got (K.got sink.old) self.old bytes → MatchResult result
-            (λ _. Playing got (K.got sink.new) self.new (bytes ++ byte ∷ []))
-            (StopsAt got (K.got sink.new) (bytes ++ byte ∷ []) Anything) }
-        ensures room { OnOk result (Fits self.old → Fits self.new × (room self.new < room self.old)) }
+    // Plays the line that has begun.
+    fn end_part<K: Sink>(&mut self, sink: &mut K) -> Result<(), PlayFault>
+        ensures hears { (p : Player) → Stands self.old.stage p → MatchResult result
+            (λ _. Hears self.old.reader p self.old.part.items (K.got sink.old) (K.got sink.new) self.old.waits.items self.new.waits.items self.new.stage)
+            (Leaves (K.got sink.old) (K.got sink.new) self.new.waits.items (self.old.waits.items ++ heard_text self.old.reader p self.old.part.items) (heard_ending self.old.reader p self.old.part.items)) }
+        ensures reader { OnOk result (self.new.reader ≡ reader_after self.old.reader self.old.part.items) }
+        ensures part { OnOk result (self.new.part.items ≡ []) }
+        ensures counted { OnOk result (IsCounted self.old.reader self.old.part.items self.new.reader) }
         ensures cause { WriteCause (K.faults sink.old) (K.faults sink.new) result }
     {
-        if byte == b'\n' {
-            return self.end_line(sink);
+        let line = mem::replace(&mut self.part, Vec::new(self.alloc));
+        self.hear(sink, line.as_slice())
+    }
+
+    // Plays the line that ends with this piece.
+    fn end_line<K: Sink>(&mut self, sink: &mut K, piece: &[u8]) -> Result<(), PlayFault>
+        requires { IsPiece piece.now }
+        ensures plays { (got : Option (List ℕ)) (bytes : List ℕ) → Playing got (K.got sink.old) self.old bytes → MatchResult result
+            (λ _. Playing got (K.got sink.new) self.new (bytes ++ (piece.now ++ 10 ∷ [])))
+            (LeavesAt got (K.got sink.new) self.new.waits.items (bytes ++ (piece.now ++ 10 ∷ [])) Anything) }
+        ensures room { OnOk result (Fits self.old → Fits self.new × (room self.new + (length piece.now + 1) ≤ room self.old)) }
+        ensures cause { WriteCause (K.faults sink.old) (K.faults sink.new) result }
+    {
+        if !self.part.is_empty() {
+            self.part.extend_from_slice(piece)?;
+            return self.end_part(sink);
         }
-        self.part.push(byte)?;
+        self.hear(sink, piece)
+    }
+
+    // Takes a piece of a line that does not end with it. A line is refused as soon as it is too long.
+    fn begin_line<K: Sink>(&mut self, sink: &mut K, piece: &[u8]) -> Result<(), PlayFault>
+        requires { IsPiece piece.now }
+        ensures plays { (got : Option (List ℕ)) (bytes : List ℕ) → Playing got (K.got sink.old) self.old bytes → MatchResult result
+            (λ _. Playing got (K.got sink.new) self.new (bytes ++ piece.now))
+            (LeavesAt got (K.got sink.new) self.new.waits.items (bytes ++ piece.now) Anything) }
+        ensures room { OnOk result (Fits self.old → Fits self.new × (room self.new + length piece.now ≤ room self.old)) }
+        ensures cause { WriteCause (K.faults sink.old) (K.faults sink.new) result }
+    {
+        self.part.extend_from_slice(piece)?;
         if self.part.len() > MAX_LINE_BYTES {
-            return self.end_line(sink);
+            return self.end_part(sink);
         }
         Ok(())
     }
 
-    /// Takes the next bytes.
-    pub fn feed<K: Sink>(&mut self, sink: &mut K, chunk: &[u8]) -> Result<(), PlayFault>
+    // Plays the lines that end among the next bytes.
+    fn play_bytes<K: Sink>(&mut self, sink: &mut K, chunk: &[u8]) -> Result<(), PlayFault>
         ensures plays { (got : Option (List ℕ)) (bytes : List ℕ) → Playing got (K.got sink.old) self.old bytes → MatchResult result
             (λ _. Playing got (K.got sink.new) self.new (bytes ++ chunk.now))
+            (LeavesAt got (K.got sink.new) self.new.waits.items (bytes ++ chunk.now) Anything) }
+        ensures room { OnOk result (Fits self.old → Fits self.new × (room self.new + length chunk.now ≤ room self.old)) }
+        ensures cause { WriteCause (K.faults sink.old) (K.faults sink.new) result }
+    {
+        let mut rest = chunk;
+        while let Some((piece, later)) = first_line(rest) {
+            self.end_line(sink, piece)?;
+            rest = later;
+        }
+        self.begin_line(sink, rest)
+    }
+
+    /// Takes the next bytes. What comes of the lines that end among them is written when it returns.
+    pub fn feed<K: Sink>(&mut self, sink: &mut K, chunk: &[u8]) -> Result<(), PlayFault>
+        ensures plays { (got : Option (List ℕ)) (bytes : List ℕ) → Playing got (K.got sink.old) self.old bytes → MatchResult result
+            (λ _. Written got (K.got sink.new) self.new (bytes ++ chunk.now))
             (StopsAt got (K.got sink.new) (bytes ++ chunk.now) Anything) }
         ensures room { OnOk result (Fits self.old → Fits self.new × (room self.new + length chunk.now ≤ room self.old)) }
         ensures cause { WriteCause (K.faults sink.old) (K.faults sink.new) result }
     {
-        for byte in chunk {
-            self.take(sink, *byte)?;
+        let played = self.play_bytes(sink, chunk);
+        write_after(sink, &mut self.waits, played)
+    }
+
+    // Plays the last line, where it has no line feed.
+    fn play_last<K: Sink>(&mut self, sink: &mut K) -> Result<(), PlayFault>
+        ensures plays { (got : Option (List ℕ)) (bytes : List ℕ) → Playing got (K.got sink.old) self.old bytes → MatchResult result
+            (λ _. Carries got (K.got sink.new) self.new.waits.items (transcript bytes) × (ending bytes ≡ Whole))
+            (LeavesAt got (K.got sink.new) self.new.waits.items bytes Nothing) }
+        ensures cause { WriteCause (K.faults sink.old) (K.faults sink.new) result }
+    {
+        if self.part.is_empty() {
+            return Ok(());
         }
-        Ok(())
+        self.end_part(sink)
     }
 
     /// The bytes have come to their end.
@@ -122,9 +226,7 @@ impl Play {
             (StopsAt got (K.got sink.new) bytes Nothing) }
         ensures cause { WriteCause (K.faults sink.old) (K.faults sink.new) result }
     {
-        if self.part.is_empty() {
-            return Ok(());
-        }
-        self.end_line(sink)
+        let played = self.play_last(sink);
+        write_after(sink, &mut self.waits, played)
     }
 }

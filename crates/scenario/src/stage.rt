@@ -4,9 +4,9 @@ ghost use Rattle.edit_text.specs.declared.line.Line.{Line};
 ghost use Rattle.worker_core.specs.Outputs.{input_of};
 ghost use Rattle.collections.specs.ById.{find_id};
 ghost use Rattle.edit_text.specs.declared.line.Line.TheVariants as line;
-ghost use Rattle.scenario.specs.Player.{Player, has_token, refusal, first_player, opened_id};
+ghost use Rattle.scenario.specs.Player.{Player, follow, has_token, refusal, first_player, opened_id};
 ghost use Rattle.scenario.specs.Stands.{Stands, Plays, PlaysNot, Gives, is_look, log_id, away};
-ghost use Rattle.scenario.specs.Transcript.{line_refusal};
+ghost use Rattle.scenario.specs.Transcript.{line_refusal, wish_refusal};
 
 use crate::guild_log::GuildLog;
 use crate::opened::Opened;
@@ -99,9 +99,9 @@ impl Stage {
         }
     }
 
-    /// Makes an edit of a guild, and says why it is refused, if it is. It enters the guild's log, but
-    /// for one of a guild without a head line and one that finds the log full.
-    pub fn edit(&mut self, guild: Snowflake, edit: Edit) -> Result<Option<Verdict>, AllocError>
+    // Makes an edit of a guild, and says why it is refused, if it is. It enters the guild's log, but for one
+    // of a guild without a head line and one that finds the log full.
+    fn edit(&mut self, guild: Snowflake, edit: Edit) -> Result<Option<Verdict>, AllocError>
         ensures answer { IfOk result (λ answer. (p : Player) → Stands self.old p → answer ≡ refusal p guild edit) }
         ensures plays { OnOk result ((p : Player) → Stands self.old p → Plays p (line.Edit guild edit) self.new []) }
     {
@@ -118,6 +118,20 @@ impl Stage {
         let answer = log.add(self.alloc, edit)?;
         self.logs.put(log)?;
         Ok(answer)
+    }
+
+    /// Follows what goes out: a wish is at once an edit of its guild. Says why that is refused, if it is.
+    pub fn follow(&mut self, output: &Output) -> Result<Option<Verdict>, AllocError>
+        ensures answer { IfOk result (λ answer. (p : Player) → Stands self.old p → answer ≡ wish_refusal p output.now) }
+        ensures follows { OnOk result ((p : Player) → Stands self.old p → Stands self.new (follow p output.now)) }
+    {
+        match output {
+            Output::Wish(guild, edit) => {
+                let edit = edit.copy(self.alloc)?;
+                self.edit(*guild, edit)
+            }
+            Output::Send(..) | Output::Close(..) => Ok(None),
+        }
     }
 
     fn look(&mut self, worker: u8, guild: Snowflake) -> Result<Vec<Output>, StepFault>

@@ -1,50 +1,96 @@
-//! The lines of a transcript.
-ghost use Rattle.std.specs.Prelude.{◌≡◌, IfOk, string_bytes};
-ghost use Rattle.scenario.specs.Texts.{fault_number, fault_name, limit_text, refused_line, stop_line, written_line};
+//! The lines of a transcript, each put whole after what is there, or not at all.
+ghost use Rattle.std.specs.Prelude.{◌≡◌, ◌++◌, ◌∷◌, [], flat_map, is_ok, codes, decimal, if◌then◌else◌};
+ghost use Rattle.scenario.specs.Texts.{fault_number, fault_name, limit_of, refused_text, refused_line, stop_line, written_line};
 
 use edit_text::LineFault;
 use guild_model::Verdict;
-use std::alloc::{AllocError, Global};
+use itoa::Buffer;
+use std::alloc::AllocError;
 use worker_core::Output;
 
-/// The line of what goes out.
-pub fn output_text(alloc: Global, output: &Output) -> Result<String, AllocError>
-    ensures { IfOk result (λ text. string_bytes text ≡ written_line output.now) }
+// Puts the parts one after another, or nothing where memory is wanted.
+fn put(text: &mut Vec<u8>, parts: &[&str]) -> Result<(), AllocError>
+    ensures { text.new.items ≡ (if is_ok result then text.old.items ++ flat_map (λ part. part.now) parts.now else text.old.items) }
+{
+    let before = text.len();
+    for &part in parts {
+        if let Err(error) = text.extend_from_slice(part.as_bytes()) {
+            text.truncate(before);
+            return Err(error);
+        }
+    }
+    Ok(())
+}
+
+fn put_line(text: &mut Vec<u8>, word: &str, number: u64, last: &str) -> Result<(), AllocError>
+    ensures { text.new.items ≡ (if is_ok result then text.old.items ++ (word.now ++ (decimal number ++ (32 ∷ (last.now ++ 10 ∷ [])))) else text.old.items) }
+{
+    let mut buffer = Buffer::new();
+    put(text, &[word, buffer.format(number), " ", last, "\n"])
+}
+
+fn put_close(text: &mut Vec<u8>, conn: u32, code: u16) -> Result<(), AllocError>
+    ensures { text.new.items ≡ (if is_ok result then text.old.items ++ (codes "close " ++ (decimal conn ++ (32 ∷ (decimal code ++ 10 ∷ [])))) else text.old.items) }
+{
+    let mut buffer = Buffer::new();
+    put_line(text, "close ", u64::from(conn), buffer.format(code))
+}
+
+/// Puts the line of what goes out.
+pub fn put_output(text: &mut Vec<u8>, output: &Output) -> Result<(), AllocError>
+    ensures { text.new.items ≡ (if is_ok result then text.old.items ++ written_line output.now else text.old.items) }
 {
     match output {
-        Output::Send(conn, text) => {
-            let text = text.as_str();
-            Ok(format!(in alloc; "send {conn} {text}\n")?)
-        }
-        Output::Close(conn, code) => Ok(format!(in alloc; "close {conn} {code}\n")?),
+        Output::Send(conn, sent) => put_line(text, "send ", u64::from(*conn), sent.as_str()),
+        Output::Close(conn, code) => put_close(text, *conn, *code),
         Output::Wish(guild, edit) => {
-            let guild = guild.0;
-            let name = edit_text::name_of(edit).text();
-            Ok(format!(in alloc; "wish {guild} {name}\n")?)
+            put_line(text, "wish ", guild.0, edit_text::name_of(edit).text())
         }
     }
 }
 
-fn limit_of(alloc: Global, verdict: Verdict) -> Result<String, AllocError>
-    ensures { IfOk result (λ text. string_bytes text ≡ limit_text verdict) }
+fn limit_of(verdict: Verdict) -> Option<u32>
+    ensures { result ≡ limit_of verdict }
 {
     match verdict {
-        Verdict::TooMany { limit } | Verdict::TooLong { limit } => {
-            Ok(format!(in alloc; " {limit}")?)
-        }
-        _ => Ok(String::new(alloc)),
+        Verdict::TooMany { limit } | Verdict::TooLong { limit } => Some(limit),
+        _ => None,
     }
 }
 
-/// The line of an edit that is refused, by the number of its line.
-pub fn refused_text(alloc: Global, line: u64, verdict: Verdict) -> Result<String, AllocError>
-    ensures { IfOk result (λ text. string_bytes text ≡ refused_line line verdict) }
+fn put_refused(text: &mut Vec<u8>, line: u64, verdict: Verdict) -> Result<(), AllocError>
+    ensures { text.new.items ≡ (if is_ok result then text.old.items ++ refused_line line verdict else text.old.items) }
 {
-    let number = verdict.number();
+    let mut line_buffer = Buffer::new();
+    let mut number_buffer = Buffer::new();
+    let mut limit_buffer = Buffer::new();
+    let line = line_buffer.format(line);
+    let number = number_buffer.format(verdict.number());
     let name = verdict.name();
-    let limit = limit_of(alloc, verdict)?;
-    let limit = limit.as_str();
-    Ok(format!(in alloc; "refused {line} {number} {name}{limit}\n")?)
+    match limit_of(verdict) {
+        None => put(text, &["refused ", line, " ", number, " ", name, "\n"]),
+        Some(limit) => {
+            let limit = limit_buffer.format(limit);
+            put(
+                text,
+                &["refused ", line, " ", number, " ", name, " ", limit, "\n"],
+            )
+        }
+    }
+}
+
+/// Puts the line of an edit that is refused, if it is, by the number of its line.
+pub fn put_refusal(
+    text: &mut Vec<u8>,
+    line: u64,
+    refusal: Option<Verdict>,
+) -> Result<(), AllocError>
+    ensures { text.new.items ≡ (if is_ok result then text.old.items ++ refused_text line refusal else text.old.items) }
+{
+    match refusal {
+        None => Ok(()),
+        Some(verdict) => put_refused(text, line, verdict),
+    }
 }
 
 fn number_of(fault: LineFault) -> u8
@@ -73,11 +119,16 @@ fn name_of(fault: LineFault) -> &'static str
     }
 }
 
-/// The line at which a play ends, since it is refused.
-pub fn stop_text(alloc: Global, line: u64, fault: LineFault) -> Result<String, AllocError>
-    ensures { IfOk result (λ text. string_bytes text ≡ stop_line line fault) }
+/// Puts the line at which a play ends, since it is refused.
+pub fn put_stop(text: &mut Vec<u8>, line: u64, fault: LineFault) -> Result<(), AllocError>
+    ensures { text.new.items ≡ (if is_ok result then text.old.items ++ stop_line line fault else text.old.items) }
 {
-    let number = number_of(fault);
-    let name = name_of(fault);
-    Ok(format!(in alloc; "stop line {line} {number} {name}\n")?)
+    let mut line_buffer = Buffer::new();
+    let mut number_buffer = Buffer::new();
+    let line = line_buffer.format(line);
+    let number = number_buffer.format(number_of(fault));
+    put(
+        text,
+        &["stop line ", line, " ", number, " ", name_of(fault), "\n"],
+    )
 }

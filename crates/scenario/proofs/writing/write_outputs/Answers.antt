@@ -1,30 +1,23 @@
 use Rattle.std.proofs.Common.{take, ◌∙◌}
 use Rattle.std.proofs.lemmas.Result.{err_from_is_err_and}
 use Rattle.scenario.specs.Player.{followed}
-use Rattle.scenario.proofs.Follows.{follow_next, wrote_next, line_front, refusal_front}
+use Rattle.scenario.proofs.Follows.{follow_next, carries_next, front_next}
 use Rattle.scenario.proofs.writing.write_outputs.Goals as goal
 
 pub returns-in_err-write_output-clause-follows : goal.returns-in_err-write_output-clause-follows
 returns-in_err-write_output-clause-follows g c p stands =
     let e = err_from_is_err_and c.from_residual.result c.from_residual.ensures.1 in
-    rw e.1 (line_front c.args.outputs.now c.loop-output.output-index c.output-item.result c.loop-output-test.true c.output-item.is p c.args.line _ _ _
-    (c.loop-output.invariant.follows p stands).1 c.in_err-write_output.ensures.err)
-
-pub returns-in_err-follow-clause-follows : goal.returns-in_err-follow-clause-follows
-returns-in_err-follow-clause-follows g c p stands =
-    let e = err_from_is_err_and c.from_residual-in_err-follow.result c.from_residual-in_err-follow.ensures.1 in
     let so_far = c.loop-output.invariant.follows p stands in
-    rw e.1 (refusal_front c.args.outputs.now c.loop-output.output-index c.output-item.result c.loop-output-test.true c.output-item.is p c.args.line _ _ _
-    so_far.1 _ c.in_ok-write_output.ensures.ok (c.in_err-follow.ensures.follows (followed p (take c.loop-output.output-index c.args.outputs.now)) so_far.0))
+    rw e.1 (front_next c.args.outputs.now c.loop-output.output-index c.output-item.result c.loop-output-test.true c.output-item.is p c.args.line _ _ _ _ _ _
+    so_far.1 (c.in_err-write_output.ensures.follows (followed p (take c.loop-output.output-index c.args.outputs.now)) so_far.0))
 
 pub loop-output-preserved : goal.loop-output-preserved
 loop-output-preserved g c = record {
   follows = λ p stands.
       let so_far = c.loop-output.invariant.follows p stands in
-      let next = c.in_ok-follow.ensures.follows (followed p (take c.loop-output.output-index c.args.outputs.now)) so_far.0 in (
+      let next = c.in_ok-write_output.ensures.follows (followed p (take c.loop-output.output-index c.args.outputs.now)) so_far.0 in (
         rw (follow_next c.args.outputs.now c.loop-output.output-index c.output-item.result c.loop-output-test.true c.output-item.is p c.args.line) next.0,
-        wrote_next c.args.outputs.now c.loop-output.output-index c.output-item.result c.loop-output-test.true c.output-item.is p c.args.line _ _ _
-            so_far.1 _ c.in_ok-write_output.ensures.ok next.1,
+        carries_next c.args.outputs.now c.loop-output.output-index c.output-item.result c.loop-output-test.true c.output-item.is p c.args.line _ _ _ _ _ _ so_far.1 next.1,
       );
-  faults = c.in_ok-follow.ensures.cause.ok ∙ (c.in_ok-write_output.ensures.cause.ok ∙ c.loop-output.invariant.faults);
+  faults = c.in_ok-write_output.ensures.cause.ok ∙ c.loop-output.invariant.faults;
 }

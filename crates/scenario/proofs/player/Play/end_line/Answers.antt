@@ -1,45 +1,26 @@
-use Rattle.std.proofs.Common.{◌≡◌, false, Some, Ok, refl, sym, ap, ◌∙◌}
-use Rattle.std.specs.Io.KnownBytes.{Appends}
-use Rattle.edit_text.specs.declared.line.Line.{Line}
-use Rattle.edit_text.specs.declared.reader.StepReader.{StepReader}
-use Rattle.edit_text.specs.Lines.{line_of, reader_after}
-use Rattle.scenario.specs.Player.{played}
-use Rattle.scenario.specs.Transcript.{line_text, line_spends, line_ending, heard_text, heard_ending}
-use Rattle.scenario.specs.Stands.{Stands}
-use Rattle.scenario.specs.Played.{Ends, Hears}
-use Rattle.scenario.proofs.Seats.{by_result}
-use Rattle.scenario.proofs.Stops.{counted_line}
-use Rattle.scenario.proofs.Hears.{read_ok, hears_line, ends_as, reader_moved, ok_always}
+use Rattle.std.proofs.Common.{◌≡◌, [], ◌∷◌, ◌++◌, refl, sym, ap, ◌∙◌, arith}
+use Rattle.std.proofs.lemmas.Grind.{common_steps}
+use Rattle.std.proofs.lemmas.Result.{err_from_is_err_and}
+use Rattle.scenario.specs.Lines.{whole_lines}
+use Rattle.scenario.specs.Transcript.{player_of}
+use Rattle.scenario.proofs.Bytes.{line_plays, memory_stops}
+use Rattle.scenario.proofs.Hears.{ok_always}
 use Rattle.scenario.proofs.player.Play.end_line.Goals as goal
 
-pub returns-in-Ok-None-clause-before : goal.returns-in-Ok-None-clause-before
-returns-in-Ok-None-clause-before g c =
-    let r : StepReader = c.args.self.now.reader in
-    let after : c.line-line.new.self ≡ reader_after r c.as_slice.result.now = reader_moved (Ok c.in-Ok-None.field-0) c.in-Ok-None.field-0 c.line-line.new.self _ refl c.in-Ok-None.ensures.after in
-    let h = counted_line r c.as_slice.result.now c.in-Ok-None.field-0 (read_ok (Ok c.in-Ok-None.field-0) _ c.in-Ok-None.field-0 refl c.in-Ok-None.ensures.line) in
-    (h.0, ap (λ (r : StepReader). r.lines) after ∙ h.1)
+pub returns-in_err-extend_from_slice-clause-plays : goal.returns-in_err-extend_from_slice-clause-plays
+returns-in_err-extend_from_slice-clause-plays g c got bytes playing =
+    let e = err_from_is_err_and c.from_residual.result c.from_residual.ensures.1 in
+    rw e.1 (rw e.2 (memory_stops got (g.K.Sink.got c.args.sink.now) (g.K.Sink.got c.args.sink.now) c.args.self.now bytes playing (c.args.piece.now ++ 10 ∷ []) refl))
 
-pub returns-in-Ok-Some-clause-before : goal.returns-in-Ok-Some-clause-before
-returns-in-Ok-Some-clause-before g c =
-    let r : StepReader = c.args.self.now.reader in
-    let after : c.line-line.new.self ≡ reader_after r c.as_slice.result.now = reader_moved (Ok c.in-Ok-Some.field-0) c.in-Ok-Some.field-0 c.line-line.new.self _ refl c.in-Ok-Some.ensures.after in
-    let h = counted_line r c.as_slice.result.now c.in-Ok-Some.field-0 (read_ok (Ok c.in-Ok-Some.field-0) _ c.in-Ok-Some.field-0 refl c.in-Ok-Some.ensures.line) in
-    ok_always c.play_line.result _ (h.0, ap (λ (r : StepReader). r.lines) after ∙ h.1)
+pub returns-then-not-is_empty-clause-plays : goal.returns-then-not-is_empty-clause-plays
+returns-then-not-is_empty-clause-plays g c got bytes playing =
+    let is : c.extend_from_slice.new.self.items ≡ c.args.self.now.part.items ++ c.args.piece.now = grind (arith, common_steps) in
+    line_plays got (g.K.Sink.got c.args.sink.now) (g.K.Sink.got c.end_part.new.sink) c.args.self.now bytes playing c.args.piece.now c.extend_from_slice.new.self.items c.requires is
+    c.end_part.result c.end_part.new.self c.end_part.ensures.reader c.end_part.ensures.part (c.end_part.ensures.hears (player_of (whole_lines bytes)) playing.stands)
 
-pub returns-in-Ok-Some-clause-hears : goal.returns-in-Ok-Some-clause-hears
-returns-in-Ok-Some-clause-hears g c p stands =
-    let r : StepReader = c.args.self.now.reader in
-    let line : Line = c.in-Ok-Some.line in
-    let after : c.line-line.new.self ≡ reader_after r c.as_slice.result.now = reader_moved (Ok c.in-Ok-Some.field-0) c.in-Ok-Some.field-0 c.line-line.new.self _ refl c.in-Ok-Some.ensures.after in
-    let counted : c.lines-number.result ≡ (reader_after r c.args.self.now.part.items).lines =
-    c.lines-number.ensures ∙ (ap (λ (r : StepReader). r.lines) after ∙ ap (λ bytes. (reader_after r bytes).lines) c.as_slice.ensures.value) in
-    let is : line_of r c.args.self.now.part.items ≡ Ok (Some line) =
-    ap (line_of r) (sym c.as_slice.ensures.value) ∙ (read_ok (Ok c.in-Ok-Some.field-0) _ c.in-Ok-Some.field-0 refl c.in-Ok-Some.ensures.line ∙ ap Ok c.in-Ok-Some.field-0-is) in
-    by_result c.play_line.result
-    (λ _. Stands c.play_line.new.stage (played p line) × (Appends (g.K.Sink.got c.args.sink.now) (g.K.Sink.got c.play_line.new.sink) (line_text p c.lines-number.result line) × (line_spends p line ≡ false)))
-    (λ _. Hears r p c.args.self.now.part.items (g.K.Sink.got c.args.sink.now) (g.K.Sink.got c.play_line.new.sink) c.play_line.new.stage)
-    (Ends (g.K.Sink.got c.args.sink.now) (g.K.Sink.got c.play_line.new.sink) (line_text p c.lines-number.result line) (line_ending p line))
-    (Ends (g.K.Sink.got c.args.sink.now) (g.K.Sink.got c.play_line.new.sink) (heard_text r p c.args.self.now.part.items) (heard_ending r p c.args.self.now.part.items))
-    (λ x h. hears_line r p c.args.self.now.part.items c.lines-number.result counted (g.K.Sink.got c.args.sink.now) (g.K.Sink.got c.play_line.new.sink) c.play_line.new.stage line is h.0 h.1.0 h.1.1)
-    (λ fault ends. ends_as r p c.args.self.now.part.items c.lines-number.result counted (g.K.Sink.got c.args.sink.now) (g.K.Sink.got c.play_line.new.sink) (Ok (Some line)) fault is ends)
-    (c.play_line.ensures.plays p stands)
+pub returns-clause-plays : goal.returns-clause-plays
+returns-clause-plays g c got bytes playing =
+    let empty : c.args.self.now.part.items ≡ [] = grind (arith, common_steps) in
+    let is : c.args.piece.now ≡ c.args.self.now.part.items ++ c.args.piece.now = ap (λ l. l ++ c.args.piece.now) (sym empty) in
+    line_plays got (g.K.Sink.got c.args.sink.now) (g.K.Sink.got c.hear.new.sink) c.args.self.now bytes playing c.args.piece.now c.args.piece.now c.requires is
+    c.hear.result c.hear.new.self c.hear.ensures.reader (ok_always c.hear.result _ (ap (λ (v : _). v.items) c.hear.ensures.part ∙ empty)) (c.hear.ensures.hears (player_of (whole_lines bytes)) playing.stands)

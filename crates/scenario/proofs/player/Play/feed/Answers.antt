@@ -1,11 +1,15 @@
-use Rattle.std.proofs.Common.{◌++◌, suc, take, drop}
-use Rattle.std.proofs.lemmas.Result.{err_from_is_err_and}
-use Rattle.scenario.proofs.Bytes.{stops_more, all_of}
+use Rattle.std.proofs.Common.{◌++◌, refl}
+use Rattle.scenario.proofs.Settling.{feeds, ok_after}
 use Rattle.scenario.proofs.player.Play.feed.Goals as goal
 
-pub returns-in_err-take-clause-plays : goal.returns-in_err-take-clause-plays
-returns-in_err-take-clause-plays g c got bytes playing =
-    let e = err_from_is_err_and c.from_residual.result c.from_residual.ensures.1 in
-    let stops = c.in_err-take.ensures.plays got (bytes ++ take c.loop-byte.byte-index c.args.chunk.now) (c.loop-byte.invariant.plays got bytes playing) in
-    rw e.1 (rw e.2 (rw (all_of bytes c.args.chunk.now c.loop-byte.byte-index 0 c.loop-byte-test.true) at
-    (stops_more got _ _ (drop (suc c.loop-byte.byte-index) c.args.chunk.now) c.in_err-take.field-0.0 stops)))
+pub returns-clause-plays : goal.returns-clause-plays
+returns-clause-plays g c got bytes playing =
+    feeds c.play_bytes-played.result c.write_after.result got (g.K.Sink.got c.play_bytes-played.new.sink) (g.K.Sink.got c.write_after.new.sink)
+    c.play_bytes-played.new.self (record c.play_bytes-played.new.self { waits = c.write_after.new.waits }) (bytes ++ c.args.chunk.now) refl refl refl
+    c.write_after.ensures.fails c.write_after.ensures.ok (c.write_after.ensures.ends got) (c.play_bytes-played.ensures.plays got bytes playing)
+
+pub returns-clause-room : goal.returns-clause-room
+returns-clause-room g c = ok_after c.play_bytes-played.result c.write_after.result _ c.write_after.ensures.fails c.play_bytes-played.ensures.room
+
+pub returns-clause-cause : goal.returns-clause-cause
+returns-clause-cause g c = c.write_after.ensures.cause (g.K.Sink.faults c.args.sink.now) c.play_bytes-played.ensures.cause

@@ -1,17 +1,11 @@
-use Rattle.std.proofs.Common.{◌≡◌, [], length, sym, ap, ◌∙◌, arith}
-use Rattle.std.proofs.lemmas.Grind.{common_steps}
-use Rattle.scenario.specs.Lines.{whole_lines}
-use Rattle.scenario.specs.Transcript.{player_of}
-use Rattle.scenario.proofs.Bytes.{nothing_left, end_plays}
+use Rattle.scenario.proofs.Settling.{finishes}
 use Rattle.scenario.proofs.player.Play.finish.Goals as goal
-
-pub returns-then-is_empty-clause-plays : goal.returns-then-is_empty-clause-plays
-returns-then-is_empty-clause-plays g c got bytes playing =
-    let empty : c.args.self.now.part.items ≡ [] = grind (arith, common_steps) in
-    nothing_left got (g.K.Sink.got c.args.sink.now) (g.K.Sink.got c.args.sink.now) c.args.self.now bytes playing (sym playing.part ∙ empty)
 
 pub returns-clause-plays : goal.returns-clause-plays
 returns-clause-plays g c got bytes playing =
-    let some : ¬ (c.args.self.now.part.items ≡ []) = λ e. (let none : length c.args.self.now.part.items ≡ 0 = ap length e in grind (arith, common_steps, none)) in
-    end_plays got (g.K.Sink.got c.args.sink.now) (g.K.Sink.got c.end_line.new.sink) c.args.self.now bytes playing c.end_line.result c.end_line.new.self some
-    (c.end_line.ensures.hears (player_of (whole_lines bytes)) playing.stands)
+    finishes c.play_last-played.result c.write_after.result got (g.K.Sink.got c.play_last-played.new.sink) (g.K.Sink.got c.write_after.new.sink)
+    c.play_last-played.new.self.waits.items c.write_after.new.waits.items bytes
+    c.write_after.ensures.fails c.write_after.ensures.ok (c.write_after.ensures.ends got) (c.play_last-played.ensures.plays got bytes playing)
+
+pub returns-clause-cause : goal.returns-clause-cause
+returns-clause-cause g c = c.write_after.ensures.cause (g.K.Sink.faults c.args.sink.now) c.play_last-played.ensures.cause
