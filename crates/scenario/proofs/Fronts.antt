@@ -19,14 +19,6 @@ puts got waits0 waits1 text is = record { sent = []; is = is; wrote = Appends-ni
 pub puts_front : (got : Option (List ℕ)) (waits back text : List ℕ) → waits ++ back ≡ text → CarriesFront got got waits text
 puts_front got waits back text is = record { sent = []; back = back; is = is; wrote = Appends-nil got }
 
--- what waited was written
-pub sends_all : (got0 got1 : Option (List ℕ)) (waits0 waits1 : List ℕ) → Appends got0 got1 waits0 → waits1 ≡ [] → Carries got0 got1 waits1 waits0
-sends_all got0 got1 waits0 waits1 wrote none = record { sent = waits0; is = ap (λ l. waits0 ++ l) none ∙ append-nil waits0; wrote = wrote }
-
--- a front of it was
-sends_front : (got0 got1 : Option (List ℕ)) (waits0 waits1 : List ℕ) → AppendsFront got0 got1 waits0 → waits1 ≡ [] → CarriesFront got0 got1 waits1 waits0
-sends_front got0 got1 waits0 waits1 h none = record { sent = h.0; back = h.1; is = ap (λ l. (h.0 ++ l) ++ h.1) none ∙ (ap (λ l. l ++ h.1) (append-nil h.0) ∙ h.2); wrote = h.3 }
-
 pub carries_more : (got0 got1 got2 : Option (List ℕ)) (waits1 waits2 text more : List ℕ) → Carries got0 got1 waits1 text → Carries got1 got2 waits2 (waits1 ++ more) → Carries got0 got2 waits2 (text ++ more)
 carries_more got0 got1 got2 waits1 waits2 text more first second = record {
   sent = first.sent ++ second.sent;
@@ -67,10 +59,6 @@ front_sent got0 got1 got2 waits text h front = (
 
 pub all_front : (got0 got1 : Option (List ℕ)) (text : List ℕ) → Appends got0 got1 text → AppendsFront got0 got1 text
 all_front got0 got1 text wrote = (text, [], append-nil text, wrote)
-
--- what waits is not written
-pub front_left : (got0 got1 : Option (List ℕ)) (waits text : List ℕ) → CarriesFront got0 got1 waits text → AppendsFront got0 got1 text
-front_left got0 got1 waits text h = (h.sent, waits ++ h.back, sym (append_assoc h.sent waits h.back) ∙ h.is, h.wrote)
 
 -- nothing waits
 pub all_written : (got0 got1 : Option (List ℕ)) (waits text : List ℕ) → waits ≡ [] → Carries got0 got1 waits text → Appends got0 got1 text
