@@ -5,7 +5,8 @@
 #![tactic(auto)]
 
 use dispatch_types::Dispatch;
-use event_json::{Body, DispatchFault, append_framed, read, write};
+use event_json::{DispatchFault, envelope_of, read, write};
+use payload_text::Payload;
 use std::alloc::{AllocError, Global};
 use std::{env, fs};
 
@@ -29,12 +30,12 @@ fn size_of(lines: &[String]) -> u64 {
     size
 }
 
-// One body for all sessions, each of which has a number of its own.
+// One envelope for all sessions, each of which has a number of its own.
 fn write_one(alloc: Global, out: &mut Vec<u8>, dispatch: &Dispatch) -> Result<(), AllocError> {
-    let body = Body::of(alloc, dispatch)?;
+    let envelope = envelope_of(alloc, dispatch)?;
     out.clear();
     for number in 0..SESSIONS {
-        append_framed(out, &body, number, dispatch.kind())?;
+        Payload::numbered(&envelope, number)?.append(out)?;
     }
     Ok(())
 }

@@ -1,5 +1,5 @@
 -- The text of a framed body.
-use Rattle.std.proofs.Common.{◌≡◌, ℕ, List, ◌∷◌, [], ◌++◌, append_assoc, refl, ap, sym, ◌∙◌, codes, decimal, arith}
+use Rattle.std.proofs.Common.{◌≡◌, ℕ, List, ◌∷◌, [], ◌++◌, Some, append_assoc, refl, ap, sym, ◌∙◌, codes, decimal, arith}
 use Rattle.std.proofs.lemmas.Fmt.{decimal_digit}
 use Rattle.json.specs.Print.{escape}
 use Rattle.serde_json.specs.Data.{Data}
@@ -8,7 +8,16 @@ use Rattle.serde_json.proofs.OnLiterals.{serde_json_on_literals}
 use Rattle.intent_set.specs.declared.kind.Kind.{Kind}
 use Rattle.intent_set.specs.declared.kind.Kind.TheVariants.{Ready, Resumed, GuildCreate, GuildUpdate, GuildDelete, GuildRoleCreate, GuildRoleUpdate, GuildRoleDelete, ChannelCreate, ChannelUpdate, ChannelDelete, ThreadCreate, ThreadUpdate, ThreadDelete, ThreadListSync, ThreadMembersUpdate, GuildMemberAdd, GuildMemberUpdate, GuildMemberRemove, GuildMembersChunk, VoiceStateUpdate, PresenceUpdate, MessageCreate, MessageUpdate, MessageDelete, MessageReactionAdd, MessageReactionRemove, TypingStart}
 use Rattle.intent_set.specs.Kind.{name_of}
-use Rattle.event_json.specs.Text.{framed, framed_text}
+use Rattle.dispatch_types.specs.declared.dispatch.Dispatch.{Dispatch}
+use Rattle.dispatch_types.specs.Kinds.{kind_of}
+use Rattle.payload_text.specs.Around.{text_around}
+use Rattle.event_json.specs.Body.{body_data}
+use Rattle.event_json.specs.Text.{framed, data_of, tail_of, envelope_of}
+
+-- the text of a framed body, piece by piece
+abbrev framed_text : List ℕ → ℕ → List ℕ → List ℕ
+framed_text body number name =
+    codes "{\"d\":" ++ (body ++ (codes ",\"op\":0,\"s\":" ++ (decimal number ++ (codes ",\"t\":\"" ++ (name ++ codes "\"}")))))
 
 plain_frame : (body : Data) (number : ℕ) (name : List ℕ) → escape name ≡ name → framed_text (compact_text body) number name ≡ compact_text (framed body number name)
 unfolding serde_json_on_literals
@@ -53,8 +62,11 @@ plain_name TypingStart = refl
 pub framed_is : (body : Data) (number : ℕ) (k : Kind) → framed_text (compact_text body) number (name_of k) ≡ compact_text (framed body number (name_of k))
 framed_is body number k = plain_frame body number (name_of k) (plain_name k)
 
--- what stands after the pieces have been added one after another
-pub framed_by : (d : Data) (number : ℕ) (k : Kind) (body name t0 t1 t2 t3 t4 : List ℕ) → body ≡ compact_text d → name ≡ name_of k → t1 ≡ t0 ++ codes "{\"d\":" → t2 ≡ t1 ++ body → t3 ≡ t2 ++ (codes ",\"op\":0,\"s\":" ++ decimal number) → t4 ≡ t3 ++ (codes ",\"t\":\"" ++ (name ++ codes "\"}")) → t4 ≡ t0 ++ compact_text (framed d number (name_of k))
-framed_by d number k body name t0 t1 t2 t3 t4 is named e1 e2 e3 e4 =
-    let whole : t4 ≡ t0 ++ framed_text body number name = rw (e4, e3, e2, e1) (simp append_assoc refl) in
-    whole ∙ ap (λ b. t0 ++ framed_text b number name) is ∙ ap (λ n. t0 ++ framed_text (compact_text d) number n) named ∙ ap (λ u. t0 ++ u) (framed_is d number k)
+-- with a number in it, what stands round the number is the text
+pub numbered_is : (d : Dispatch) (number : ℕ) → text_around (envelope_of d) (Some number) ≡ compact_text (data_of d number)
+numbered_is d number =
+    let body = compact_text (body_data d) in
+    let later = decimal number ++ tail_of (name_of (kind_of d)) in
+    append_assoc (codes "{\"d\":") (body ++ codes ",\"op\":0,\"s\":") later
+    ∙ (ap (λ t. codes "{\"d\":" ++ t) (append_assoc body (codes ",\"op\":0,\"s\":") later)
+    ∙ framed_is (body_data d) number (kind_of d))

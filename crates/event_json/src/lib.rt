@@ -11,7 +11,6 @@ mod ready;
 mod text;
 mod thread;
 
-pub use body::Body;
 pub use fault::DispatchFault;
 pub use reading::{read, reads_back};
-pub use text::{append_framed, framed, write};
+pub use text::{envelope_of, write};

@@ -56,7 +56,10 @@ impl Gateway {
 
     fn put(&mut self, output: Output) -> Result<(), AllocError> {
         match output {
-            Output::Send(conn, text) => self.put_sent(conn, Arrival::Text(text)),
+            Output::Send(conn, text) => {
+                let text = text.to_text(self.alloc)?;
+                self.put_sent(conn, Arrival::Text(text))
+            }
             Output::Close(conn, code) => self.put_sent(conn, Arrival::Closed(code)),
             Output::Wish(guild, edit) => self.edit(guild, edit),
         }

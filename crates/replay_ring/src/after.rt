@@ -2,14 +2,14 @@ ghost use Rattle.std.specs.Prelude.{◌≡◌, ◌+◌, ◌++◌, ◌≤◌, len
 ghost use Rattle.std.specs.Iterator.{at_most};
 ghost use Rattle.std.specs.Map.Iter.{TakesFirst, deref};
 
-use collections::Text;
+use payload_text::Payload;
 use std::marker::Model;
 
 /// The texts to send again, in order. A clause sees the list of those that are left.
 #[derive(Drop)]
 pub struct After<'a> {
-    front: &'a [Text],
-    back: &'a [Text],
+    front: &'a [Payload],
+    back: &'a [Payload],
 }
 
 impl<'a> Model for After<'a> {
@@ -22,7 +22,7 @@ impl<'a> Model for After<'a> {
 
 impl<'a> After<'a> {
     // The texts of two slices without the first of them.
-    pub(crate) fn from(front: &'a [Text], back: &'a [Text], skipped: usize) -> After<'a>
+    pub(crate) fn from(front: &'a [Payload], back: &'a [Payload], skipped: usize) -> After<'a>
         requires { skipped ≤ length front.now + length back.now }
         ensures { result ≡ drop skipped (front.now ++ back.now) }
     {
@@ -41,19 +41,19 @@ impl<'a> After<'a> {
 }
 
 impl<'a> Iterator for After<'a> {
-    type Item = &'a str;
+    type Item = &'a Payload;
 
     ghost next_gives = { TakesFirst deref };
 
     ghost remaining = { λ left. at_most (length left) };
 
-    fn next(&mut self) -> Option<&'a str> {
+    fn next(&mut self) -> Option<&'a Payload> {
         if self.front.is_empty() {
             self.front = self.back;
             self.back = &[];
         }
         let (text, later) = self.front.split_first()?;
         self.front = later;
-        Some(text.as_str())
+        Some(text)
     }
 }

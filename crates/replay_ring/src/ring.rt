@@ -1,10 +1,10 @@
-ghost use Rattle.std.specs.Prelude.{◌≡◌, ◌+◌, ◌-◌, ◌^◌, ◌<◌, ◌≤◌, ◌↔◌, length, sum_by, IsTrue, IfOk, string_bytes};
+ghost use Rattle.std.specs.Prelude.{◌≡◌, ◌+◌, ◌-◌, ◌^◌, ◌<◌, ◌≤◌, ◌↔◌, length, sum_by, IsTrue, IfOk};
 ghost use Rattle.circular_buffer.specs.Buffer.{buffer};
 ghost use Rattle.replay_ring.specs.Replay.{longest_suffix, fresh, pushed, texts_after};
 
 use crate::after::After;
 use circular_buffer::HeapCircularBuffer;
-use collections::Text;
+use payload_text::Payload;
 use std::alloc::{AllocError, Global};
 use std::marker::Model;
 
@@ -13,7 +13,7 @@ use std::marker::Model;
 /// the texts held and the two limits.
 #[derive(Drop)]
 pub struct Ring {
-    texts: HeapCircularBuffer<Text>,
+    texts: HeapCircularBuffer<Payload>,
     bytes: usize,
     limit: usize,
     last: u64,
@@ -49,11 +49,10 @@ impl Ring {
     /// Gives the text the next number, and drops from the front what is past a limit. A text of
     /// more bytes than the limit leaves nothing. It takes no memory, and its time goes into this
     /// text and those that it drops alone.
-    pub fn push(&mut self, text: String)
+    pub fn push(&mut self, text: Payload)
         requires { self.old.last < 2 ^ 64 - 1 }
-        ensures { self.new ≡ pushed self.old (string_bytes text) }
+        ensures { self.new ≡ pushed self.old text }
     {
-        let text = Text::from_string(text);
         self.last += 1;
         if self.limit < text.len() {
             self.texts.clear();
@@ -93,7 +92,7 @@ impl Ring {
 
 // Drops texts from the front until one more fits beside them and they have at most `room` bytes.
 // Gives the bytes that are left.
-fn make_room(texts: &mut HeapCircularBuffer<Text>, mut bytes: usize, room: usize) -> usize
+fn make_room(texts: &mut HeapCircularBuffer<Payload>, mut bytes: usize, room: usize) -> usize
     requires counted { bytes ≡ sum_by length texts.old.items }
     requires holds { 0 < texts.old.capacity }
     ensures kept { texts.new ≡ buffer (longest_suffix (texts.old.capacity - 1) room texts.old.items) texts.old.capacity }

@@ -1,14 +1,20 @@
 use super::*;
+use collections::Text;
+use payload_text::Payload;
 use std::alloc::{AllocError, Global};
 use std::test::Fail;
 
 // A text of this many bytes.
-fn long_text(alloc: Global, bytes: usize) -> Result<String, AllocError> {
+fn long_text(alloc: Global, bytes: usize) -> Result<Payload, AllocError> {
     let mut text = String::with_capacity(alloc, bytes)?;
     for _ in 0..bytes {
         text.push('a')?;
     }
-    Ok(text)
+    Payload::plain(alloc, Text::from_string(text))
+}
+
+fn short_text(alloc: Global, text: &str) -> Result<Payload, AllocError> {
+    Payload::plain(alloc, Text::new(alloc, text)?)
 }
 
 #[test]
@@ -24,11 +30,13 @@ fn worked_cases(rt: HostRuntime) -> Result<(), Fail> {
 #[test]
 fn two_of_three(rt: HostRuntime) -> Result<(), Fail> {
     let mut ring = Ring::new(rt.alloc(), 2, 10)?;
-    ring.push("abcd".to_string(rt.alloc())?);
-    ring.push("efgh".to_string(rt.alloc())?);
-    ring.push("ij".to_string(rt.alloc())?);
+    ring.push(short_text(rt.alloc(), "abcd")?);
+    ring.push(short_text(rt.alloc(), "efgh")?);
+    ring.push(short_text(rt.alloc(), "ij")?);
     assert!(rt; ring.covers(1));
-    let texts: Vec<&str> = ring.after(1).collect(rt.alloc())?;
-    assert_eq!(rt; texts.as_slice(), ["efgh", "ij"].as_slice());
+    let mut texts = ring.after(1);
+    assert!(rt; texts.next().ok_or("no text")?.to_text(rt.alloc())?.is("efgh"));
+    assert!(rt; texts.next().ok_or("no text")?.to_text(rt.alloc())?.is("ij"));
+    assert!(rt; texts.next().is_none());
     Ok(())
 }

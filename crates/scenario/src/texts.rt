@@ -1,32 +1,19 @@
 //! The lines of a transcript, each put whole after what is there, or not at all.
-ghost use Rattle.std.specs.Prelude.{◌≡◌, ◌++◌, ◌∷◌, [], flat_map, is_ok, codes, decimal, if◌then◌else◌};
+ghost use Rattle.std.specs.Prelude.{◌≡◌, ◌++◌, ◌∷◌, [], is_ok, codes, decimal, if◌then◌else◌};
 ghost use Rattle.scenario.specs.Texts.{fault_number, fault_name, limit_of, refused_text, refused_line, stop_line, written_line};
 
 use edit_text::LineFault;
 use guild_model::Verdict;
 use itoa::Buffer;
+use payload_text::{Payload, Pieces, append_all};
 use std::alloc::AllocError;
 use worker_core::Output;
-
-// Puts the parts one after another, or nothing where memory is wanted.
-fn put(text: &mut Vec<u8>, parts: &[&str]) -> Result<(), AllocError>
-    ensures { text.new.items ≡ (if is_ok result then text.old.items ++ flat_map (λ part. part.now) parts.now else text.old.items) }
-{
-    let before = text.len();
-    for &part in parts {
-        if let Err(error) = text.extend_from_slice(part.as_bytes()) {
-            text.truncate(before);
-            return Err(error);
-        }
-    }
-    Ok(())
-}
 
 fn put_line(text: &mut Vec<u8>, word: &str, number: u64, last: &str) -> Result<(), AllocError>
     ensures { text.new.items ≡ (if is_ok result then text.old.items ++ (word.now ++ (decimal number ++ (32 ∷ (last.now ++ 10 ∷ [])))) else text.old.items) }
 {
     let mut buffer = Buffer::new();
-    put(text, &[word, buffer.format(number), " ", last, "\n"])
+    append_all(text, &[word, buffer.format(number), " ", last, "\n"])
 }
 
 fn put_close(text: &mut Vec<u8>, conn: u32, code: u16) -> Result<(), AllocError>
@@ -36,12 +23,22 @@ fn put_close(text: &mut Vec<u8>, conn: u32, code: u16) -> Result<(), AllocError>
     put_line(text, "close ", u64::from(conn), buffer.format(code))
 }
 
+fn put_send(text: &mut Vec<u8>, conn: u32, sent: &Payload) -> Result<(), AllocError>
+    ensures { text.new.items ≡ (if is_ok result then text.old.items ++ (codes "send " ++ (decimal conn ++ (32 ∷ (sent.now ++ 10 ∷ [])))) else text.old.items) }
+{
+    let mut conn_buffer = Buffer::new();
+    let mut number_buffer = Buffer::new();
+    let conn = conn_buffer.format(conn);
+    let Pieces { head, number, tail } = sent.pieces(&mut number_buffer);
+    append_all(text, &["send ", conn, " ", head, number, tail, "\n"])
+}
+
 /// Puts the line of what goes out.
 pub fn put_output(text: &mut Vec<u8>, output: &Output) -> Result<(), AllocError>
     ensures { text.new.items ≡ (if is_ok result then text.old.items ++ written_line output.now else text.old.items) }
 {
     match output {
-        Output::Send(conn, sent) => put_line(text, "send ", u64::from(*conn), sent.as_str()),
+        Output::Send(conn, sent) => put_send(text, *conn, sent),
         Output::Close(conn, code) => put_close(text, *conn, *code),
         Output::Wish(guild, edit) => {
             put_line(text, "wish ", guild.0, edit_text::name_of(edit).text())
@@ -68,10 +65,10 @@ fn put_refused(text: &mut Vec<u8>, line: u64, verdict: Verdict) -> Result<(), Al
     let number = number_buffer.format(verdict.number());
     let name = verdict.name();
     match limit_of(verdict) {
-        None => put(text, &["refused ", line, " ", number, " ", name, "\n"]),
+        None => append_all(text, &["refused ", line, " ", number, " ", name, "\n"]),
         Some(limit) => {
             let limit = limit_buffer.format(limit);
-            put(
+            append_all(
                 text,
                 &["refused ", line, " ", number, " ", name, " ", limit, "\n"],
             )
@@ -127,7 +124,7 @@ pub fn put_stop(text: &mut Vec<u8>, line: u64, fault: LineFault) -> Result<(), A
     let mut number_buffer = Buffer::new();
     let line = line_buffer.format(line);
     let number = number_buffer.format(number_of(fault));
-    put(
+    append_all(
         text,
         &["stop line ", line, " ", number, " ", name_of(fault), "\n"],
     )

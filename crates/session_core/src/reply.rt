@@ -1,6 +1,6 @@
-use collections::Text;
 use gateway_frames::{Ask, Out, VoiceAsk};
 use guild_model::Status;
+use payload_text::Payload;
 use snowflake_id::Snowflake;
 
 /// What is to be done after a frame, in order.
@@ -9,7 +9,7 @@ pub enum Reply {
     /// A payload goes to a connection.
     Send(u32, Out),
     /// The text of a dispatch goes to a connection again.
-    Text(u32, Text),
+    Text(u32, Payload),
     /// A connection is closed with a code.
     Close(u32, u16),
     /// A session begins.

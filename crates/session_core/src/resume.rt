@@ -12,7 +12,6 @@ use crate::Reply;
 use crate::close::UNKNOWN_ERROR;
 use crate::kept::Live;
 use crate::sessions::Sessions;
-use collections::Text;
 use gateway_frames::{Out, Resume};
 use replay_ring::{After, Ring};
 use std::alloc::{AllocError, Global};
@@ -55,16 +54,11 @@ fn older_closes(alloc: Global, older: Option<u32>) -> Result<Vec<Reply>, AllocEr
     Ok(replies)
 }
 
-fn add_texts(
-    alloc: Global,
-    conn: u32,
-    texts: After<'_>,
-    replies: &mut Vec<Reply>,
-) -> Result<(), AllocError>
+fn add_texts(conn: u32, texts: After<'_>, replies: &mut Vec<Reply>) -> Result<(), AllocError>
     ensures { OnOk result (replies.new.items ≡ replies.old.items ++ map (λ text. Texts conn text) texts.entry) }
 {
     for text in texts {
-        replies.push(Reply::Text(conn, Text::new(alloc, text)?))?;
+        replies.push(Reply::Text(conn, text.share()?))?;
     }
     Ok(())
 }
@@ -82,7 +76,7 @@ fn replies_of(
     ensures { IfOk result (λ replies. replies.items ≡ resume_replies conn older seq sent.now) }
 {
     let mut replies = older_closes(alloc, older)?;
-    add_texts(alloc, conn, sent.after(seq), &mut replies)?;
+    add_texts(conn, sent.after(seq), &mut replies)?;
     replies.push(Reply::Send(conn, Out::Resumed(sent.last())))?;
     Ok(replies)
 }

@@ -1,4 +1,4 @@
-ghost use Rattle.std.specs.Prelude.{◌≡◌, ◌<◌, ◌^◌, ◌==◌, ◌↔◌, position, slice_get, option_map, string_bytes, IsErr, Some, None, ◌-◌, true, false, not, nat_lt, ◌∷◌, [], length, map, is_some, IfOk, OnOk, OnErr};
+ghost use Rattle.std.specs.Prelude.{◌≡◌, ◌<◌, ◌^◌, ◌==◌, ◌↔◌, position, slice_get, option_map, IsErr, Some, None, ◌-◌, true, false, not, nat_lt, ◌∷◌, [], length, map, is_some, IfOk, OnOk, OnErr};
 ghost use Rattle.session_core.specs.State.{no_sessions, live, has_session, number_on, gone, begun, Detached, has_link, with_link, opened, open_replies, heard, attached};
 ghost use Rattle.std.specs.Option.{option_copied, option_and_then};
 ghost use Rattle.session_core.specs.Pushes.{next_number, has_next_at, pushed_at};
@@ -21,6 +21,7 @@ use collections::ById;
 use dispatch_types::Viewer;
 use gateway_frames::{Identify, Out};
 use indexmap::IndexMap;
+use payload_text::Payload;
 use std::alloc::{AllocError, Global};
 use std::marker::Model;
 
@@ -384,10 +385,10 @@ impl Sessions {
     }
 
     /// Keeps the text of the next dispatch of the live session at a place, for a resume.
-    pub fn push_at(&mut self, place: usize, text: String)
+    pub fn push_at(&mut self, place: usize, text: Payload)
         requires there { place < length self.old.sessions }
         requires room { has_next_at place self.old ≡ true }
-        ensures { self.new ≡ pushed_at place (string_bytes text) self.old }
+        ensures { self.new ≡ pushed_at place text self.old }
     {
         let (_, session) = self.live.pair_mut(place);
         session.sent.push(text);

@@ -1,4 +1,3 @@
-pub mod Bodies
 pub mod Audience
 pub mod World
 pub mod Law

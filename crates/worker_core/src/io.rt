@@ -2,6 +2,7 @@ ghost use Rattle.std.specs.Prelude.{◌≡◌, [], ◌∷◌, ◌++◌, OnOk};
 
 use collections::{Seq, Text};
 use edit_apply::Edit;
+use payload_text::Payload;
 use session_core::{SessionFault, Spent};
 use snowflake_id::Snowflake;
 use std::alloc::AllocError;
@@ -27,7 +28,7 @@ pub enum Input {
 #[derive(Drop)]
 pub enum Output {
     /// A text goes to a connection.
-    Send(u32, Text),
+    Send(u32, Payload),
     /// A connection is closed with a code (Gateway, Close Event Codes).
     Close(u32, u16),
     /// A client wishes this edit of a guild, which is for whoever orders the guild's edits (Gateway

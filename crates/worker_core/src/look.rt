@@ -54,7 +54,7 @@ fn tell_each(
     let owed = Owed::of(alloc, guild, entry, notes, audience.viewers.as_slice())?;
     let whose = audience.whose.as_slice();
     for place in 0..whose.len() {
-        owed.tell(alloc, whose[place], sessions, place, out)?;
+        owed.tell(whose[place], sessions, place, out)?;
     }
     Ok(())
 }

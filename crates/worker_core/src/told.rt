@@ -10,34 +10,34 @@ ghost use Rattle.worker_core.specs.Audience.{Picks, IsLonger, picked_by};
 ghost use Rattle.worker_core.specs.Telling.{TellsAt, FailsAt};
 
 use crate::io::{Output, StepFault};
-use crate::tell::{bodies_of, tell_written};
+use crate::tell::{envelopes_of, tell_written};
 use dispatch_types::{Dispatch, Viewer};
 use edit_apply::Edit;
 use edit_events::{Was, events};
-use event_json::Body;
 use guild_model::Guild;
+use payload_text::Envelope;
 use same_views::same_list;
 use session_core::Sessions;
 use std::alloc::{AllocError, Global};
 use std::marker::Model;
 
-/// Dispatches, and the text of each without its number.
+/// Dispatches, and the text of each but for its number.
 #[derive(Drop)]
 pub struct Told {
     dispatches: Vec<Dispatch>,
-    bodies: Vec<Body>,
+    envelopes: Vec<Envelope>,
 }
 
 impl Model for Told {
     ghost use Rattle.std.specs.Prelude.{◌≡◌, List, map};
     ghost use Rattle.dispatch_types.specs.declared.dispatch.Dispatch.{Dispatch};
-    ghost use Rattle.worker_core.specs.Bodies.{body_text};
+    ghost use Rattle.event_json.specs.Text.{envelope_of};
 
     ghost Value = { List Dispatch };
 
     ghost view = { λ t. t.dispatches.items };
 
-    ghost invariant = { λ t. t.bodies.items ≡ map body_text t.dispatches.items };
+    ghost invariant = { λ t. t.envelopes.items ≡ map envelope_of t.dispatches.items };
 }
 
 impl Told {
@@ -45,8 +45,8 @@ impl Told {
     pub fn of(alloc: Global, dispatches: Vec<Dispatch>) -> Result<Told, AllocError>
         ensures { IfOk result (λ told. told ≡ dispatches.items) }
     {
-        let bodies = bodies_of(alloc, dispatches.as_slice())?;
-        Ok(Told { dispatches, bodies })
+        let envelopes = envelopes_of(alloc, dispatches.as_slice())?;
+        Ok(Told { dispatches, envelopes })
     }
 
     /// Whether these are the dispatches.
@@ -59,7 +59,6 @@ impl Told {
     /// Tells the session at a place the dispatches.
     pub fn tell(
         &self,
-        alloc: Global,
         sessions: &mut Sessions,
         place: usize,
         out: &mut Vec<Output>,
@@ -69,14 +68,7 @@ impl Told {
         ensures as_many { OnOk result (length sessions.new.sessions ≡ length sessions.old.sessions) }
     {
         let dispatches = self.dispatches.as_slice();
-        tell_written(
-            alloc,
-            sessions,
-            place,
-            dispatches,
-            self.bodies.as_slice(),
-            out,
-        )
+        tell_written(sessions, place, dispatches, self.envelopes.as_slice(), out)
     }
 }
 
@@ -132,7 +124,6 @@ impl Owed {
     /// Tells the session at a place what is owed to the viewer at another.
     pub fn tell(
         &self,
-        alloc: Global,
         viewer: usize,
         sessions: &mut Sessions,
         place: usize,
@@ -147,7 +138,7 @@ impl Owed {
             return Ok(());
         };
         match self.told.get(*at) {
-            Some(told) => told.tell(alloc, sessions, place, out),
+            Some(told) => told.tell(sessions, place, out),
             None => Ok(()),
         }
     }

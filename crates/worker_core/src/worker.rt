@@ -30,6 +30,7 @@ use edit_apply::Edit;
 use gateway_frames::{Ask, Out, VoiceAsk};
 use guild_model::{Guild, Status, User};
 use member_chunks::answer;
+use payload_text::Payload;
 use session_core::{Bot, Reply, SessionFault, Sessions, Spent, session_id};
 use snowflake_id::Snowflake;
 use std::alloc::{AllocError, Global};
@@ -440,5 +441,6 @@ fn said(alloc: Global, conn: u32, payload: Out) -> Result<Output, AllocError>
     ensures { IfOk result (λ output. output ≡ written (Says conn payload)) }
 {
     let text = payload.text(alloc)?;
-    Ok(Output::Send(conn, Text::from_string(text)))
+    let text = Payload::plain(alloc, Text::from_string(text))?;
+    Ok(Output::Send(conn, text))
 }

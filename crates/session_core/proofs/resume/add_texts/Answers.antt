@@ -12,8 +12,8 @@ loop-text-preserved c =
     let later : List Reply = map (λ text. Texts c.args.conn text) c.next.new.self in
     let old : List Reply = c.loop-text.replies.items in
     ap (λ (rs : List Reply). rs ++ later) c.in_ok-push.ensures.items
-    ∙ (append_assoc old (Texts c.args.conn c.in_ok-new.field-0 ∷ []) later
-    ∙ (ap (λ text. old ++ Texts c.args.conn text ∷ later) c.in_ok-new.ensures
+    ∙ (append_assoc old (Texts c.args.conn c.in_ok-share.field-0 ∷ []) later
+    ∙ (ap (λ text. old ++ Texts c.args.conn text ∷ later) c.in_ok-share.ensures
     ∙ (ap (λ (ts : List (List ℕ)). old ++ map (λ text. Texts c.args.conn text) ts) (sym c.in-Some.ensures.steps) ∙ c.loop-text.invariant)))
 
 pub returns : goal.returns

@@ -4,14 +4,14 @@ use Rattle.replay_ring.proofs.ring.Ring.push.Goals as goal
 
 pub returns-then-self-len : goal.returns-then-self-len
 returns-then-self-len c =
-    let t = c.from_string-text.result in
+    let t = c.args.text in
     let r = c.self.inside in
-    rw (← c.self.view_is, ← c.from_string-text.ensures, c.clear.ensures, longest_suffix-long r.texts.capacity r.limit t r.texts.items (omega arith))
+    rw (← c.self.view_is, c.clear.ensures, longest_suffix-long r.texts.capacity r.limit t r.texts.items (omega arith))
     refl
 
 pub invariant_of-self-2 : goal.invariant_of-self-2
 invariant_of-self-2 c =
-    let t = c.from_string-text.result in
+    let t = c.args.text in
     let r = c.self.inside in
     let left = fits_back r.texts.capacity r.limit t r.texts.items c.self.invariant.room (omega arith) in
     let made = rw (c.make_room-left.ensures.kept, c.len-2.ensures) at c.make_room-left.ensures.counted in
@@ -25,8 +25,8 @@ invariant_of-self-2 c =
 
 pub returns : goal.returns
 returns c =
-    let t = c.from_string-text.result in
+    let t = c.args.text in
     let r = c.self.inside in
     let left = fits_back r.texts.capacity r.limit t r.texts.items c.self.invariant.room (omega arith) in
-    rw (← c.self.view_is, ← c.from_string-text.ensures, c.push_back.ensures.items, c.make_room-left.ensures.kept, c.len-2.ensures, left.items)
+    rw (← c.self.view_is, c.push_back.ensures.items, c.make_room-left.ensures.kept, c.len-2.ensures, left.items)
     refl

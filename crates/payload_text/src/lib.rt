@@ -1,0 +1,12 @@
+//! The text of a gateway payload, of which all but the number is kept once for all that are sent it.
+#![tactic(auto)]
+
+mod append;
+mod envelope;
+mod payload;
+#[cfg(test)]
+mod tests;
+
+pub use append::append_all;
+pub use envelope::Envelope;
+pub use payload::{Payload, Pieces};
