@@ -28,23 +28,11 @@ use Rattle.worker_core.specs.declared.io.StepFault.TheVariants.{Spent, Memory}
 use Rattle.worker_core.proofs.Lists.{append_none, map_join}
 use Rattle.worker_core.proofs.Kept.{any_join, flat_map_join}
 use Rattle.worker_core.specs.Audience.{Picks, picked_by, viewer_of}
-use Rattle.worker_core.proofs.Picking.{item_at, at_place, as_many_picked}
-use Rattle.worker_core.proofs.Telling.{split_at, get_at, last_taken, rest_dropped, past_no}
-
--- the session at a place
-pub record Here (xs : List (Session Replay)) (i : ℕ) : Type 0 where
-  pub item : Session Replay
-  pub found : slice_get xs i ≡ Some item
-  pub read : get_or xs i item ≡ item
-
-pub here_at : (xs : List (Session Replay)) (i : ℕ) → i < length xs → Here xs i
-here_at xs i lt =
-    let split = split_at xs i lt in
-    let found : slice_get xs i ≡ Some split.item = ap (λ ys. slice_get ys i) split.whole ∙ (ap (λ n. slice_get (split.front ++ split.item ∷ split.back) n) split.place ∙ get_at split.front split.item split.back) in
-    record { item = split.item; found = found; read = get_or_from_slice_get xs i split.item split.item found }
+use Rattle.worker_core.proofs.Picking.{Item, item_at, at_place, as_many_picked}
+use Rattle.worker_core.proofs.Telling.{last_taken, rest_dropped, past_no}
 
 -- what is owed to the session at a place, where it is picked by its viewer
-pub owed_at : (s : Record) (e : Edit) (viewers : List Viewer) (whose : List ℕ) (told : List (List Dispatch)) (which : List ℕ) (xs : List (Session Replay)) (i k d : ℕ) → i < length xs → (here : Here xs i)
+pub owed_at : (s : Record) (e : Edit) (viewers : List Viewer) (whose : List ℕ) (told : List (List Dispatch)) (which : List ℕ) (xs : List (Session Replay)) (i k d : ℕ) → i < length xs → (here : Item xs i)
     → Picks viewers whose (map viewer_of xs) → Picks told which (map (owed s e) viewers) → k ≡ get_or whose i d
     → picked_by told (slice_get which k) ≡ Some (owed s e here.item.viewer)
 owed_at s e viewers whose told which xs i k d lt here audience picks is =
@@ -87,7 +75,7 @@ module _ (s : Record) (e : Edit) (old : State Replay) where
     pub out : outm ≡ before ++ all_written (flat_map (told_sends s e) (take i xs))
     pub counted : list_any (told_spends s e) (take i xs) ≡ false
 
-  module _ (ds : List Dispatch) (mid : State Replay) (before outm : List Written) (i : ℕ) (lt : i < length xs) (here : Here xs i) (told : Told i mid before outm) (due : ds ≡ owed s e here.item.viewer) where
+  module _ (ds : List Dispatch) (mid : State Replay) (before outm : List Written) (i : ℕ) (lt : i < length xs) (here : Item xs i) (told : Told i mid before outm) (due : ds ≡ owed s e here.item.viewer) where
     between : IsAt i (map (told_more s e) (take i xs)) here.item (drop (i + 1) xs) mid
     between = (
       ap (λ (m : State Replay). m.sessions) told.sessions ∙ ap (λ ys. map (told_more s e) (take i xs) ++ ys) (rest_dropped xs i here.item lt here.read),

@@ -32,6 +32,7 @@ use Rattle.worker_core.specs.Outputs.{all_written}
 use Rattle.worker_core.specs.Spent.{is_past, chunks_spend, want_spends}
 use Rattle.worker_core.specs.Telling.{FaultBy, kept_with, further, TellsAt, FailsAt}
 use Rattle.worker_core.specs.Stands.{replica_id, replica, KeptWorker, Stands, answered_by, kept_answer, is_of, kept_numbered, kept_after_answer, kept_asked, kept_after_want, kept_presence_wishes, wished_by, kept_voice_wishes, kept_want_sends, kept_want_spends, wanted_sends, wanted_spends, Gives, GivesNot}
+use Rattle.worker_core.specs.Audience.{viewer_of}
 use Rattle.worker_core.proofs.Lists.{append_none, map_join}
 use Rattle.worker_core.proofs.Folds.{dispatches_told}
 use Rattle.worker_core.proofs.Logs.{state_id}
@@ -246,9 +247,6 @@ module _ (k : KeptWorker) (w : Worker) (stands : Stands k w) where
   want_stands number (Voice ask) = stands
 
 -- ---- wishes
-
-abbrev pub viewer_of : Session Replay → Viewer
-viewer_of x = x.viewer
 
 never : {A : Type 0} (o : Option A) → option_map_or (λ x. false) o false ≡ false
 never None = refl

@@ -11,8 +11,8 @@ use Rattle.worker_core.specs.declared.io.StepFault.{StepFault}
 use Rattle.worker_core.specs.Audience.{Picks, viewer_of}
 use Rattle.worker_core.specs.Telling.{FailsEach}
 use Rattle.worker_core.proofs.look.tell_each.Goals as goal
-use Rattle.worker_core.proofs.Picking.{as_many_picked}
-use Rattle.worker_core.proofs.Looking.{here_at, owed_at, each_more, each_fails}
+use Rattle.worker_core.proofs.Picking.{item_at, as_many_picked}
+use Rattle.worker_core.proofs.Looking.{owed_at, each_more, each_fails}
 
 pub tell-requires : goal.tell-requires
 tell-requires c =
@@ -29,7 +29,7 @@ returns-in_err-tell c s noted is accepted =
     let o = c.in_ok-owed.owed in
     let many : length a.whose.items ≡ length xs = as_many_picked a.viewers.items a.whose.items _ c.requires.audience ∙ length-map xs viewer_of in
     let lt : i < length xs = omega (arith, many) in
-    let here = here_at xs i lt in
+    let here = item_at xs i lt in
     let told = c.loop-place.invariant.told s noted is accepted in
     let picks : Picks o.told.items o.whose.items (map (owed s e) a.viewers.items) =
     subst (λ (vs : List Viewer). Picks o.told.items o.whose.items (map (owed s e) vs)) c.as_slice.ensures.value
@@ -51,7 +51,7 @@ loop-place-preserved c = record {
       let o = c.in_ok-owed.owed in
       let many : length a.whose.items ≡ length xs = as_many_picked a.viewers.items a.whose.items _ c.requires.audience ∙ length-map xs viewer_of in
       let lt : i < length xs = omega (arith, many) in
-      let here = here_at xs i lt in
+      let here = item_at xs i lt in
       let told = c.loop-place.invariant.told s noted is accepted in
       let picks : Picks o.told.items o.whose.items (map (owed s e) a.viewers.items) =
       subst (λ (vs : List Viewer). Picks o.told.items o.whose.items (map (owed s e) vs)) c.as_slice.ensures.value

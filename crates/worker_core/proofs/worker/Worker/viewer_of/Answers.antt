@@ -2,7 +2,8 @@
 use Rattle.std.proofs.Common.{sym, ap, ◌∙◌}
 use Rattle.std.specs.Prelude.{option_map}
 use Rattle.worker_core.specs.Stands.{is_of}
-use Rattle.worker_core.proofs.Wanting.{viewer_of, there_at, none_at}
+use Rattle.worker_core.specs.Audience.{viewer_of}
+use Rattle.worker_core.proofs.Wanting.{there_at, none_at}
 use Rattle.worker_core.proofs.worker.Worker.viewer_of.Goals as goal
 
 pub returns-in-Some : goal.returns-in-Some
