@@ -1,7 +1,18 @@
 ghost use Rattle.std.specs.Prelude.{◌≡◌, ◌↔◌, IsTrue};
 
 use crate::equality::SameAs;
+use crate::guild_sent::{
+    is_guild_delete, is_guild_role_create, is_guild_role_delete, is_guild_role_update,
+    is_guild_update,
+};
 use crate::lists::same_items;
+use crate::member_sent::{
+    is_guild_member_add, is_guild_member_remove, is_guild_member_update, is_message_delete,
+    is_typing_start, is_voice_state_update,
+};
+use crate::thread_sent::{
+    is_thread_create, is_thread_delete, is_thread_list_sync, is_thread_members_update,
+};
 use dispatch_types::Dispatch;
 
 impl SameAs for Dispatch {
@@ -10,42 +21,23 @@ impl SameAs for Dispatch {
             (Dispatch::Ready(one), Dispatch::Ready(other)) => one.same_as(other),
             (Dispatch::Resumed, Dispatch::Resumed) => true,
             (Dispatch::GuildCreate(one), Dispatch::GuildCreate(other)) => one.same_as(other),
-            (
-                Dispatch::GuildUpdate { id, name, owner },
-                Dispatch::GuildUpdate {
-                    id: other_id,
-                    name: other_name,
-                    owner: other_owner,
-                },
-            ) => id == other_id && name.same_as(other_name) && owner == other_owner,
-            (
-                Dispatch::GuildDelete { id, unavailable },
-                Dispatch::GuildDelete {
-                    id: other_id,
-                    unavailable: other_unavailable,
-                },
-            ) => id == other_id && unavailable == other_unavailable,
-            (
-                Dispatch::GuildRoleCreate { guild, role },
-                Dispatch::GuildRoleCreate {
-                    guild: other_guild,
-                    role: other_role,
-                },
-            ) => guild == other_guild && role.same_as(other_role),
-            (
-                Dispatch::GuildRoleUpdate { guild, role },
-                Dispatch::GuildRoleUpdate {
-                    guild: other_guild,
-                    role: other_role,
-                },
-            ) => guild == other_guild && role.same_as(other_role),
-            (
-                Dispatch::GuildRoleDelete { guild, role },
-                Dispatch::GuildRoleDelete {
-                    guild: other_guild,
-                    role: other_role,
-                },
-            ) => guild == other_guild && role == other_role,
+            (Dispatch::GuildUpdate { id, name, owner }, _) => is_guild_update(
+                *id, name, *owner, other,
+            ),
+            (Dispatch::GuildDelete { id, unavailable }, _) => is_guild_delete(
+                *id,
+                *unavailable,
+                other,
+            ),
+            (Dispatch::GuildRoleCreate { guild, role }, _) => is_guild_role_create(
+                *guild, role, other,
+            ),
+            (Dispatch::GuildRoleUpdate { guild, role }, _) => is_guild_role_update(
+                *guild, role, other,
+            ),
+            (Dispatch::GuildRoleDelete { guild, role }, _) => is_guild_role_delete(
+                *guild, *role, other,
+            ),
             (Dispatch::ChannelCreate(one), Dispatch::ChannelCreate(other)) => one.same_as(other),
             (Dispatch::ChannelUpdate(one), Dispatch::ChannelUpdate(other)) => one.same_as(other),
             (Dispatch::ChannelDelete(one), Dispatch::ChannelDelete(other)) => one.same_as(other),
@@ -55,14 +47,8 @@ impl SameAs for Dispatch {
                     newly_created,
                     member,
                 },
-                Dispatch::ThreadCreate {
-                    thread: other_thread,
-                    newly_created: other_newly_created,
-                    member: other_member,
-                },
-            ) => thread.same_as(other_thread)
-                && newly_created == other_newly_created
-                && member == other_member,
+                _,
+            ) => is_thread_create(thread, *newly_created, member, other),
             (Dispatch::ThreadUpdate(one), Dispatch::ThreadUpdate(other)) => one.same_as(other),
             (
                 Dispatch::ThreadDelete {
@@ -71,16 +57,8 @@ impl SameAs for Dispatch {
                     parent,
                     kind,
                 },
-                Dispatch::ThreadDelete {
-                    guild: other_guild,
-                    id: other_id,
-                    parent: other_parent,
-                    kind: other_kind,
-                },
-            ) => guild == other_guild
-                && id == other_id
-                && parent == other_parent
-                && kind == other_kind,
+                _,
+            ) => is_thread_delete(*guild, *id, *parent, *kind, other),
             (
                 Dispatch::ThreadListSync {
                     guild,
@@ -88,16 +66,8 @@ impl SameAs for Dispatch {
                     threads,
                     members,
                 },
-                Dispatch::ThreadListSync {
-                    guild: other_guild,
-                    channels: other_channels,
-                    threads: other_threads,
-                    members: other_members,
-                },
-            ) => guild == other_guild
-                && channels.same_as(other_channels)
-                && threads.same_as(other_threads)
-                && members.same_as(other_members),
+                _,
+            ) => is_thread_list_sync(*guild, channels, threads, members, other),
             (
                 Dispatch::ThreadMembersUpdate {
                     guild,
@@ -106,60 +76,29 @@ impl SameAs for Dispatch {
                     added,
                     removed,
                 },
-                Dispatch::ThreadMembersUpdate {
-                    guild: other_guild,
-                    id: other_id,
-                    count: other_count,
-                    added: other_added,
-                    removed: other_removed,
-                },
-            ) => guild == other_guild
-                && id == other_id
-                && count == other_count
-                && added.same_as(other_added)
-                && removed.same_as(other_removed),
-            (
-                Dispatch::GuildMemberAdd { guild, member },
-                Dispatch::GuildMemberAdd {
-                    guild: other_guild,
-                    member: other_member,
-                },
-            ) => guild == other_guild && member.same_as(other_member),
-            (
-                Dispatch::GuildMemberUpdate { guild, member },
-                Dispatch::GuildMemberUpdate {
-                    guild: other_guild,
-                    member: other_member,
-                },
-            ) => guild == other_guild && member.same_as(other_member),
-            (
-                Dispatch::GuildMemberRemove { guild, user },
-                Dispatch::GuildMemberRemove {
-                    guild: other_guild,
-                    user: other_user,
-                },
-            ) => guild == other_guild && user.same_as(other_user),
+                _,
+            ) => is_thread_members_update(*guild, *id, *count, added, removed, other),
+            (Dispatch::GuildMemberAdd { guild, member }, _) => is_guild_member_add(
+                *guild, member, other,
+            ),
+            (Dispatch::GuildMemberUpdate { guild, member }, _) => is_guild_member_update(
+                *guild, member, other,
+            ),
+            (Dispatch::GuildMemberRemove { guild, user }, _) => is_guild_member_remove(
+                *guild, user, other,
+            ),
             (Dispatch::GuildMembersChunk(one), Dispatch::GuildMembersChunk(other)) => one.same_as(
                 other,
             ),
-            (
-                Dispatch::VoiceStateUpdate { guild, voice },
-                Dispatch::VoiceStateUpdate {
-                    guild: other_guild,
-                    voice: other_voice,
-                },
-            ) => guild == other_guild && voice.same_as(other_voice),
+            (Dispatch::VoiceStateUpdate { guild, voice }, _) => is_voice_state_update(
+                *guild, voice, other,
+            ),
             (Dispatch::PresenceUpdate(one), Dispatch::PresenceUpdate(other)) => one.same_as(other),
             (Dispatch::MessageCreate(one), Dispatch::MessageCreate(other)) => one.same_as(other),
             (Dispatch::MessageUpdate(one), Dispatch::MessageUpdate(other)) => one.same_as(other),
-            (
-                Dispatch::MessageDelete { guild, channel, id },
-                Dispatch::MessageDelete {
-                    guild: other_guild,
-                    channel: other_channel,
-                    id: other_id,
-                },
-            ) => guild == other_guild && channel == other_channel && id == other_id,
+            (Dispatch::MessageDelete { guild, channel, id }, _) => is_message_delete(
+                *guild, *channel, *id, other,
+            ),
             (Dispatch::MessageReactionAdd(one), Dispatch::MessageReactionAdd(other)) => one.same_as(
                 other,
             ),
@@ -172,16 +111,8 @@ impl SameAs for Dispatch {
                     user,
                     seconds,
                 },
-                Dispatch::TypingStart {
-                    guild: other_guild,
-                    channel: other_channel,
-                    user: other_user,
-                    seconds: other_seconds,
-                },
-            ) => guild == other_guild
-                && channel == other_channel
-                && user == other_user
-                && seconds == other_seconds,
+                _,
+            ) => is_typing_start(*guild, *channel, *user, *seconds, other),
             _ => false,
         }
     }

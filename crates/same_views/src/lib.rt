@@ -3,10 +3,13 @@
 
 mod dispatches;
 mod equality;
+mod guild_sent;
 mod lists;
+mod member_sent;
 mod objects;
 mod plain;
-mod told;
+mod sent;
+mod thread_sent;
 mod views;
 
 pub use dispatches::same_list;
