@@ -159,7 +159,7 @@ impl Worker {
         ensures out { IfOk result (λ out. out.items ≡ all_written (kept_sends guild.old entries.now self.old.core.sessions)) }
         ensures spent { MatchResult result (λ _. kept_spends guild.old entries.now self.old.core.sessions ≡ false) (FaultBy (kept_spends guild.old entries.now self.old.core.sessions)) }
     {
-        let mut out = Vec::new(self.alloc);
+        let mut out = Vec::with_capacity(self.alloc, self.sessions.len())?;
         look(self.alloc, guild, entries, &mut self.sessions, &mut out)?;
         Ok(out)
     }

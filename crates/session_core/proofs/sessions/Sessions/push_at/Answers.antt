@@ -1,7 +1,16 @@
-use Rattle.std.proofs.Common.{refl}
+use Rattle.std.proofs.Common.{◌≡◌, ◌^◌, ◌-◌, true, nat_lt, refl, arith}
+use Rattle.std.proofs.lemmas.Bool.Decides.{nat_tests}
 use Rattle.session_core.specs.declared.kept.Live.{Live}
 use Rattle.session_core.proofs.Places.{set-kept, at-kept, IsKept-counted}
 use Rattle.session_core.proofs.sessions.Sessions.push_at.Goals as goal
+
+-- the session is the one that has a further number
+pub push-requires : goal.push-requires
+push-requires c =
+    let x = c.pair_mut-session.result.1.now in
+    let at = at-kept c.self.inside.live.entries c.args.place c.pair_mut-session.result.0.now x c.pair_mut-session.ensures.value in
+    let room : nat_lt x.sent.last (2 ^ 64 - 1) ≡ true = rw (← c.self.view_is, at) at c.requires.room in
+    grind (arith, nat_tests)
 
 pub invariant_of-self : goal.invariant_of-self
 invariant_of-self c =
