@@ -7,3 +7,5 @@ pub mod ChannelSights
 pub mod Steps
 pub mod Gains
 pub mod OneChannel
+pub mod Grown
+pub mod Rights

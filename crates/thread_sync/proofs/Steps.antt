@@ -23,32 +23,36 @@ use Rattle.thread_sync.specs.Sync.{is_new, uncovers_where, uncovers, is_gained_w
 use Rattle.thread_sync.proofs.Lists.{filter-both, filter-alike, any-filter}
 use Rattle.thread_sync.proofs.ChannelSights.{in-sight, shown-among, seen-channels}
 
+-- there is a thread in a channel that is shown, and it is new
+abbrev uncovers_new : (Thread → Bool) → (Thread → Bool) → List Thread → ℕ → Bool
+uncovers_new new shown threads channel = list_any (λ (t : Thread). t.parent == channel && new t) (filter shown threads)
+
 -- one more thread, which is uncovered or not
-uncovers-more : (was : Seen) (shown : Thread → Bool) (xs : List Thread) (i id : ℕ) (x : Thread) → i < length xs → get_or xs i x ≡ x
-    → uncovers_where was shown (take (i + 1) xs) id ≡ (uncovers_where was shown (take i xs) id || (shown x && ((x.parent == id) && is_new was x)))
-uncovers-more was shown xs i id x lt here =
+uncovers-more : (new shown : Thread → Bool) (xs : List Thread) (i id : ℕ) (x : Thread) → i < length xs → get_or xs i x ≡ x
+    → uncovers_new new shown (take (i + 1) xs) id ≡ (uncovers_new new shown (take i xs) id || (shown x && ((x.parent == id) && new x)))
+uncovers-more new shown xs i id x lt here =
     any-filter within shown (take (i + 1) xs)
     ∙ (list_any_more (λ t. shown t && within t) xs i x lt
     ∙ (ap (λ b. b || (shown (get_or xs i x) && within (get_or xs i x))) (sym (any-filter within shown (take i xs)))
-    ∙ ap (λ t. uncovers_where was shown (take i xs) id || (shown t && within t)) here))
+    ∙ ap (λ t. uncovers_new new shown (take i xs) id || (shown t && within t)) here))
   where
     within : Thread → Bool
-    within t = (t.parent == id) && is_new was t
+    within t = (t.parent == id) && new t
 
-module _ (was : Seen) (shown : Thread → Bool) (xs : List Thread) (i id : ℕ) (x : Thread) (lt : i < length xs) (is_x : get_or xs i x ≡ x) (parents : List ℕ) (invariant : is_among parents id ≡ uncovers_where was shown (take i xs) id) where
-  pub uncovers-one : (shown x && is_new was x) ≡ true → is_among (put_id own_id x.parent parents) id ≡ uncovers_where was shown (take (i + 1) xs) id
+module _ (new shown : Thread → Bool) (xs : List Thread) (i id : ℕ) (x : Thread) (lt : i < length xs) (is_x : get_or xs i x ≡ x) (parents : List ℕ) (invariant : is_among parents id ≡ uncovers_new new shown (take i xs) id) where
+  pub uncovers-one : (shown x && new x) ≡ true → is_among (put_id own_id x.parent parents) id ≡ uncovers_new new shown (take (i + 1) xs) id
   uncovers-one is =
       has-put own_id x.parent id parents ∙ (ap (λ b. (x.parent == id) || b) invariant
-      ∙ (adds (x.parent == id) (uncovers_where was shown (take i xs) id) (shown x) (is_new was x) is ∙ sym (uncovers-more was shown xs i id x lt is_x)))
+      ∙ (adds (x.parent == id) (uncovers_new new shown (take i xs) id) (shown x) (new x) is ∙ sym (uncovers-more new shown xs i id x lt is_x)))
     where
-      adds : (at some here new : Bool) → (here && new) ≡ true → (at || some) ≡ (some || (here && (at && new)))
-      adds at some here new e = grind arith
+      adds : (at some here fresh : Bool) → (here && fresh) ≡ true → (at || some) ≡ (some || (here && (at && fresh)))
+      adds at some here fresh e = grind arith
 
-  pub uncovers-none : (shown x && is_new was x) ≡ false → is_among parents id ≡ uncovers_where was shown (take (i + 1) xs) id
-  uncovers-none is = invariant ∙ (leaves (x.parent == id) (uncovers_where was shown (take i xs) id) (shown x) (is_new was x) is ∙ sym (uncovers-more was shown xs i id x lt is_x))
+  pub uncovers-none : (shown x && new x) ≡ false → is_among parents id ≡ uncovers_new new shown (take (i + 1) xs) id
+  uncovers-none is = invariant ∙ (leaves (x.parent == id) (uncovers_new new shown (take i xs) id) (shown x) (new x) is ∙ sym (uncovers-more new shown xs i id x lt is_x))
     where
-      leaves : (at some here new : Bool) → (here && new) ≡ false → some ≡ (some || (here && (at && new)))
-      leaves at some here new e = grind arith
+      leaves : (at some here fresh : Bool) → (here && fresh) ≡ false → some ≡ (some || (here && (at && fresh)))
+      leaves at some here fresh e = grind arith
 
 -- one more item that has a part, or has none
 pub parts-more : {X T M : Type 0} (part : T → Option M) (f : X → T) (xs : List X) (i : ℕ) (x : X) → i < length xs → get_or xs i x ≡ x

@@ -35,3 +35,7 @@ is_in_sight ls channel = has_id sight_id channel ls
 
 abbrev pub shows_among : List ChannelSight → Thread → Bool
 shows_among ls t = is_active t && option_map_or (λ (l : ChannelSight). shows_under l t) (find_id sight_id t.parent ls) false
+
+-- all that another sight of the same channel shows
+abbrev pub covers : ChannelSight → ChannelSight → Bool
+covers l other = l.views && (l.user == other.user && (l.manages || not other.manages))

@@ -6,6 +6,7 @@ use Rattle.guild_model.specs.declared.channel.Channel.{Channel}
 use Rattle.guild_model.specs.declared.channel.ChannelKind.{ChannelKind}
 use Rattle.guild_model.specs.Record.{Record, channel_id}
 use Rattle.guild_model.specs.Ascending.{IsAscending, IsWell}
+use Rattle.guild_model.specs.Sight.{standing}
 use Rattle.dispatch_types.specs.declared.view.GuildView.TheVariants.{Open}
 use Rattle.dispatch_types.specs.declared.view.OpenView.{OpenView}
 use Rattle.dispatch_types.specs.Projection.{open_view}
@@ -14,6 +15,8 @@ use Rattle.thread_sync.specs.Sight.{KeepsGrants}
 use Rattle.thread_sync.specs.Seen.{visible_to}
 use Rattle.thread_sync.specs.Sync.{sync}
 use Rattle.thread_sync.specs.InChannel.{visible_in, sync_in}
+use Rattle.thread_sync.specs.ChannelSights.{sights}
+use Rattle.thread_sync.specs.BySights.{sync_by}
 
 -- one that is granted what it was, wherever threads stand, holds the threads that it held
 abbrev pub ThreadsStay : Type 0
@@ -52,3 +55,7 @@ pub record ChangesChannel (s t : Record) (channel : ℕ) : Type 0 where
 abbrev pub ChannelSyncIsWhole : Type 0
 ChannelSyncIsWhole = (s t : Record) (me : Member) (channel : ℕ) → IsAscending s → IsAscending t → ChangesChannel s t channel
     → sync_in (visible_in s me channel) t me channel ≡ sync (visible_to s me) t me
+
+-- where the threads are as they were, the sights of the channels are all that has to be kept: the sync by them is the sync by all that was seen
+abbrev pub RightsSyncIsWhole : Type 0
+RightsSyncIsWhole = (s t : Record) (me me' : Member) → IsAscending s → t.threads ≡ s.threads → sync_by (sights (standing s me)) t me' ≡ sync (visible_to s me) t me'

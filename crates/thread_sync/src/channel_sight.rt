@@ -2,10 +2,8 @@
 
 ghost use Rattle.std.specs.Prelude.{◌≡◌, IfOk};
 ghost use Rattle.collections.specs.ById.{IsById};
-ghost use Rattle.perm_bits.specs.Bits.{has_bit};
-ghost use Rattle.perm_bits.specs.Permissions.{view_channel, manage_threads};
 ghost use Rattle.guild_model.specs.Record.{channel_id};
-ghost use Rattle.thread_sync.specs.ChannelSights.{sight_in, shows_under, seen_in, shows_among};
+ghost use Rattle.thread_sync.specs.ChannelSights.{sight_in, shows_under, seen_in, shows_among, covers};
 
 use collections::{ById, Keyed};
 use guild_model::{Channel, Thread};
@@ -32,18 +30,6 @@ impl Keyed for ChannelSight {
     }
 }
 
-fn may_view(mask: Perms) -> bool
-    ensures { result ≡ has_bit mask view_channel }
-{
-    mask.has(Perms::VIEW_CHANNEL)
-}
-
-fn may_manage_threads(mask: Perms) -> bool
-    ensures { result ≡ has_bit mask manage_threads }
-{
-    mask.has(Perms::MANAGE_THREADS)
-}
-
 // The sight of a user's member in a channel.
 pub(crate) fn sight_in(standing: &StandingRef, user: Snowflake, channel: Snowflake) -> ChannelSight
     ensures { result ≡ sight_in standing.now user channel }
@@ -52,8 +38,8 @@ pub(crate) fn sight_in(standing: &StandingRef, user: Snowflake, channel: Snowfla
     ChannelSight {
         channel,
         user,
-        views: may_view(mask),
-        manages: may_manage_threads(mask),
+        views: mask.has(Perms::VIEW_CHANNEL),
+        manages: mask.has(Perms::MANAGE_THREADS),
     }
 }
 
@@ -66,6 +52,13 @@ impl ChannelSight {
             && thread.parent == self.channel
             && !thread.archived
             && (!thread.kind.is_private() || self.manages || thread.members.contains(self.user.0))
+    }
+
+    // Whether this sight shows all that another one of the channel does.
+    pub(crate) fn covers(&self, other: &ChannelSight) -> bool
+        ensures { result ≡ covers self.now other.now }
+    {
+        self.views && self.user == other.user && (self.manages || !other.manages)
     }
 }
 

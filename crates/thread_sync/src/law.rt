@@ -1,4 +1,4 @@
-ghost use Rattle.thread_sync.specs.Law.{ThreadsStay, SyncRestores, ChannelSyncIsWhole};
+ghost use Rattle.thread_sync.specs.Law.{ThreadsStay, SyncRestores, ChannelSyncIsWhole, RightsSyncIsWhole};
 
 /// THE LAW OF PERMISSION CHANGES: after any change of owner, roles, members and overwrites, a client's
 /// own losses and the gains of the sync make up the whole difference.
@@ -15,4 +15,10 @@ pub fn threads_stay()
 /// that looks at all.
 pub fn channel_sync_is_whole()
     ensures { ChannelSyncIsWhole }
+{}
+
+/// After a change of owner, roles or members, the sync by the sights of the channels before it is the
+/// sync by all channels and threads that were seen.
+pub fn rights_sync_is_whole()
+    ensures { RightsSyncIsWhole }
 {}

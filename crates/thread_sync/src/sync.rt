@@ -79,7 +79,8 @@ fn is_listed(sights: &ById<ChannelSight>, parents: &ById<Snowflake>, thread: &Th
     parents.contains(thread.parent.0) && shows_among(sights, thread)
 }
 
-fn listed<'a>(
+// The threads that are listed.
+pub(crate) fn listed<'a>(
     alloc: Global,
     sights: &ById<ChannelSight>,
     parents: &ById<Snowflake>,
