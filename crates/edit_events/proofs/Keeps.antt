@@ -21,8 +21,12 @@ use Rattle.dispatch_types.specs.Projection.{open_view}
 use Rattle.dispatch_types.specs.Fold.{Held, if_unavailable, on_open, begun, purged, purge, folded, fold_from}
 use Rattle.dispatch_types.proofs.Views.{projection-blind, projection-unserved, projection-open}
 use Rattle.edit_events.proofs.Out.{projection-out}
+use Rattle.guild_model.specs.Sight.{standing}
+use Rattle.thread_sync.specs.ChannelSights.{sights}
 use Rattle.thread_sync.specs.Seen.{visible_to}
 use Rattle.thread_sync.specs.Sync.{sync}
+use Rattle.thread_sync.specs.BySights.{sync_by}
+use Rattle.thread_sync.proofs.Rights.{rights_sync_is_whole}
 use Rattle.event_views.specs.Asked.{asked, told_if}
 use Rattle.event_views.specs.Has.{Has}
 use Rattle.event_views.proofs.Steps.{whole, by_guilds, by_asked_then}
@@ -186,10 +190,11 @@ follows-owner : (s : Record) (v : Viewer) (h : Held) (user : ℕ) → IsWell s �
 follows-owner s v h user well me me' is is' asks has =
     let t : Record = record s { owner = user } in
     let mine : me ≡ me' = cc in
-    subst (λ (m : Member). Has (record s { owner = user }) v m (fold_from v.intents s.id h (guild_updated (record s { owner = user }) v ++ told_if v (sync (visible_to s me) (record s { owner = user }) m)))) mine
+    subst (λ (m : Member). Has (record s { owner = user }) v m (fold_from v.intents s.id h (guild_updated (record s { owner = user }) v ++ told_if v (sync_by (sights (standing s me)) (record s { owner = user }) m)))) mine
+    (subst (λ o. Has t v me (fold_from v.intents s.id h (guild_updated t v ++ told_if v o))) (sym (rights_sync_is_whole s t me me well.ascending refl))
     (by_asked_then t v s.id h me false (GuildUpdate s.id s.name user) (told_if v (sync (visible_to s me) t me))
     (λ e. follows-rights s t v h me me well (record { id = refl; channels = λ c. refl; threads = refl }) refl asks (GuildUpdate s.id s.name user) (λ w. record w { name = s.name; owner = user }) same (told-guild v.intents s.id h s.name user) refl has)
-    (λ e. absurd (cc)))
+    (λ e. absurd (cc))))
 
 keeps-outage : (s : Record) (v : Viewer) (h : Held) → Agrees s v h → Agrees (record s { outage = true }) v (fold_from v.intents s.id h (due s (edit.Guild GuildOutage) v))
 keeps-outage s v h agrees = by_member (served v s) refl

@@ -84,7 +84,7 @@ id-kept s (edit.Message e) = message-id s e
 -- each dispatch that is owed is of the guild
 pub row-of : (after : Record) (v : Viewer) (note : Before) (me : Member) (e : Edit) → All (IsOf after.id) (row note after v me e)
 row-of after v note me (edit.Guild (GuildRename name)) = asked-of after.id v false (GuildUpdate after.id after.name after.owner) refl
-row-of after v (Owner was) me (edit.Guild (GuildOwner user)) = append-of after.id _ _ (asked-of after.id v false (GuildUpdate after.id after.name after.owner) refl) (sync-of was after v me)
+row-of after v (Owner before) me (edit.Guild (GuildOwner user)) = append-of after.id _ _ (asked-of after.id v false (GuildUpdate after.id after.name after.owner) refl) (sync-of before after v me)
 row-of after v note me (edit.Guild GuildOutage) = asked-of after.id v false (GuildDelete after.id true) refl
 row-of after v note me (edit.Guild GuildBack) = asked-of after.id v false (GuildCreate (greeting after v me)) (ap (λ id. Some id) (greeting-id after v me))
 row-of after v (RoleMember note) me (edit.RoleMember e) = role_member-of after v note me e

@@ -6,7 +6,7 @@ use Rattle.dispatch_types.specs.declared.viewer.Viewer.{Viewer}
 use Rattle.dispatch_types.specs.declared.dispatch.Dispatch.{Dispatch}
 use Rattle.dispatch_types.specs.declared.dispatch.Dispatch.TheVariants.{GuildCreate, GuildUpdate, GuildDelete}
 use Rattle.dispatch_types.specs.Serves.{served}
-use Rattle.thread_sync.specs.Sync.{sync}
+use Rattle.thread_sync.specs.BySights.{sync_by}
 use Rattle.event_views.specs.Asked.{asked, told_if}
 use Rattle.role_member_events.specs.Rows.{role_member_row}
 use Rattle.channel_events.specs.Rows.{channel_row}
@@ -31,7 +31,7 @@ guild_updated after v = asked v false (GuildUpdate after.id after.name after.own
 -- record after and the viewer's own member after
 abbrev pub row : Before → Record → Viewer → Member → Edit → List Dispatch
 row note after v me (edit.Guild (GuildRename name)) = guild_updated after v
-row (Owner was) after v me (edit.Guild (GuildOwner user)) = guild_updated after v ++ told_if v (sync was after me)
+row (Owner before) after v me (edit.Guild (GuildOwner user)) = guild_updated after v ++ told_if v (sync_by before after me)
 row note after v me (edit.Guild GuildOutage) = asked v false (GuildDelete after.id true)
 row note after v me (edit.Guild GuildBack) = asked v false (GuildCreate (greeting after v me))
 row (RoleMember note) after v me (edit.RoleMember e) = role_member_row note after v me e

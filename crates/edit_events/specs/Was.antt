@@ -2,9 +2,10 @@
 use Rattle.std.specs.Prelude.{Option, Some, None}
 use Rattle.guild_model.specs.declared.member.Member.{Member}
 use Rattle.guild_model.specs.Record.{Record}
+use Rattle.guild_model.specs.Sight.{standing}
 use Rattle.dispatch_types.specs.declared.viewer.Viewer.{Viewer}
 use Rattle.dispatch_types.specs.Serves.{served, serves}
-use Rattle.thread_sync.specs.Seen.{visible_to}
+use Rattle.thread_sync.specs.ChannelSights.{sights}
 use Rattle.role_member_events.specs.Ends.{role_member_note}
 use Rattle.channel_events.specs.Ends.{channel_note}
 use Rattle.thread_events.specs.Ends.{thread_note}
@@ -19,7 +20,7 @@ use Rattle.edit_events.specs.declared.due.Was.{Was}
 -- by a viewer that was served, and of which edits
 abbrev pub note_of : Record → Option Member → Edit → Before
 note_of s None e = Nothing
-note_of s (Some me) (edit.Guild (GuildOwner user)) = Owner (visible_to s me)
+note_of s (Some me) (edit.Guild (GuildOwner user)) = Owner (sights (standing s me))
 note_of s (Some me) (edit.RoleMember e) = RoleMember (role_member_note s me e)
 note_of s (Some me) (edit.Channel e) = Channel (channel_note s me e)
 note_of s (Some me) (edit.Thread e) = Thread (thread_note s me e)

@@ -2,7 +2,7 @@
 
 ghost use Rattle.std.specs.Prelude.{◌≡◌, ◌++◌, IfOk, OnOk, Some, false, true};
 ghost use Rattle.dispatch_types.specs.Serves.{served};
-ghost use Rattle.thread_sync.specs.Sync.{sync};
+ghost use Rattle.thread_sync.specs.BySights.{sync_by};
 ghost use Rattle.event_views.specs.Asked.{asked, told_if};
 ghost use Rattle.edit_events.specs.Greeting.{greeting};
 ghost use Rattle.edit_events.specs.Due.{guild_updated, row, due_to, due_between};
@@ -10,6 +10,7 @@ ghost use Rattle.edit_events.specs.Was.{note_of, was_of};
 
 use crate::create::greeting;
 use channel_events::ChannelNote;
+use collections::ById;
 use dispatch_types::{Dispatch, Viewer, served};
 use edit_apply::{Edit, GuildEdit};
 use event_views::{add_sync, one};
@@ -19,16 +20,15 @@ use message_events::MessageNote;
 use role_member_events::RoleMemberNote;
 use std::alloc::{AllocError, Global};
 use thread_events::ThreadNote;
-use thread_sync::Seen;
-use thread_sync::seen::visible_to;
+use thread_sync::{ChannelSight, sights_of};
 
 /// What is noted for a viewer that is served before an edit, by the kind of edit.
 #[derive(Drop)]
 pub enum Before {
     /// The edit asks for nothing of the record before it.
     Nothing,
-    /// Before another member is the owner: what the viewer saw.
-    Owner(Seen),
+    /// Before another member is the owner: the sights of the channels that the viewer saw.
+    Owner(ById<ChannelSight>),
     RoleMember(RoleMemberNote),
     Channel(ChannelNote),
     Thread(ThreadNote),
@@ -53,7 +53,7 @@ fn before_edit(
 {
     match edit {
         Edit::Guild(GuildEdit::GuildOwner { .. }) => {
-            Ok(Before::Owner(visible_to(alloc, before, me)?))
+            Ok(Before::Owner(sights_of(alloc, before, me)?))
         }
         Edit::RoleMember(edit) => Ok(Before::RoleMember(role_member_events::note(
             alloc, before, me, edit,
@@ -136,15 +136,15 @@ fn updated(alloc: Global, guild: &Guild, viewer: &Viewer) -> Result<Vec<Dispatch
 // The guild's name and owner, and then what the viewer gained.
 fn owner_updated(
     alloc: Global,
-    was: &Seen,
+    before: &ById<ChannelSight>,
     after: &Guild,
     viewer: &Viewer,
     me: &Member,
 ) -> Result<Vec<Dispatch>, AllocError>
-    ensures { IfOk result (λ list. list.items ≡ guild_updated after.now viewer.now ++ told_if viewer.now (sync was.now after.now me.now)) }
+    ensures { IfOk result (λ list. list.items ≡ guild_updated after.now viewer.now ++ told_if viewer.now (sync_by before.now after.now me.now)) }
 {
     let mut list = updated(alloc, after, viewer)?;
-    add_sync(alloc, was, after, viewer, me, &mut list)?;
+    add_sync(alloc, before, after, viewer, me, &mut list)?;
     Ok(list)
 }
 
@@ -161,8 +161,8 @@ fn row(
 {
     match (note, edit) {
         (_, Edit::Guild(GuildEdit::GuildRename { .. })) => updated(alloc, after, viewer),
-        (Before::Owner(was), Edit::Guild(GuildEdit::GuildOwner { .. })) => {
-            owner_updated(alloc, was, after, viewer, me)
+        (Before::Owner(before), Edit::Guild(GuildEdit::GuildOwner { .. })) => {
+            owner_updated(alloc, before, after, viewer, me)
         }
         (_, Edit::Guild(GuildEdit::GuildOutage)) => gone(alloc, after, viewer, true),
         (_, Edit::Guild(GuildEdit::GuildBack)) => created(alloc, after, viewer, me),

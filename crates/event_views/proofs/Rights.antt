@@ -15,8 +15,10 @@ use Rattle.dispatch_types.specs.Projection.{open_view}
 use Rattle.dispatch_types.specs.Fold.{Held, on_open, purged, folded, fold_from}
 use Rattle.dispatch_types.proofs.Views.{purged-open}
 use Rattle.thread_sync.specs.declared.seen.Seen.{Seen}
+use Rattle.thread_sync.specs.declared.channel_sight.ChannelSight.{ChannelSight}
 use Rattle.thread_sync.specs.Seen.{visible_to}
 use Rattle.thread_sync.specs.Sync.{sync_of, sync_if_any, sync, gained_parents}
+use Rattle.thread_sync.specs.BySights.{gained_by, sync_by}
 use Rattle.thread_sync.specs.Law.{ChangesRights, told_plainly}
 use Rattle.thread_sync.proofs.Synced.{sync_restores}
 use Rattle.event_views.specs.Asked.{told_if}
@@ -32,16 +34,16 @@ told-sync_if was t v me asks = by_parents (gained_parents was t me)
     by_parents [] = refl
     by_parents (p ∷ ps) = ap (λ b. if b then sync_of t me (p ∷ ps) ∷ [] else []) asks
 
-pub sync-of : (was : Seen) (t : Record) (v : Viewer) (me : Member) → All (IsOf t.id) (told_if v (sync was t me))
-sync-of was t v me = by_parents (gained_parents was t me)
+pub sync-of : (before : List ChannelSight) (t : Record) (v : Viewer) (me : Member) → All (IsOf t.id) (told_if v (sync_by before t me))
+sync-of before t v me = by_parents (gained_by before t me)
   where
     by_parents : (ps : List ℕ) → All (IsOf t.id) (told_if v (sync_if_any t me ps))
     by_parents [] = All-nil (IsOf t.id)
     by_parents (p ∷ ps) = asked-of t.id v false (sync_of t me (p ∷ ps)) refl
 
-pub synced-of : (was : Option Seen) (t : Record) (v : Viewer) (me : Member) → All (IsOf t.id) (synced was t v me)
+pub synced-of : (before : Option (List ChannelSight)) (t : Record) (v : Viewer) (me : Member) → All (IsOf t.id) (synced before t v me)
 synced-of None t v me = All-nil (IsOf t.id)
-synced-of (Some was) t v me = sync-of was t v me
+synced-of (Some before) t v me = sync-of before t v me
 
 module _ (s t : Record) (v : Viewer) (h : Held) (me me' : Member) (well : IsWell s) (rights : ChangesRights s t) (user : me'.user.id ≡ me.user.id) (asks : has_bit v.intents guilds ≡ true) where
   -- what is held after the plain event, whatever told it

@@ -15,14 +15,15 @@ use Rattle.guild_model.specs.Record.{Record, own_id, role_id, member_id}
 use Rattle.guild_model.specs.Changes.{without_role}
 use Rattle.guild_model.specs.Tests.{refused_if, first_of, too_long, too_many, unknown_role, unknown_member}
 use Rattle.guild_model.specs.Ascending.{IsAscending, IsWell, HoldsInOrder}
+use Rattle.guild_model.specs.Sight.{standing}
 use Rattle.guild_model.proofs.Tests.{first_passes, not_refused}
 use Rattle.dispatch_types.specs.declared.viewer.Viewer.{Viewer}
 use Rattle.dispatch_types.specs.declared.dispatch.Dispatch.{Dispatch}
 use Rattle.dispatch_types.specs.declared.dispatch.Dispatch.TheVariants.{GuildRoleCreate, GuildMemberAdd}
 use Rattle.dispatch_types.specs.Objects.{member_object}
 use Rattle.dispatch_types.specs.Fold.{Held, fold_from}
-use Rattle.thread_sync.specs.Seen.{visible_to}
-use Rattle.thread_sync.specs.Sync.{sync}
+use Rattle.thread_sync.specs.ChannelSights.{sights}
+use Rattle.thread_sync.specs.BySights.{sync_by}
 use Rattle.role_member_edit.specs.Roles.{role_taken, everyone_role, with_role_set}
 use Rattle.role_member_edit.specs.Members.{new_member, member_added, member_add_verdict, owner_stays, member_removed, nick_verdict, with_member_changed, with_nick, with_timeout}
 use Rattle.role_member_edit.specs.HeldRoles.{holds, with_role}
@@ -92,7 +93,7 @@ module _ (s : Record) (v : Viewer) (h : Held) (me : Member) (well : IsWell s) (o
     t = with_member_changed s user f
 
     -- the own roles may change what is seen, and those of others do not
-    pub follows-roles : Has s v me h → Has t v me' (fold_from v.intents s.id h (member_updated t v user ++ synced (before_own_rights s me user).seen t v me'))
+    pub follows-roles : Has s v me h → Has t v me' (fold_from v.intents s.id h (member_updated t v user ++ synced (before_own_rights s me user).sights t v me'))
     follows-roles has = by_own (user == me.user.id) refl
       where
         found : (x : Member) × (find_id member_id user s.members ≡ Some x)
@@ -101,9 +102,9 @@ module _ (s : Record) (v : Viewer) (h : Held) (me : Member) (well : IsWell s) (o
         ordered : IsById own_id (f found.0).roles
         ordered = roles-ordered user f found.0 same after found.1
 
-        by_own : (b : Bool) → (user == me.user.id) ≡ b → Has t v me' (fold_from v.intents s.id h (member_updated t v user ++ synced (if b then before_rights s me else before_nothing).seen t v me'))
+        by_own : (b : Bool) → (user == me.user.id) ≡ b → Has t v me' (fold_from v.intents s.id h (member_updated t v user ++ synced (if b then before_rights s me else before_nothing).sights t v me'))
         by_own true is =
-            subst (λ (o : Option Member). Has t v me' (fold_from v.intents s.id h (member_told t v o ++ told_if v (sync (visible_to s me) t me')))) (sym (told-changed user f found.0 same found.1))
+            subst (λ (o : Option Member). Has t v me' (fold_from v.intents s.id h (member_told t v o ++ told_if v (sync_by (sights (standing s me)) t me')))) (sym (told-changed user f found.0 same found.1))
             (follows-member_roles s v user f found.0 me me' same well found.1 own own' h ordered asks has)
         by_own false is =
             let other : (user == v.user) ≡ false = ap (λ u. user == u) (sym (key-found member_id v.user s.members me own)) ∙ is in

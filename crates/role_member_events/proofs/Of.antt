@@ -44,11 +44,11 @@ module _ (after : Record) (v : Viewer) where
 
   pub row-of : (note : RoleMemberNote) (me : Member) (e : RoleMemberEdit) → All (IsOf after.id) (role_member_row note after v me e)
   row-of note me (RoleCreate role name perms position) = asked-of after.id v false (GuildRoleCreate after.id (role_of role name perms position)) refl
-  row-of note me (RoleUpdate role name perms position) = append-of after.id _ _ (asked-of after.id v false (GuildRoleUpdate after.id (role_of role name perms position)) refl) (synced-of note.seen after v me)
-  row-of note me (RoleDelete role) = append-of after.id _ _ (asked-of after.id v false (GuildRoleDelete after.id role) refl) (synced-of note.seen after v me)
+  row-of note me (RoleUpdate role name perms position) = append-of after.id _ _ (asked-of after.id v false (GuildRoleUpdate after.id (role_of role name perms position)) refl) (synced-of note.sights after v me)
+  row-of note me (RoleDelete role) = append-of after.id _ _ (asked-of after.id v false (GuildRoleDelete after.id role) refl) (synced-of note.sights after v me)
   row-of note me (MemberAdd user name bot at) = asked-of after.id v (user == v.user) (GuildMemberAdd after.id (member_object (new_member user name bot at))) refl
   row-of note me (MemberRemove user) = ended-of note.end
   row-of note me (MemberNick user nick) = member-of (find_id member_id user after.members)
   row-of note me (MemberTimeout user until) = member-of (find_id member_id user after.members)
-  row-of note me (MemberRoleAdd user role) = append-of after.id _ _ (member-of (find_id member_id user after.members)) (synced-of note.seen after v me)
-  row-of note me (MemberRoleRemove user role) = append-of after.id _ _ (member-of (find_id member_id user after.members)) (synced-of note.seen after v me)
+  row-of note me (MemberRoleAdd user role) = append-of after.id _ _ (member-of (find_id member_id user after.members)) (synced-of note.sights after v me)
+  row-of note me (MemberRoleRemove user role) = append-of after.id _ _ (member-of (find_id member_id user after.members)) (synced-of note.sights after v me)

@@ -1,5 +1,5 @@
 -- Roles that come, change and go, and members that are given and lose them.
-use Rattle.std.proofs.Common.{◌≡◌, ℕ, Bool, true, false, List, [], ◌∷◌, ◌++◌, map, Option, Some, None, if◌then◌else◌, refl, sym, ap, ◌∙◌}
+use Rattle.std.proofs.Common.{◌≡◌, ℕ, Bool, true, false, List, [], ◌∷◌, ◌++◌, map, Option, Some, None, if◌then◌else◌, refl, sym, ap, subst, ◌∙◌}
 use Rattle.std.specs.Prelude.{◌==◌, filter, length, option_map}
 use Rattle.std.proofs.lemmas.Bool.{or_parts}
 use Rattle.collections.specs.ById.{find_id, has_id, put_id, IsById}
@@ -12,6 +12,7 @@ use Rattle.guild_model.specs.declared.channel.Channel.{Channel}
 use Rattle.guild_model.specs.Record.{Record, own_id, role_id, member_id, channel_id}
 use Rattle.guild_model.specs.Changes.{without_role, without_role_overwrite}
 use Rattle.guild_model.specs.Ascending.{IsWell}
+use Rattle.guild_model.specs.Sight.{standing}
 use Rattle.dispatch_types.specs.declared.viewer.Viewer.{Viewer}
 use Rattle.dispatch_types.specs.declared.view.ThreadView.{ThreadView}
 use Rattle.dispatch_types.specs.declared.dispatch.Dispatch.TheVariants.{GuildRoleCreate, GuildRoleUpdate, GuildRoleDelete, GuildMemberUpdate}
@@ -21,11 +22,14 @@ use Rattle.dispatch_types.specs.Fold.{Held, set_role, drop_role, update_member, 
 use Rattle.dispatch_types.proofs.Objects.{member-back}
 use Rattle.role_member_edit.specs.Roles.{with_role_set, role_deleted}
 use Rattle.role_member_edit.specs.Members.{with_member_changed}
+use Rattle.thread_sync.specs.ChannelSights.{sights}
 use Rattle.thread_sync.specs.Seen.{visible_to}
 use Rattle.thread_sync.specs.Sync.{sync}
+use Rattle.thread_sync.specs.BySights.{sync_by}
 use Rattle.thread_sync.specs.Law.{ChangesRights, told_plainly, kind_in}
 use Rattle.thread_sync.proofs.Lists.{filter-map}
 use Rattle.thread_sync.proofs.Sights.{threads_stay, role-created-keeps}
+use Rattle.thread_sync.proofs.Rights.{rights_sync_is_whole}
 use Rattle.event_views.specs.Asked.{asked, told_if}
 use Rattle.event_views.specs.Has.{Has}
 use Rattle.event_views.proofs.Steps.{whole, by_guilds, by_asked_then}
@@ -47,23 +51,25 @@ follows-role_create s v h me r well opened found asks new has =
 
 -- one that changes may change what is seen
 pub follows-role_update : (s : Record) (v : Viewer) (h : Held) (me : Member) (r : Role) → IsWell s → has_bit v.intents guilds ≡ true
-    → Has s v me h → Has (with_role_set s r) v me (fold_from v.intents s.id h (asked v false (GuildRoleUpdate s.id r) ++ told_if v (sync (visible_to s me) (with_role_set s r) me)))
+    → Has s v me h → Has (with_role_set s r) v me (fold_from v.intents s.id h (asked v false (GuildRoleUpdate s.id r) ++ told_if v (sync_by (sights (standing s me)) (with_role_set s r) me)))
 follows-role_update s v h me r well asks has =
     let t : Record = with_role_set s r in
     let rights : ChangesRights s t = record { id = refl; channels = λ c. refl; threads = refl } in
-    by_asked_then t v s.id h me false (GuildRoleUpdate s.id r) (told_if v (sync (visible_to s me) t me))
+    subst (λ o. Has t v me (fold_from v.intents s.id h (asked v false (GuildRoleUpdate s.id r) ++ told_if v o))) (sym (rights_sync_is_whole s t me me well.ascending refl))
+    (by_asked_then t v s.id h me false (GuildRoleUpdate s.id r) (told_if v (sync (visible_to s me) t me))
     (λ e. follows-rights s t v h me me well rights refl asks (GuildRoleUpdate s.id r) (set_role r) same (told-role_update v.intents s.id h r) refl has)
-    (λ e. absurd (cc))
+    (λ e. absurd (cc)))
 
 -- and so may one that goes
 pub follows-role_delete : (s : Record) (v : Viewer) (h : Held) (me : Member) (role : ℕ) → IsWell s → has_bit v.intents guilds ≡ true
-    → Has s v me h → Has (role_deleted s role) v (without_role role me) (fold_from v.intents s.id h (asked v false (GuildRoleDelete s.id role) ++ told_if v (sync (visible_to s me) (role_deleted s role) (without_role role me))))
+    → Has s v me h → Has (role_deleted s role) v (without_role role me) (fold_from v.intents s.id h (asked v false (GuildRoleDelete s.id role) ++ told_if v (sync_by (sights (standing s me)) (role_deleted s role) (without_role role me))))
 follows-role_delete s v h me role well asks has =
     let t : Record = role_deleted s role in
     let rights : ChangesRights s t = record { id = refl; channels = kinds; threads = refl } in
-    by_asked_then t v s.id h (without_role role me) false (GuildRoleDelete s.id role) (told_if v (sync (visible_to s me) t (without_role role me)))
+    subst (λ o. Has t v (without_role role me) (fold_from v.intents s.id h (asked v false (GuildRoleDelete s.id role) ++ told_if v o))) (sym (rights_sync_is_whole s t me (without_role role me) well.ascending refl))
+    (by_asked_then t v s.id h (without_role role me) false (GuildRoleDelete s.id role) (told_if v (sync (visible_to s me) t (without_role role me)))
     (λ e. follows-rights s t v h me (without_role role me) well rights refl asks (GuildRoleDelete s.id role) (drop_role role) same (told-role_delete v.intents s.id h role) drops has)
-    (λ e. absurd (cc))
+    (λ e. absurd (cc)))
   where
     kinds : (channel : ℕ) → option_map kind_in (find_id channel_id channel (map (without_role_overwrite role) s.channels)) ≡ option_map kind_in (find_id channel_id channel s.channels)
     kinds channel = ap (option_map kind_in) (find-map channel_id channel_id (without_role_overwrite role) (λ c. refl) channel s.channels) ∙ by_case (find_id channel_id channel s.channels)
@@ -90,12 +96,13 @@ follows-role_delete s v h me role well asks has =
 pub follows-member_roles : (s : Record) (v : Viewer) (user : ℕ) (f : Member → Member) (x me me' : Member) → ((m : Member) → (f m).user.id ≡ m.user.id) → IsWell s
     → find_id member_id user s.members ≡ Some x → find_id member_id v.user s.members ≡ Some me → find_id member_id v.user (with_member_changed s user f).members ≡ Some me'
     → (h : Held) → IsById own_id (f x).roles → has_bit v.intents guilds ≡ true
-    → Has s v me h → Has (with_member_changed s user f) v me' (fold_from v.intents s.id h (asked v ((f x).user.id == v.user) (GuildMemberUpdate s.id (member_object (f x))) ++ told_if v (sync (visible_to s me) (with_member_changed s user f) me')))
+    → Has s v me h → Has (with_member_changed s user f) v me' (fold_from v.intents s.id h (asked v ((f x).user.id == v.user) (GuildMemberUpdate s.id (member_object (f x))) ++ told_if v (sync_by (sights (standing s me)) (with_member_changed s user f) me')))
 follows-member_roles s v user f x me me' same_user well found own own' h ordered asks has =
     let t : Record = with_member_changed s user f in
     let rights : ChangesRights s t = record { id = refl; channels = λ c. refl; threads = refl } in
     let mine = own-user s v user f x me me' same_user well.ascending found own own' in
-    by_asked_then t v s.id h me' ((f x).user.id == v.user) (GuildMemberUpdate s.id (member_object (f x))) (told_if v (sync (visible_to s me) t me'))
+    subst (λ o. Has t v me' (fold_from v.intents s.id h (asked v ((f x).user.id == v.user) (GuildMemberUpdate s.id (member_object (f x))) ++ told_if v o))) (sym (rights_sync_is_whole s t me me' well.ascending refl))
+    (by_asked_then t v s.id h me' ((f x).user.id == v.user) (GuildMemberUpdate s.id (member_object (f x))) (told_if v (sync (visible_to s me) t me'))
     (λ e. follows-rights s t v h me me' well rights mine asks (GuildMemberUpdate s.id (member_object (f x))) (update_member v.intents h.bot (member_of (member_object (f x)))) (put_id own_id (f x).user.id)
     (told-member_update v.intents s.id h (member_object (f x)))
     (ap (λ (m : Member). update_member v.intents h.bot m (open_view s v.intents h.known me)) (member-back (f x) ordered)
@@ -103,4 +110,4 @@ follows-member_roles s v user f x me me' same_user well found own own' h ordered
     ∙ updates s v user f x me me' same_user well.ascending found own own' h.known)) has)
     (λ blind. let parts = or_parts ((f x).user.id == v.user) (has_bit v.intents guild_members) blind in
     follows-unsaid s t v h me me' well rights mine asks
-    (silent s v user f x me me' same_user well.ascending found own own' h.known (other-user s v user f x me me' same_user well.ascending found own own' parts.0) parts.1) has)
+    (silent s v user f x me me' same_user well.ascending found own own' h.known (other-user s v user f x me me' same_user well.ascending found own own' parts.0) parts.1) has))

@@ -3,7 +3,8 @@ use Rattle.std.specs.Prelude.{ℕ, ◌==◌, Option, Some, None, if◌then◌els
 use Rattle.collections.specs.ById.{find_id, has_id}
 use Rattle.guild_model.specs.declared.member.Member.{Member}
 use Rattle.guild_model.specs.Record.{Record, member_id, voice_id, presence_id}
-use Rattle.thread_sync.specs.Seen.{visible_to}
+use Rattle.guild_model.specs.Sight.{standing}
+use Rattle.thread_sync.specs.ChannelSights.{sights}
 use Rattle.event_views.specs.Threads.{threads_left}
 use Rattle.role_member_edit.specs.declared.RoleMemberEdit.{RoleMemberEdit}
 use Rattle.role_member_edit.specs.declared.RoleMemberEdit.TheVariants.{RoleCreate, RoleUpdate, RoleDelete, MemberAdd, MemberRemove, MemberNick, MemberTimeout, MemberRoleAdd, MemberRoleRemove}
@@ -19,12 +20,12 @@ end_of s me (Some m) = Some (record {
   threads = threads_left s me m.user.id;
 })
 
--- what the viewer sees, where a change of rights may change it
+-- the sights of the channels that the viewer sees, where a change of rights may change them
 abbrev pub before_rights : Record → Member → RoleMemberNote
-before_rights s me = record { seen = Some (visible_to s me); end = None }
+before_rights s me = record { sights = Some (sights (standing s me)); end = None }
 
 abbrev pub before_nothing : RoleMemberNote
-before_nothing = record { seen = None; end = None }
+before_nothing = record { sights = None; end = None }
 
 -- a change of a user's roles changes what the viewer sees only where the user is its own
 abbrev pub before_own_rights : Record → Member → ℕ → RoleMemberNote
@@ -35,7 +36,7 @@ role_member_note s me (RoleUpdate role name perms position) = before_rights s me
 role_member_note s me (RoleDelete role) = before_rights s me
 role_member_note s me (MemberRoleAdd user role) = before_own_rights s me user
 role_member_note s me (MemberRoleRemove user role) = before_own_rights s me user
-role_member_note s me (MemberRemove user) = record { seen = None; end = end_of s me (find_id member_id user s.members) }
+role_member_note s me (MemberRemove user) = record { sights = None; end = end_of s me (find_id member_id user s.members) }
 role_member_note s me (RoleCreate role name perms position) = before_nothing
 role_member_note s me (MemberAdd user name bot at) = before_nothing
 role_member_note s me (MemberNick user nick) = before_nothing

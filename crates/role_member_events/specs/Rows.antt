@@ -51,11 +51,11 @@ member_ended after v (Some end) =
 
 abbrev pub role_member_row : RoleMemberNote → Record → Viewer → Member → RoleMemberEdit → List Dispatch
 role_member_row note after v me (RoleCreate role name perms position) = asked v false (GuildRoleCreate after.id (role_of role name perms position))
-role_member_row note after v me (RoleUpdate role name perms position) = asked v false (GuildRoleUpdate after.id (role_of role name perms position)) ++ synced note.seen after v me
-role_member_row note after v me (RoleDelete role) = asked v false (GuildRoleDelete after.id role) ++ synced note.seen after v me
+role_member_row note after v me (RoleUpdate role name perms position) = asked v false (GuildRoleUpdate after.id (role_of role name perms position)) ++ synced note.sights after v me
+role_member_row note after v me (RoleDelete role) = asked v false (GuildRoleDelete after.id role) ++ synced note.sights after v me
 role_member_row note after v me (MemberAdd user name bot at) = asked v (user == v.user) (GuildMemberAdd after.id (member_object (new_member user name bot at)))
 role_member_row note after v me (MemberRemove user) = member_ended after v note.end
 role_member_row note after v me (MemberNick user nick) = member_updated after v user
 role_member_row note after v me (MemberTimeout user until) = member_updated after v user
-role_member_row note after v me (MemberRoleAdd user role) = member_updated after v user ++ synced note.seen after v me
-role_member_row note after v me (MemberRoleRemove user role) = member_updated after v user ++ synced note.seen after v me
+role_member_row note after v me (MemberRoleAdd user role) = member_updated after v user ++ synced note.sights after v me
+role_member_row note after v me (MemberRoleRemove user role) = member_updated after v user ++ synced note.sights after v me

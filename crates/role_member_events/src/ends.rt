@@ -6,14 +6,13 @@ ghost use Rattle.guild_model.specs.Record.{member_id};
 ghost use Rattle.event_views.specs.Threads.{threads_left};
 ghost use Rattle.role_member_events.specs.Ends.{end_of, before_rights, before_own_rights, role_member_note};
 
-use collections::{Duplicate, Seq};
+use collections::{ById, Duplicate, Seq};
 use guild_model::{Guild, Member, User, Voice};
 use overwrite_eval::StandingRef;
 use role_member_edit::RoleMemberEdit;
 use snowflake_id::Snowflake;
 use std::alloc::{AllocError, Global};
-use thread_sync::Seen;
-use thread_sync::seen::visible_to;
+use thread_sync::{ChannelSight, sights_of};
 
 /// A member that goes.
 #[derive(Drop)]
@@ -30,8 +29,8 @@ pub struct MemberEnd {
 /// What is noted before an edit.
 #[derive(Drop)]
 pub struct RoleMemberNote {
-    /// What the viewer saw, where the edit may change it.
-    pub seen: Option<Seen>,
+    /// The sights of the channels that the viewer saw, where the edit may change them.
+    pub sights: Option<ById<ChannelSight>>,
     /// The member that goes, if one does.
     pub end: Option<MemberEnd>,
 }
@@ -78,7 +77,7 @@ fn before_rights(alloc: Global, before: &Guild, me: &Member) -> Result<RoleMembe
     ensures { IfOk result (λ note. note ≡ before_rights before.now me.now) }
 {
     Ok(RoleMemberNote {
-        seen: Some(visible_to(alloc, before, me)?),
+        sights: Some(sights_of(alloc, before, me)?),
         end: None,
     })
 }
@@ -96,7 +95,7 @@ fn before_own_rights(
         before_rights(alloc, before, me)
     } else {
         Ok(RoleMemberNote {
-            seen: None,
+            sights: None,
             end: None,
         })
     }
@@ -120,14 +119,14 @@ pub fn note(
             alloc, before, me, *user,
         ),
         RoleMemberEdit::MemberRemove { user } => Ok(RoleMemberNote {
-            seen: None,
+            sights: None,
             end: end_of(alloc, before, me, *user)?,
         }),
         RoleMemberEdit::RoleCreate { .. }
         | RoleMemberEdit::MemberAdd { .. }
         | RoleMemberEdit::MemberNick { .. }
         | RoleMemberEdit::MemberTimeout { .. } => Ok(RoleMemberNote {
-            seen: None,
+            sights: None,
             end: None,
         }),
     }

@@ -38,11 +38,11 @@ fn add_row(
             position,
         } => {
             roles::add_updated(alloc, after, viewer, *role, name, *perms, *position, list)?;
-            add_synced(alloc, &note.seen, after, viewer, me, list)?;
+            add_synced(alloc, &note.sights, after, viewer, me, list)?;
         }
         RoleMemberEdit::RoleDelete { role } => {
             roles::add_deleted(after, viewer, *role, list)?;
-            add_synced(alloc, &note.seen, after, viewer, me, list)?;
+            add_synced(alloc, &note.sights, after, viewer, me, list)?;
         }
         RoleMemberEdit::MemberAdd {
             user,
@@ -61,7 +61,7 @@ fn add_row(
         RoleMemberEdit::MemberRoleAdd { user, .. }
         | RoleMemberEdit::MemberRoleRemove { user, .. } => {
             members::add_updated(alloc, after, viewer, *user, list)?;
-            add_synced(alloc, &note.seen, after, viewer, me, list)?;
+            add_synced(alloc, &note.sights, after, viewer, me, list)?;
         }
     }
     Ok(())
