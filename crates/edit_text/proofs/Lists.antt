@@ -1,16 +1,18 @@
 -- Lists of values, and lists of ids as values.
 use Rattle.std.proofs.Common.{◌≡◌, ℕ, List, [], ◌∷◌, map, length, false, Ok, refl}
-use Rattle.serde_json.specs.declared.value.Value.{Value}
+use Rattle.json.specs.declared.value.Value.{Value}
+use Rattle.json_line.specs.View.{items_view}
+use Rattle.std.specs.declared.alloc.Global.{Global}
 use Rattle.serde_json.specs.Data.{items_depth}
 use Rattle.serde_json.specs.Events.{items_len}
-use Rattle.serde_json.specs.View.{items_view, items_of}
+use Rattle.serde_json.specs.View.{items_of}
 use Rattle.serde_json.specs.Written.{items_have_float}
 use Rattle.snowflake_id.proofs.Texts.{id_of_decimal}
 use Rattle.edit_text.specs.Fields.{ids_from}
 use Rattle.edit_text.specs.Members.{id_data}
 use Rattle.edit_text.specs.Fits.{IdsFit}
 
-pub items_view_len : (xs : List Value) → items_len (items_view xs) ≡ length xs
+pub items_view_len : (xs : List (Value Global)) → items_len (items_view xs) ≡ length xs
 items_view_len [] = refl
 items_view_len (x ∷ xs) = rw (items_view_len xs) refl
 

@@ -1,7 +1,8 @@
 //! Edits by their names.
 
 ghost use Rattle.std.specs.Prelude.{◌≡◌, OnOk};
-ghost use Rattle.serde_json.specs.View.{view, members_view};
+ghost use Rattle.serde_json.specs.View.{members_view};
+ghost use Rattle.json_line.specs.View.{view};
 ghost use Rattle.edit_text.specs.Fault.{UnlessMemory};
 ghost use Rattle.edit_text.specs.Fits.{EditFits};
 ghost use Rattle.edit_text.specs.Members.{put_all};
@@ -17,11 +18,12 @@ mod voice;
 use crate::LineFault;
 use crate::names::EditName;
 use edit_apply::Edit;
+use json_line::Node;
 use serde_json::{Map, Value};
 use std::alloc::{AllocError, Global};
 
 /// The edit of this name, from the fields of an object.
-pub fn read(alloc: Global, name: EditName, object: &Value) -> Result<Edit, LineFault>
+pub fn read(alloc: Global, name: EditName, object: &Node<'_>) -> Result<Edit, LineFault>
     ensures { UnlessMemory result (edit_from name (view object.now)) }
 {
     match name {

@@ -7,7 +7,7 @@ ghost use Rattle.std.specs.Option.{ok_or};
 ghost use Rattle.json_view.specs.Fields.{and_then};
 ghost use Rattle.guild_model.specs.declared.moment.TheConstants.{END_OF_TIME};
 ghost use Rattle.edit_text.specs.declared.fault.LineFault.TheVariants.{WrongType};
-ghost use Rattle.serde_json.specs.View.{view, items_view};
+ghost use Rattle.json_line.specs.View.{view, items_view};
 ghost use Rattle.serde_json.specs.Events.{items_len};
 ghost use Rattle.edit_text.specs.Fault.{UnlessMemory, fault_of};
 ghost use Rattle.edit_text.specs.Fields.{text_at, id_at, flag_at, number_below, within, are_intents, mask_at, moment_at, position_at, kind_at, thread_kind_at, overwrite_kind_at, status_at, parts_at, ids_from, few_ids_from, ids_at, nullable_text_at, nullable_id_at, nullable_moment_at, intents_at};
@@ -16,9 +16,11 @@ use crate::LineFault;
 use collections::{Seq, Text};
 use guild_model::{ChannelKind, Moment, OverwriteKind, PartCount, Status, ThreadKind, limits};
 use intent_set::Intents;
-use json_view::{ViewFault, field_of, flag_of, id_from, id_of, number_of, text_of};
+use json_line::{
+    Node, field_of, flag_of, id_from, id_of, list_of, number_of, str_of, text_of, whole_of,
+};
+use json_view::ViewFault;
 use perm_bits::Perms;
-use serde_json::Value;
 use snowflake_id::Snowflake;
 use std::alloc::Global;
 
@@ -32,7 +34,7 @@ fn fault_of(fault: ViewFault) -> LineFault
     }
 }
 
-pub fn text_at<'a>(object: &'a Value, name: &str) -> Result<&'a str, LineFault>
+pub fn text_at<'a>(object: &'a Node<'_>, name: &str) -> Result<&'a str, LineFault>
     ensures { result_map_both (λ s. s.now) (λ e. e) result ≡ text_at name.now (view object.now) }
 {
     match text_of(object, name) {
@@ -41,7 +43,7 @@ pub fn text_at<'a>(object: &'a Value, name: &str) -> Result<&'a str, LineFault>
     }
 }
 
-pub fn id_at(object: &Value, name: &str) -> Result<Snowflake, LineFault>
+pub fn id_at(object: &Node<'_>, name: &str) -> Result<Snowflake, LineFault>
     ensures { result ≡ id_at name.now (view object.now) }
 {
     match id_of(object, name) {
@@ -50,7 +52,7 @@ pub fn id_at(object: &Value, name: &str) -> Result<Snowflake, LineFault>
     }
 }
 
-pub fn flag_at(object: &Value, name: &str) -> Result<bool, LineFault>
+pub fn flag_at(object: &Node<'_>, name: &str) -> Result<bool, LineFault>
     ensures { result ≡ flag_at name.now (view object.now) }
 {
     match flag_of(object, name) {
@@ -60,7 +62,7 @@ pub fn flag_at(object: &Value, name: &str) -> Result<bool, LineFault>
 }
 
 /// A whole number below a limit.
-pub fn number_below(object: &Value, name: &str, limit: u64) -> Result<u64, LineFault>
+pub fn number_below(object: &Node<'_>, name: &str, limit: u64) -> Result<u64, LineFault>
     ensures { result ≡ number_below limit name.now (view object.now) }
 {
     match number_of(object, name) {
@@ -76,7 +78,7 @@ pub fn number_below(object: &Value, name: &str, limit: u64) -> Result<u64, LineF
 }
 
 /// A set of permissions.
-pub fn mask_at(object: &Value, name: &str) -> Result<Perms, LineFault>
+pub fn mask_at(object: &Node<'_>, name: &str) -> Result<Perms, LineFault>
     ensures { result ≡ mask_at name.now (view object.now) }
 {
     match id_of(object, name) {
@@ -89,7 +91,7 @@ pub fn mask_at(object: &Value, name: &str) -> Result<Perms, LineFault>
 }
 
 /// A moment in milliseconds since 1970.
-pub fn moment_at(object: &Value, name: &str) -> Result<Moment, LineFault>
+pub fn moment_at(object: &Node<'_>, name: &str) -> Result<Moment, LineFault>
     ensures { result ≡ moment_at name.now (view object.now) }
 {
     match number_of(object, name) {
@@ -102,7 +104,7 @@ pub fn moment_at(object: &Value, name: &str) -> Result<Moment, LineFault>
 }
 
 /// The place of a role or a channel.
-pub fn position_at(object: &Value, name: &str) -> Result<u32, LineFault>
+pub fn position_at(object: &Node<'_>, name: &str) -> Result<u32, LineFault>
     ensures { result ≡ position_at name.now (view object.now) }
 {
     match number_of(object, name) {
@@ -118,7 +120,7 @@ pub fn position_at(object: &Value, name: &str) -> Result<u32, LineFault>
 }
 
 /// The type of a channel, as a number (Channels Resource, Channel Types).
-pub fn kind_at(object: &Value, name: &str) -> Result<ChannelKind, LineFault>
+pub fn kind_at(object: &Node<'_>, name: &str) -> Result<ChannelKind, LineFault>
     ensures { result ≡ kind_at name.now (view object.now) }
 {
     match number_of(object, name) {
@@ -131,7 +133,7 @@ pub fn kind_at(object: &Value, name: &str) -> Result<ChannelKind, LineFault>
 }
 
 /// The type of a thread, as a number (Channels Resource, Channel Types).
-pub fn thread_kind_at(object: &Value, name: &str) -> Result<ThreadKind, LineFault>
+pub fn thread_kind_at(object: &Node<'_>, name: &str) -> Result<ThreadKind, LineFault>
     ensures { result ≡ thread_kind_at name.now (view object.now) }
 {
     match number_of(object, name) {
@@ -144,7 +146,7 @@ pub fn thread_kind_at(object: &Value, name: &str) -> Result<ThreadKind, LineFaul
 }
 
 /// Whom an overwrite is of, as a number (Channels Resource, Overwrite Object).
-pub fn overwrite_kind_at(object: &Value, name: &str) -> Result<OverwriteKind, LineFault>
+pub fn overwrite_kind_at(object: &Node<'_>, name: &str) -> Result<OverwriteKind, LineFault>
     ensures { result ≡ overwrite_kind_at name.now (view object.now) }
 {
     match number_of(object, name) {
@@ -157,7 +159,7 @@ pub fn overwrite_kind_at(object: &Value, name: &str) -> Result<OverwriteKind, Li
 }
 
 /// A status, by its name.
-pub fn status_at(object: &Value, name: &str) -> Result<Status, LineFault>
+pub fn status_at(object: &Node<'_>, name: &str) -> Result<Status, LineFault>
     ensures { result ≡ status_at name.now (view object.now) }
 {
     match text_at(object, name) {
@@ -170,7 +172,7 @@ pub fn status_at(object: &Value, name: &str) -> Result<Status, LineFault>
 }
 
 /// How many embeds, attachments or components a message has: at most [`limits::PARTS`].
-pub fn parts_at(object: &Value, name: &str) -> Result<PartCount, LineFault>
+pub fn parts_at(object: &Node<'_>, name: &str) -> Result<PartCount, LineFault>
     ensures { result ≡ parts_at name.now (view object.now) }
 {
     match number_of(object, name) {
@@ -182,7 +184,7 @@ pub fn parts_at(object: &Value, name: &str) -> Result<PartCount, LineFault>
     }
 }
 
-fn ids_from(alloc: Global, list: &[Value]) -> Result<Seq<Snowflake>, LineFault>
+fn ids_from(alloc: Global, list: &[Node<'_>]) -> Result<Seq<Snowflake>, LineFault>
     ensures { UnlessMemory result (ids_from (items_view list.now)) }
 {
     let mut ids = Seq::new(alloc);
@@ -196,13 +198,13 @@ fn ids_from(alloc: Global, list: &[Value]) -> Result<Seq<Snowflake>, LineFault>
 }
 
 #[tactic(auto, using(crate::proofs::Lists::items_view_len))]
-fn too_many(list: &[Value]) -> bool
+fn too_many(list: &[Node<'_>]) -> bool
     ensures { result ≡ nat_lt 100 (items_len (items_view list.now)) }
 {
     list.len() > limits::MENTIONS as usize
 }
 
-fn few_ids_from(alloc: Global, list: &[Value]) -> Result<Seq<Snowflake>, LineFault>
+fn few_ids_from(alloc: Global, list: &[Node<'_>]) -> Result<Seq<Snowflake>, LineFault>
     ensures { UnlessMemory result (few_ids_from (items_view list.now)) }
 {
     if too_many(list) {
@@ -212,14 +214,14 @@ fn few_ids_from(alloc: Global, list: &[Value]) -> Result<Seq<Snowflake>, LineFau
 }
 
 /// A list of at most [`limits::MENTIONS`] ids.
-pub fn ids_at(alloc: Global, object: &Value, name: &str) -> Result<Seq<Snowflake>, LineFault>
+pub fn ids_at(alloc: Global, object: &Node<'_>, name: &str) -> Result<Seq<Snowflake>, LineFault>
     ensures { UnlessMemory result (ids_at name.now (view object.now)) }
 {
     match field_of(object, name) {
         Err(fault) => Err(fault_of(fault)),
-        Ok(value) => match value.as_array() {
+        Ok(value) => match list_of(value) {
             None => Err(LineFault::WrongType),
-            Some(list) => few_ids_from(alloc, list.as_slice()),
+            Some(list) => few_ids_from(alloc, list),
         },
     }
 }
@@ -227,15 +229,15 @@ pub fn ids_at(alloc: Global, object: &Value, name: &str) -> Result<Seq<Snowflake
 /// A text or null, which has to be there.
 pub fn nullable_text_at(
     alloc: Global,
-    object: &Value,
+    object: &Node<'_>,
     name: &str,
 ) -> Result<Option<Text>, LineFault>
     ensures { UnlessMemory result (nullable_text_at name.now (view object.now)) }
 {
     match field_of(object, name) {
         Err(fault) => Err(fault_of(fault)),
-        Ok(Value::Null) => Ok(None),
-        Ok(value) => match value.as_str() {
+        Ok(Node::Null) => Ok(None),
+        Ok(value) => match str_of(value) {
             None => Err(LineFault::WrongType),
             Some(text) => {
                 let text = Text::new(alloc, text)?;
@@ -246,12 +248,12 @@ pub fn nullable_text_at(
 }
 
 /// An id or null, which has to be there.
-pub fn nullable_id_at(object: &Value, name: &str) -> Result<Option<Snowflake>, LineFault>
+pub fn nullable_id_at(object: &Node<'_>, name: &str) -> Result<Option<Snowflake>, LineFault>
     ensures { result ≡ nullable_id_at name.now (view object.now) }
 {
     match field_of(object, name) {
         Err(fault) => Err(fault_of(fault)),
-        Ok(Value::Null) => Ok(None),
+        Ok(Node::Null) => Ok(None),
         Ok(value) => match id_from(value) {
             Err(fault) => Err(fault_of(fault)),
             Ok(id) => Ok(Some(Snowflake(id))),
@@ -272,13 +274,13 @@ fn moment_from(millis: Option<u64>) -> Result<Moment, LineFault>
 }
 
 /// A moment or null, which has to be there.
-pub fn nullable_moment_at(object: &Value, name: &str) -> Result<Option<Moment>, LineFault>
+pub fn nullable_moment_at(object: &Node<'_>, name: &str) -> Result<Option<Moment>, LineFault>
     ensures { result ≡ nullable_moment_at name.now (view object.now) }
 {
     match field_of(object, name) {
         Err(fault) => Err(fault_of(fault)),
-        Ok(Value::Null) => Ok(None),
-        Ok(value) => match moment_from(value.as_u64()) {
+        Ok(Node::Null) => Ok(None),
+        Ok(value) => match moment_from(whole_of(value)) {
             Err(fault) => Err(fault),
             Ok(moment) => Ok(Some(moment)),
         },
@@ -295,7 +297,7 @@ fn intents_from(bits: u64) -> Result<Intents, LineFault>
 }
 
 /// A set of intents.
-pub fn intents_at(object: &Value, name: &str) -> Result<Intents, LineFault>
+pub fn intents_at(object: &Node<'_>, name: &str) -> Result<Intents, LineFault>
     ensures { result ≡ intents_at name.now (view object.now) }
 {
     match number_of(object, name) {

@@ -1,5 +1,5 @@
 ghost use Rattle.std.specs.Prelude.{◌≡◌, ◌⊎◌, [], false, OnOk, OnErr};
-ghost use Rattle.serde_json.specs.View.{view};
+ghost use Rattle.json_line.specs.View.{view};
 ghost use Rattle.edit_text.specs.Fault.{UnlessMemory};
 ghost use Rattle.edit_text.specs.Lines.{with_guild, is_run, is_edit, is_allowed, step_of, line_from, object_line_from, is_blank, is_too_long, line_of, noted, counted, reader_after};
 
@@ -8,8 +8,7 @@ use crate::names::StepName;
 use crate::steps::{fields_from, has_id};
 use crate::{FileKind, Line, LineFault};
 use collections::Seq;
-use json_view::value_of;
-use serde_json::Value;
+use json_line::{Node, Scratch, is_object, value_of};
 use snowflake_id::Snowflake;
 use std::alloc::{AllocError, Global};
 
@@ -76,7 +75,7 @@ impl StepReader {
         }
     }
 
-    fn line_from(&self, alloc: Global, object: &Value) -> Result<Line, LineFault>
+    fn line_from(&self, alloc: Global, object: &Node<'_>) -> Result<Line, LineFault>
         ensures { UnlessMemory result (line_from self.now (view object.now)) }
     {
         let text = text_at(object, "step")?;
@@ -86,10 +85,10 @@ impl StepReader {
         fields_from(alloc, self.guilds.as_slice(), step, object)
     }
 
-    fn object_line_from(&self, alloc: Global, value: &Value) -> Result<Line, LineFault>
+    fn object_line_from(&self, alloc: Global, value: &Node<'_>) -> Result<Line, LineFault>
         ensures { UnlessMemory result (object_line_from self.now (view value.now)) }
     {
-        if !value.is_object() {
+        if !is_object(value) {
             return Err(LineFault::WrongType);
         }
         self.line_from(alloc, value)
@@ -111,7 +110,8 @@ impl StepReader {
         if is_blank(bytes) {
             return Ok(None);
         }
-        let Some(value) = value_of(alloc, bytes)? else {
+        let mut scratch = Scratch::new(alloc);
+        let Some(value) = value_of(alloc, bytes, &mut scratch)? else {
             return Err(LineFault::NotJson);
         };
         let line = self.object_line_from(alloc, &value)?;

@@ -1,7 +1,7 @@
 //! The fields of each step.
 
 ghost use Rattle.std.specs.Prelude.{◌≡◌, ◌^◌, codes};
-ghost use Rattle.serde_json.specs.View.{view};
+ghost use Rattle.json_line.specs.View.{view};
 ghost use Rattle.edit_text.specs.Fault.{UnlessMemory};
 ghost use Rattle.edit_text.specs.Fields.{number_below};
 ghost use Rattle.edit_text.specs.Lines.{bot_from, has_id, has_room, guild_from, worker_at, connection_at, edit_line_from, look_from, open_from, frame_from, lost_from, closed_from, tick_from, fields_from};
@@ -10,7 +10,7 @@ use crate::fields::{id_at, intents_at, number_below, text_at};
 use crate::names::{EditName, StepName};
 use crate::{Line, LineFault, edits};
 use collections::Text;
-use serde_json::Value;
+use json_line::Node;
 use snowflake_id::Snowflake;
 use std::alloc::Global;
 
@@ -20,7 +20,7 @@ pub const MAX_TOKEN_BYTES: usize = 100;
 /// The most guilds that a file may name.
 pub const MAX_GUILDS: usize = 32;
 
-fn bot_from(alloc: Global, object: &Value) -> Result<Line, LineFault>
+fn bot_from(alloc: Global, object: &Node<'_>) -> Result<Line, LineFault>
     ensures { UnlessMemory result (bot_from (view object.now)) }
 {
     let token = text_at(object, "token")?;
@@ -53,7 +53,7 @@ fn has_room(guilds: &[Snowflake], id: Snowflake) -> bool
     has_id(guilds, id) || guilds.len() < MAX_GUILDS
 }
 
-fn guild_from(guilds: &[Snowflake], object: &Value) -> Result<Line, LineFault>
+fn guild_from(guilds: &[Snowflake], object: &Node<'_>) -> Result<Line, LineFault>
     ensures { result ≡ guild_from guilds.now (view object.now) }
 {
     let id = id_at(object, "id")?;
@@ -63,7 +63,7 @@ fn guild_from(guilds: &[Snowflake], object: &Value) -> Result<Line, LineFault>
     Ok(Line::Guild { id })
 }
 
-fn worker_at(object: &Value) -> Result<u8, LineFault>
+fn worker_at(object: &Node<'_>) -> Result<u8, LineFault>
     ensures { result ≡ worker_at (view object.now) }
 {
     match number_below(object, "worker", 4) {
@@ -72,7 +72,7 @@ fn worker_at(object: &Value) -> Result<u8, LineFault>
     }
 }
 
-fn connection_at(object: &Value) -> Result<u32, LineFault>
+fn connection_at(object: &Node<'_>) -> Result<u32, LineFault>
     ensures { result ≡ connection_at (view object.now) }
 {
     match number_below(object, "conn", 1 << 32) {
@@ -81,7 +81,7 @@ fn connection_at(object: &Value) -> Result<u32, LineFault>
     }
 }
 
-fn code_at(object: &Value) -> Result<u16, LineFault>
+fn code_at(object: &Node<'_>) -> Result<u16, LineFault>
     ensures { result ≡ number_below (2 ^ 16) (codes "code") (view object.now) }
 {
     match number_below(object, "code", 1 << 16) {
@@ -90,7 +90,7 @@ fn code_at(object: &Value) -> Result<u16, LineFault>
     }
 }
 
-fn edit_line_from(alloc: Global, object: &Value) -> Result<Line, LineFault>
+fn edit_line_from(alloc: Global, object: &Node<'_>) -> Result<Line, LineFault>
     ensures { UnlessMemory result (edit_line_from (view object.now)) }
 {
     let guild = id_at(object, "guild")?;
@@ -102,7 +102,7 @@ fn edit_line_from(alloc: Global, object: &Value) -> Result<Line, LineFault>
     Ok(Line::Edit { guild, edit })
 }
 
-fn look_from(object: &Value) -> Result<Line, LineFault>
+fn look_from(object: &Node<'_>) -> Result<Line, LineFault>
     ensures { result ≡ look_from (view object.now) }
 {
     let worker = worker_at(object)?;
@@ -110,7 +110,7 @@ fn look_from(object: &Value) -> Result<Line, LineFault>
     Ok(Line::Look { worker, guild })
 }
 
-fn open_from(object: &Value) -> Result<Line, LineFault>
+fn open_from(object: &Node<'_>) -> Result<Line, LineFault>
     ensures { result ≡ open_from (view object.now) }
 {
     let worker = worker_at(object)?;
@@ -118,7 +118,7 @@ fn open_from(object: &Value) -> Result<Line, LineFault>
     Ok(Line::Open { worker, conn })
 }
 
-fn frame_from(alloc: Global, object: &Value) -> Result<Line, LineFault>
+fn frame_from(alloc: Global, object: &Node<'_>) -> Result<Line, LineFault>
     ensures { UnlessMemory result (frame_from (view object.now)) }
 {
     let conn = connection_at(object)?;
@@ -127,14 +127,14 @@ fn frame_from(alloc: Global, object: &Value) -> Result<Line, LineFault>
     Ok(Line::Frame { conn, text })
 }
 
-fn lost_from(object: &Value) -> Result<Line, LineFault>
+fn lost_from(object: &Node<'_>) -> Result<Line, LineFault>
     ensures { result ≡ lost_from (view object.now) }
 {
     let conn = connection_at(object)?;
     Ok(Line::Lost { conn })
 }
 
-fn closed_from(object: &Value) -> Result<Line, LineFault>
+fn closed_from(object: &Node<'_>) -> Result<Line, LineFault>
     ensures { result ≡ closed_from (view object.now) }
 {
     let conn = connection_at(object)?;
@@ -142,7 +142,7 @@ fn closed_from(object: &Value) -> Result<Line, LineFault>
     Ok(Line::Closed { conn, code })
 }
 
-fn tick_from(object: &Value) -> Result<Line, LineFault>
+fn tick_from(object: &Node<'_>) -> Result<Line, LineFault>
     ensures { result ≡ tick_from (view object.now) }
 {
     let worker = worker_at(object)?;
@@ -155,7 +155,7 @@ pub fn fields_from(
     alloc: Global,
     guilds: &[Snowflake],
     step: StepName,
-    object: &Value,
+    object: &Node<'_>,
 ) -> Result<Line, LineFault>
     ensures { UnlessMemory result (fields_from guilds.now step (view object.now)) }
 {

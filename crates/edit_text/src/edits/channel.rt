@@ -1,7 +1,8 @@
 //! The edits of channels and their overwrites: their fields, read and written.
 
 ghost use Rattle.std.specs.Prelude.{◌≡◌, OnOk};
-ghost use Rattle.serde_json.specs.View.{view, members_view};
+ghost use Rattle.serde_json.specs.View.{members_view};
+ghost use Rattle.json_line.specs.View.{view};
 ghost use Rattle.edit_text.specs.Fault.{UnlessMemory};
 ghost use Rattle.edit_text.specs.Fits.{ChannelEditFits};
 ghost use Rattle.edit_text.specs.Members.{put_all};
@@ -15,10 +16,11 @@ use crate::members::{put_flag, put_id, put_mask, put_nullable_id, put_number, pu
 use crate::names::ChannelEditName;
 use channel_edit::ChannelEdit;
 use collections::Text;
+use json_line::Node;
 use serde_json::{Map, Value};
 use std::alloc::{AllocError, Global};
 
-fn channel_create_from(alloc: Global, object: &Value) -> Result<ChannelEdit, LineFault>
+fn channel_create_from(alloc: Global, object: &Node<'_>) -> Result<ChannelEdit, LineFault>
     ensures { UnlessMemory result (channel_create_from (view object.now)) }
 {
     let channel = id_at(object, "channel")?;
@@ -38,7 +40,7 @@ fn channel_create_from(alloc: Global, object: &Value) -> Result<ChannelEdit, Lin
     })
 }
 
-fn channel_update_from(alloc: Global, object: &Value) -> Result<ChannelEdit, LineFault>
+fn channel_update_from(alloc: Global, object: &Node<'_>) -> Result<ChannelEdit, LineFault>
     ensures { UnlessMemory result (channel_update_from (view object.now)) }
 {
     let channel = id_at(object, "channel")?;
@@ -54,14 +56,14 @@ fn channel_update_from(alloc: Global, object: &Value) -> Result<ChannelEdit, Lin
     })
 }
 
-fn channel_delete_from(object: &Value) -> Result<ChannelEdit, LineFault>
+fn channel_delete_from(object: &Node<'_>) -> Result<ChannelEdit, LineFault>
     ensures { result ≡ channel_delete_from (view object.now) }
 {
     let channel = id_at(object, "channel")?;
     Ok(ChannelEdit::ChannelDelete { channel })
 }
 
-fn overwrite_set_from(object: &Value) -> Result<ChannelEdit, LineFault>
+fn overwrite_set_from(object: &Node<'_>) -> Result<ChannelEdit, LineFault>
     ensures { result ≡ overwrite_set_from (view object.now) }
 {
     let channel = id_at(object, "channel")?;
@@ -78,7 +80,7 @@ fn overwrite_set_from(object: &Value) -> Result<ChannelEdit, LineFault>
     })
 }
 
-fn overwrite_delete_from(object: &Value) -> Result<ChannelEdit, LineFault>
+fn overwrite_delete_from(object: &Node<'_>) -> Result<ChannelEdit, LineFault>
     ensures { result ≡ overwrite_delete_from (view object.now) }
 {
     let channel = id_at(object, "channel")?;
@@ -88,7 +90,11 @@ fn overwrite_delete_from(object: &Value) -> Result<ChannelEdit, LineFault>
 }
 
 /// The edit of this name, from the fields of an object.
-pub fn read(alloc: Global, name: ChannelEditName, object: &Value) -> Result<ChannelEdit, LineFault>
+pub fn read(
+    alloc: Global,
+    name: ChannelEditName,
+    object: &Node<'_>,
+) -> Result<ChannelEdit, LineFault>
     ensures { UnlessMemory result (channel_edit_from name (view object.now)) }
 {
     match name {

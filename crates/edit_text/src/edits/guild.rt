@@ -1,7 +1,8 @@
 //! The edits of a guild itself: their fields, read and written.
 
 ghost use Rattle.std.specs.Prelude.{◌≡◌, OnOk};
-ghost use Rattle.serde_json.specs.View.{view, members_view};
+ghost use Rattle.serde_json.specs.View.{members_view};
+ghost use Rattle.json_line.specs.View.{view};
 ghost use Rattle.edit_text.specs.Fault.{UnlessMemory};
 ghost use Rattle.edit_text.specs.Fits.{GuildEditFits};
 ghost use Rattle.edit_text.specs.Members.{put_all};
@@ -13,10 +14,11 @@ use crate::members::{put_id, put_mask, put_moment, put_text};
 use crate::names::GuildEditName;
 use collections::Text;
 use edit_apply::GuildEdit;
+use json_line::Node;
 use serde_json::{Map, Value};
 use std::alloc::{AllocError, Global};
 
-fn guild_open_from(alloc: Global, object: &Value) -> Result<GuildEdit, LineFault>
+fn guild_open_from(alloc: Global, object: &Node<'_>) -> Result<GuildEdit, LineFault>
     ensures { UnlessMemory result (guild_open_from (view object.now)) }
 {
     let name = text_at(object, "name")?;
@@ -35,7 +37,7 @@ fn guild_open_from(alloc: Global, object: &Value) -> Result<GuildEdit, LineFault
     })
 }
 
-fn guild_rename_from(alloc: Global, object: &Value) -> Result<GuildEdit, LineFault>
+fn guild_rename_from(alloc: Global, object: &Node<'_>) -> Result<GuildEdit, LineFault>
     ensures { UnlessMemory result (guild_rename_from (view object.now)) }
 {
     let name = text_at(object, "name")?;
@@ -43,7 +45,7 @@ fn guild_rename_from(alloc: Global, object: &Value) -> Result<GuildEdit, LineFau
     Ok(GuildEdit::GuildRename { name })
 }
 
-fn guild_owner_from(object: &Value) -> Result<GuildEdit, LineFault>
+fn guild_owner_from(object: &Node<'_>) -> Result<GuildEdit, LineFault>
     ensures { result ≡ guild_owner_from (view object.now) }
 {
     let user = id_at(object, "user")?;
@@ -51,7 +53,7 @@ fn guild_owner_from(object: &Value) -> Result<GuildEdit, LineFault>
 }
 
 /// The edit of this name, from the fields of an object.
-pub fn read(alloc: Global, name: GuildEditName, object: &Value) -> Result<GuildEdit, LineFault>
+pub fn read(alloc: Global, name: GuildEditName, object: &Node<'_>) -> Result<GuildEdit, LineFault>
     ensures { UnlessMemory result (guild_edit_from name (view object.now)) }
 {
     match name {

@@ -1,7 +1,8 @@
 //! The edits of messages, reactions and typing: their fields, read and written.
 
 ghost use Rattle.std.specs.Prelude.{◌≡◌, OnOk};
-ghost use Rattle.serde_json.specs.View.{view, members_view};
+ghost use Rattle.serde_json.specs.View.{members_view};
+ghost use Rattle.json_line.specs.View.{view};
 ghost use Rattle.edit_text.specs.Fault.{UnlessMemory};
 ghost use Rattle.edit_text.specs.Fits.{IdFits, IdsFit, MessageEditFits};
 ghost use Rattle.edit_text.specs.Members.{put_all};
@@ -12,12 +13,13 @@ use crate::fields::{id_at, ids_at, moment_at, parts_at, text_at};
 use crate::members::{put_id, put_ids, put_moment, put_number, put_text};
 use crate::names::MessageEditName;
 use collections::Text;
+use json_line::Node;
 use message_edit::{MessageBody, MessageEdit};
 use serde_json::{Map, Value};
 use snowflake_id::Snowflake;
 use std::alloc::{AllocError, Global};
 
-fn body_from(alloc: Global, object: &Value) -> Result<MessageBody, LineFault>
+fn body_from(alloc: Global, object: &Node<'_>) -> Result<MessageBody, LineFault>
     ensures { UnlessMemory result (body_from (view object.now)) }
 {
     let content = text_at(object, "content")?;
@@ -35,7 +37,7 @@ fn body_from(alloc: Global, object: &Value) -> Result<MessageBody, LineFault>
     })
 }
 
-fn message_create_from(alloc: Global, object: &Value) -> Result<MessageEdit, LineFault>
+fn message_create_from(alloc: Global, object: &Node<'_>) -> Result<MessageEdit, LineFault>
     ensures { UnlessMemory result (message_create_from (view object.now)) }
 {
     let message = id_at(object, "message")?;
@@ -50,7 +52,7 @@ fn message_create_from(alloc: Global, object: &Value) -> Result<MessageEdit, Lin
     })
 }
 
-fn message_update_from(alloc: Global, object: &Value) -> Result<MessageEdit, LineFault>
+fn message_update_from(alloc: Global, object: &Node<'_>) -> Result<MessageEdit, LineFault>
     ensures { UnlessMemory result (message_update_from (view object.now)) }
 {
     let message = id_at(object, "message")?;
@@ -58,14 +60,14 @@ fn message_update_from(alloc: Global, object: &Value) -> Result<MessageEdit, Lin
     Ok(MessageEdit::MessageUpdate { message, body })
 }
 
-fn message_delete_from(object: &Value) -> Result<MessageEdit, LineFault>
+fn message_delete_from(object: &Node<'_>) -> Result<MessageEdit, LineFault>
     ensures { result ≡ message_delete_from (view object.now) }
 {
     let message = id_at(object, "message")?;
     Ok(MessageEdit::MessageDelete { message })
 }
 
-fn reaction_add_from(alloc: Global, object: &Value) -> Result<MessageEdit, LineFault>
+fn reaction_add_from(alloc: Global, object: &Node<'_>) -> Result<MessageEdit, LineFault>
     ensures { UnlessMemory result (reaction_add_from (view object.now)) }
 {
     let message = id_at(object, "message")?;
@@ -79,7 +81,7 @@ fn reaction_add_from(alloc: Global, object: &Value) -> Result<MessageEdit, LineF
     })
 }
 
-fn reaction_remove_from(alloc: Global, object: &Value) -> Result<MessageEdit, LineFault>
+fn reaction_remove_from(alloc: Global, object: &Node<'_>) -> Result<MessageEdit, LineFault>
     ensures { UnlessMemory result (reaction_remove_from (view object.now)) }
 {
     let message = id_at(object, "message")?;
@@ -93,7 +95,7 @@ fn reaction_remove_from(alloc: Global, object: &Value) -> Result<MessageEdit, Li
     })
 }
 
-fn typing_from(object: &Value) -> Result<MessageEdit, LineFault>
+fn typing_from(object: &Node<'_>) -> Result<MessageEdit, LineFault>
     ensures { result ≡ typing_from (view object.now) }
 {
     let place = id_at(object, "channel")?;
@@ -103,7 +105,11 @@ fn typing_from(object: &Value) -> Result<MessageEdit, LineFault>
 }
 
 /// The edit of this name, from the fields of an object.
-pub fn read(alloc: Global, name: MessageEditName, object: &Value) -> Result<MessageEdit, LineFault>
+pub fn read(
+    alloc: Global,
+    name: MessageEditName,
+    object: &Node<'_>,
+) -> Result<MessageEdit, LineFault>
     ensures { UnlessMemory result (message_edit_from name (view object.now)) }
 {
     match name {

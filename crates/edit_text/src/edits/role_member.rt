@@ -1,7 +1,8 @@
 //! The edits of roles and members: their fields, read and written.
 
 ghost use Rattle.std.specs.Prelude.{◌≡◌, OnOk};
-ghost use Rattle.serde_json.specs.View.{view, members_view};
+ghost use Rattle.serde_json.specs.View.{members_view};
+ghost use Rattle.json_line.specs.View.{view};
 ghost use Rattle.edit_text.specs.Fault.{UnlessMemory};
 ghost use Rattle.edit_text.specs.Fits.{IdFits, MaskFits, RoleMemberEditFits};
 ghost use Rattle.edit_text.specs.Members.{put_all};
@@ -17,13 +18,14 @@ use crate::members::{
 };
 use crate::names::RoleMemberEditName;
 use collections::Text;
+use json_line::Node;
 use perm_bits::Perms;
 use role_member_edit::RoleMemberEdit;
 use serde_json::{Map, Value};
 use snowflake_id::Snowflake;
 use std::alloc::{AllocError, Global};
 
-fn role_create_from(alloc: Global, object: &Value) -> Result<RoleMemberEdit, LineFault>
+fn role_create_from(alloc: Global, object: &Node<'_>) -> Result<RoleMemberEdit, LineFault>
     ensures { UnlessMemory result (role_create_from (view object.now)) }
 {
     let role = id_at(object, "role")?;
@@ -39,7 +41,7 @@ fn role_create_from(alloc: Global, object: &Value) -> Result<RoleMemberEdit, Lin
     })
 }
 
-fn role_update_from(alloc: Global, object: &Value) -> Result<RoleMemberEdit, LineFault>
+fn role_update_from(alloc: Global, object: &Node<'_>) -> Result<RoleMemberEdit, LineFault>
     ensures { UnlessMemory result (role_update_from (view object.now)) }
 {
     let role = id_at(object, "role")?;
@@ -55,14 +57,14 @@ fn role_update_from(alloc: Global, object: &Value) -> Result<RoleMemberEdit, Lin
     })
 }
 
-fn role_delete_from(object: &Value) -> Result<RoleMemberEdit, LineFault>
+fn role_delete_from(object: &Node<'_>) -> Result<RoleMemberEdit, LineFault>
     ensures { result ≡ role_delete_from (view object.now) }
 {
     let role = id_at(object, "role")?;
     Ok(RoleMemberEdit::RoleDelete { role })
 }
 
-fn member_add_from(alloc: Global, object: &Value) -> Result<RoleMemberEdit, LineFault>
+fn member_add_from(alloc: Global, object: &Node<'_>) -> Result<RoleMemberEdit, LineFault>
     ensures { UnlessMemory result (member_add_from (view object.now)) }
 {
     let user = id_at(object, "user")?;
@@ -78,14 +80,14 @@ fn member_add_from(alloc: Global, object: &Value) -> Result<RoleMemberEdit, Line
     })
 }
 
-fn member_remove_from(object: &Value) -> Result<RoleMemberEdit, LineFault>
+fn member_remove_from(object: &Node<'_>) -> Result<RoleMemberEdit, LineFault>
     ensures { result ≡ member_remove_from (view object.now) }
 {
     let user = id_at(object, "user")?;
     Ok(RoleMemberEdit::MemberRemove { user })
 }
 
-fn member_nick_from(alloc: Global, object: &Value) -> Result<RoleMemberEdit, LineFault>
+fn member_nick_from(alloc: Global, object: &Node<'_>) -> Result<RoleMemberEdit, LineFault>
     ensures { UnlessMemory result (member_nick_from (view object.now)) }
 {
     let user = id_at(object, "user")?;
@@ -93,7 +95,7 @@ fn member_nick_from(alloc: Global, object: &Value) -> Result<RoleMemberEdit, Lin
     Ok(RoleMemberEdit::MemberNick { user, nick })
 }
 
-fn member_timeout_from(object: &Value) -> Result<RoleMemberEdit, LineFault>
+fn member_timeout_from(object: &Node<'_>) -> Result<RoleMemberEdit, LineFault>
     ensures { result ≡ member_timeout_from (view object.now) }
 {
     let user = id_at(object, "user")?;
@@ -101,7 +103,7 @@ fn member_timeout_from(object: &Value) -> Result<RoleMemberEdit, LineFault>
     Ok(RoleMemberEdit::MemberTimeout { user, until })
 }
 
-fn member_role_add_from(object: &Value) -> Result<RoleMemberEdit, LineFault>
+fn member_role_add_from(object: &Node<'_>) -> Result<RoleMemberEdit, LineFault>
     ensures { result ≡ member_role_add_from (view object.now) }
 {
     let user = id_at(object, "user")?;
@@ -109,7 +111,7 @@ fn member_role_add_from(object: &Value) -> Result<RoleMemberEdit, LineFault>
     Ok(RoleMemberEdit::MemberRoleAdd { user, role })
 }
 
-fn member_role_remove_from(object: &Value) -> Result<RoleMemberEdit, LineFault>
+fn member_role_remove_from(object: &Node<'_>) -> Result<RoleMemberEdit, LineFault>
     ensures { result ≡ member_role_remove_from (view object.now) }
 {
     let user = id_at(object, "user")?;
@@ -121,7 +123,7 @@ fn member_role_remove_from(object: &Value) -> Result<RoleMemberEdit, LineFault>
 pub fn read(
     alloc: Global,
     name: RoleMemberEditName,
-    object: &Value,
+    object: &Node<'_>,
 ) -> Result<RoleMemberEdit, LineFault>
     ensures { UnlessMemory result (role_member_edit_from name (view object.now)) }
 {

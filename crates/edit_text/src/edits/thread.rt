@@ -1,7 +1,8 @@
 //! The edits of threads: their fields, read and written.
 
 ghost use Rattle.std.specs.Prelude.{◌≡◌, OnOk};
-ghost use Rattle.serde_json.specs.View.{view, members_view};
+ghost use Rattle.serde_json.specs.View.{members_view};
+ghost use Rattle.json_line.specs.View.{view};
 ghost use Rattle.edit_text.specs.Fault.{UnlessMemory};
 ghost use Rattle.edit_text.specs.Fits.{ThreadEditFits};
 ghost use Rattle.edit_text.specs.Members.{put_all};
@@ -12,11 +13,12 @@ use crate::fields::{id_at, moment_at, text_at, thread_kind_at};
 use crate::members::{put_id, put_moment, put_number, put_text};
 use crate::names::ThreadEditName;
 use collections::Text;
+use json_line::Node;
 use serde_json::{Map, Value};
 use std::alloc::{AllocError, Global};
 use thread_edit::ThreadEdit;
 
-fn thread_create_from(alloc: Global, object: &Value) -> Result<ThreadEdit, LineFault>
+fn thread_create_from(alloc: Global, object: &Node<'_>) -> Result<ThreadEdit, LineFault>
     ensures { UnlessMemory result (thread_create_from (view object.now)) }
 {
     let thread = id_at(object, "thread")?;
@@ -36,7 +38,7 @@ fn thread_create_from(alloc: Global, object: &Value) -> Result<ThreadEdit, LineF
     })
 }
 
-fn thread_rename_from(alloc: Global, object: &Value) -> Result<ThreadEdit, LineFault>
+fn thread_rename_from(alloc: Global, object: &Node<'_>) -> Result<ThreadEdit, LineFault>
     ensures { UnlessMemory result (thread_rename_from (view object.now)) }
 {
     let thread = id_at(object, "thread")?;
@@ -45,28 +47,28 @@ fn thread_rename_from(alloc: Global, object: &Value) -> Result<ThreadEdit, LineF
     Ok(ThreadEdit::ThreadRename { thread, name })
 }
 
-fn thread_archive_from(object: &Value) -> Result<ThreadEdit, LineFault>
+fn thread_archive_from(object: &Node<'_>) -> Result<ThreadEdit, LineFault>
     ensures { result ≡ thread_archive_from (view object.now) }
 {
     let thread = id_at(object, "thread")?;
     Ok(ThreadEdit::ThreadArchive { thread })
 }
 
-fn thread_unarchive_from(object: &Value) -> Result<ThreadEdit, LineFault>
+fn thread_unarchive_from(object: &Node<'_>) -> Result<ThreadEdit, LineFault>
     ensures { result ≡ thread_unarchive_from (view object.now) }
 {
     let thread = id_at(object, "thread")?;
     Ok(ThreadEdit::ThreadUnarchive { thread })
 }
 
-fn thread_delete_from(object: &Value) -> Result<ThreadEdit, LineFault>
+fn thread_delete_from(object: &Node<'_>) -> Result<ThreadEdit, LineFault>
     ensures { result ≡ thread_delete_from (view object.now) }
 {
     let thread = id_at(object, "thread")?;
     Ok(ThreadEdit::ThreadDelete { thread })
 }
 
-fn thread_join_from(object: &Value) -> Result<ThreadEdit, LineFault>
+fn thread_join_from(object: &Node<'_>) -> Result<ThreadEdit, LineFault>
     ensures { result ≡ thread_join_from (view object.now) }
 {
     let thread = id_at(object, "thread")?;
@@ -75,7 +77,7 @@ fn thread_join_from(object: &Value) -> Result<ThreadEdit, LineFault>
     Ok(ThreadEdit::ThreadJoin { thread, user, at })
 }
 
-fn thread_leave_from(object: &Value) -> Result<ThreadEdit, LineFault>
+fn thread_leave_from(object: &Node<'_>) -> Result<ThreadEdit, LineFault>
     ensures { result ≡ thread_leave_from (view object.now) }
 {
     let thread = id_at(object, "thread")?;
@@ -84,7 +86,7 @@ fn thread_leave_from(object: &Value) -> Result<ThreadEdit, LineFault>
 }
 
 /// The edit of this name, from the fields of an object.
-pub fn read(alloc: Global, name: ThreadEditName, object: &Value) -> Result<ThreadEdit, LineFault>
+pub fn read(alloc: Global, name: ThreadEditName, object: &Node<'_>) -> Result<ThreadEdit, LineFault>
     ensures { UnlessMemory result (thread_edit_from name (view object.now)) }
 {
     match name {

@@ -1,7 +1,8 @@
 //! The edits of voice states and presences: their fields, read and written.
 
 ghost use Rattle.std.specs.Prelude.{◌≡◌, OnOk};
-ghost use Rattle.serde_json.specs.View.{view, members_view};
+ghost use Rattle.serde_json.specs.View.{members_view};
+ghost use Rattle.json_line.specs.View.{view};
 ghost use Rattle.edit_text.specs.Fits.{VoicePresenceEditFits};
 ghost use Rattle.edit_text.specs.Members.{put_all};
 ghost use Rattle.edit_text.specs.VoicePresenceEdits.{voice_set_from, presence_set_from, voice_presence_edit_from, voice_presence_edit_name, voice_presence_edit_fields};
@@ -10,11 +11,12 @@ use crate::LineFault;
 use crate::fields::{flag_at, id_at, nullable_id_at, status_at};
 use crate::members::{put_flag, put_id, put_nullable_id, put_str};
 use crate::names::VoicePresenceEditName;
+use json_line::Node;
 use serde_json::{Map, Value};
 use std::alloc::{AllocError, Global};
 use voice_presence::VoicePresenceEdit;
 
-fn voice_set_from(object: &Value) -> Result<VoicePresenceEdit, LineFault>
+fn voice_set_from(object: &Node<'_>) -> Result<VoicePresenceEdit, LineFault>
     ensures { result ≡ voice_set_from (view object.now) }
 {
     let user = id_at(object, "user")?;
@@ -29,7 +31,7 @@ fn voice_set_from(object: &Value) -> Result<VoicePresenceEdit, LineFault>
     })
 }
 
-fn presence_set_from(object: &Value) -> Result<VoicePresenceEdit, LineFault>
+fn presence_set_from(object: &Node<'_>) -> Result<VoicePresenceEdit, LineFault>
     ensures { result ≡ presence_set_from (view object.now) }
 {
     let user = id_at(object, "user")?;
@@ -38,7 +40,7 @@ fn presence_set_from(object: &Value) -> Result<VoicePresenceEdit, LineFault>
 }
 
 /// The edit of this name, from the fields of an object.
-pub fn read(name: VoicePresenceEditName, object: &Value) -> Result<VoicePresenceEdit, LineFault>
+pub fn read(name: VoicePresenceEditName, object: &Node<'_>) -> Result<VoicePresenceEdit, LineFault>
     ensures { result ≡ voice_presence_edit_from name (view object.now) }
 {
     match name {

@@ -1,5 +1,5 @@
 use Rattle.std.proofs.Common.{◌≡◌, ◌++◌, drop, Ok}
-use Rattle.serde_json.specs.View.{items_view}
+use Rattle.json_line.specs.View.{items_view}
 use Rattle.json_view.specs.Fields.{and_then}
 use Rattle.edit_text.specs.Fields.{ids_from}
 use Rattle.edit_text.proofs.fields.ids_from.Given as goal
