@@ -10,9 +10,12 @@ use Rattle.dispatch_types.specs.declared.messages.MessageObject.{MessageObject}
 abbrev pub mentions : List User → ℕ → Bool
 mentions users user = list_any (λ (mentioned : User). mentioned.id == user) users
 
--- for a viewer with MESSAGE_CONTENT, for the author, and for those that it mentions
+-- for a viewer with MESSAGE_CONTENT, for the author, and for those that the message mentions
+abbrev pub reads : Viewer → ℕ → Bool → Bool
+reads v author is_mentioned = has_bit v.intents message_content || ((author == v.user) || is_mentioned)
+
 abbrev pub is_for : MessageObject → Viewer → Bool
-is_for m v = has_bit v.intents message_content || ((m.author.id == v.user) || mentions m.mentions v.user)
+is_for m v = reads v m.author.id (mentions m.mentions v.user)
 
 abbrev pub emptied : MessageObject → MessageObject
 emptied m = record m { content = []; embeds = 0; attachments = 0; components = 0 }

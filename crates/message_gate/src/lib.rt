@@ -4,5 +4,5 @@
 pub mod redacted;
 pub mod shown;
 
-pub use redacted::redact;
+pub use redacted::{reads, redact};
 pub use shown::shows;

@@ -1,7 +1,7 @@
 //! Whom the content of a message is for (Gateway, Message Content Intent).
 
 ghost use Rattle.std.specs.Prelude.{◌≡◌, []};
-ghost use Rattle.message_gate.specs.Redacted.{mentions, is_for, emptied, redacted};
+ghost use Rattle.message_gate.specs.Redacted.{mentions, reads, is_for, emptied, redacted};
 
 use collections::Text;
 use dispatch_types::{MessageObject, Viewer};
@@ -15,13 +15,21 @@ fn mentions(users: &[User], user: Snowflake) -> bool
     users.iter().any(|mentioned| mentioned.id == user)
 }
 
+/// Whether the content of a message of an author is for a viewer, which the message mentions or not:
+/// it is where the viewer has MESSAGE_CONTENT, is the author or is mentioned (Gateway, Message Content
+/// Intent). Takes no memory.
+pub fn reads(viewer: &Viewer, author: Snowflake, is_mentioned: bool) -> bool
+    ensures { result ≡ reads viewer.now author is_mentioned }
+{
+    viewer.intents.has(Intents::MESSAGE_CONTENT) || author == viewer.user || is_mentioned
+}
+
 // Whether a viewer is told what a message says.
 fn is_for(message: &MessageObject, viewer: &Viewer) -> bool
     ensures { result ≡ is_for message.now viewer.now }
 {
-    viewer.intents.has(Intents::MESSAGE_CONTENT)
-        || message.author.id == viewer.user
-        || mentions(message.mentions.as_slice(), viewer.user)
+    let is_mentioned = mentions(message.mentions.as_slice(), viewer.user);
+    reads(viewer, message.author.id, is_mentioned)
 }
 
 // The empty text, without memory.
