@@ -1,3 +1,5 @@
 pub mod Of
 pub mod Follows
 pub mod Told
+pub mod Forming
+pub mod Alike

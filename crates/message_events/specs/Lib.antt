@@ -1,4 +1,5 @@
 pub mod Messages
 pub mod Notes
 pub mod Rows
+pub mod Forms
 pub mod Law

@@ -1,6 +1,11 @@
-ghost use Rattle.message_events.specs.Law.{MessageEditKeeps};
+ghost use Rattle.message_events.specs.Law.{MessageEditKeeps, FormDecides};
 
 /// After what an edit of messages owes, a client holds its member's view of the record after it.
 pub fn message_edit_keeps()
     ensures { MessageEditKeeps }
+{}
+
+/// Viewers to which an edit of messages is told in one form are owed the same.
+pub fn form_decides()
+    ensures { FormDecides }
 {}
