@@ -3,3 +3,4 @@ pub mod Out
 pub mod Keeps
 pub mod Others
 pub mod Messages
+pub mod SameForms

@@ -3,3 +3,4 @@ pub mod Was
 pub mod Due
 pub mod Law
 pub mod Messages
+pub mod Forms

@@ -1,4 +1,5 @@
 ghost use Rattle.edit_events.specs.Law.{EditKeeps, ProjectionStays, OthersStay, GreetingHolds, GreetingStays};
+ghost use Rattle.edit_events.specs.Forms.{FormIsDue};
 ghost use Rattle.edit_events.specs.Messages.{MessagesAreShown};
 
 /// After what an edit owes, a client holds the projection of the record after it.
@@ -29,4 +30,9 @@ pub fn greeting_stays()
 /// The dispatch of an accepted edit of messages is owed exactly where it is shown after that very edit.
 pub fn messages_are_shown()
     ensures { MessagesAreShown }
+{}
+
+/// Viewers to which an edit of messages is told in one form are owed the same.
+pub fn form_is_due()
+    ensures { FormIsDue }
 {}

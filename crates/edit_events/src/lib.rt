@@ -3,7 +3,9 @@
 
 pub mod create;
 pub mod due;
+pub mod forms;
 pub mod law;
 
 pub use create::greeting;
 pub use due::{Before, Was, events, note};
+pub use forms::form;

@@ -1,0 +1,25 @@
+//! How an edit of messages is told a viewer, without the dispatch being made.
+
+ghost use Rattle.std.specs.Prelude.{◌≡◌};
+ghost use Rattle.dispatch_types.specs.Serves.{served};
+ghost use Rattle.edit_events.specs.Forms.{form_between};
+
+use crate::due::{Before, Was};
+use dispatch_types::{Viewer, served};
+use edit_apply::Edit;
+use guild_model::Guild;
+use message_events::MessageForm;
+
+/// How an edit of messages, reactions or typing is told a viewer that is served before and after it;
+/// nothing exactly where it is another edit or the viewer is not. Takes no memory.
+pub fn form(after: &Guild, edit: &Edit, was: &Was, viewer: &Viewer) -> Option<MessageForm>
+    ensures { result ≡ form_between after.now viewer.now was.now (served viewer.now after.now) edit.now }
+{
+    let (Edit::Message(edit), Before::Message(note)) = (edit, &was.note) else {
+        return None;
+    };
+    match (was.served, served(after, viewer)) {
+        (true, Some(_)) => Some(message_events::form(note, after, viewer, edit)),
+        _ => None,
+    }
+}
