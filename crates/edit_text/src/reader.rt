@@ -18,7 +18,7 @@ pub const MAX_LINE_BYTES: usize = 65_536;
 /// The most lines that a file may have.
 pub const MAX_LINES: u64 = 1_000_000;
 
-/// What a reader of a file keeps between lines.
+/// What a reader of a file keeps between lines, and what a line is after these.
 #[derive(Drop)]
 pub struct StepReader {
     kind: FileKind,
@@ -43,8 +43,6 @@ impl StepReader {
         }
     }
 
-    /// How many lines were read, the last one too where it was refused. One line more than a file
-    /// may have is counted, and none after it.
     pub fn lines(&self) -> u64
         ensures { result ≡ self.now.lines }
     {
@@ -101,7 +99,12 @@ impl StepReader {
     }
 
     #[tactic(auto, unfolding(crate::specs::Lines::line_of))]
-    fn read(&self, alloc: Global, bytes: &[u8]) -> Result<Option<Line>, LineFault>
+    fn read(
+        &self,
+        alloc: Global,
+        bytes: &[u8],
+        scratch: &mut Scratch,
+    ) -> Result<Option<Line>, LineFault>
         ensures { UnlessMemory result (line_of self.now bytes.now) }
     {
         if self.is_too_long(bytes) {
@@ -110,8 +113,7 @@ impl StepReader {
         if is_blank(bytes) {
             return Ok(None);
         }
-        let mut scratch = Scratch::new(alloc);
-        let Some(value) = value_of(alloc, bytes, &mut scratch)? else {
+        let Some(value) = value_of(alloc, bytes, scratch)? else {
             return Err(LineFault::NotJson);
         };
         let line = self.object_line_from(alloc, &value)?;
@@ -150,16 +152,18 @@ impl StepReader {
         }
     }
 
-    /// Reads the next line of the file, without its line feed: nothing where it is blank. A line
-    /// that is refused is counted, and nothing else of it is kept. Want of memory changes nothing.
-    ///
-    /// A caller that gathers a line needs no more of it than [`MAX_LINE_BYTES`] and one byte.
-    pub fn line(&mut self, alloc: Global, bytes: &[u8]) -> Result<Option<Line>, LineFault>
+    /// Reads the next line of the file, without its line feed.
+    pub fn line(
+        &mut self,
+        alloc: Global,
+        bytes: &[u8],
+        scratch: &mut Scratch,
+    ) -> Result<Option<Line>, LineFault>
         ensures line { UnlessMemory result (line_of self.old bytes.now) }
         ensures after { (result ≡ Err LineFault.Memory) ⊎ (self.new ≡ reader_after self.old bytes.now) }
         ensures memory { result ≡ Err LineFault.Memory → self.new ≡ self.old }
     {
-        match self.read(alloc, bytes) {
+        match self.read(alloc, bytes, scratch) {
             Err(LineFault::Memory) => Err(LineFault::Memory),
             Err(fault) => {
                 self.count();
