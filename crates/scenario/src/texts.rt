@@ -5,7 +5,7 @@ ghost use Rattle.scenario.specs.Texts.{fault_number, fault_name, limit_of, refus
 use edit_text::LineFault;
 use guild_model::Verdict;
 use itoa::Buffer;
-use payload_text::{Payload, Pieces, append_all};
+use payload_text::{Payload, append_all};
 use std::alloc::AllocError;
 use worker_core::Output;
 
@@ -26,11 +26,18 @@ fn put_close(text: &mut Vec<u8>, conn: u32, code: u16) -> Result<(), AllocError>
 fn put_send(text: &mut Vec<u8>, conn: u32, sent: &Payload) -> Result<(), AllocError>
     ensures { text.new.items ≡ (if is_ok result then text.old.items ++ (codes "send " ++ (decimal conn ++ (32 ∷ (sent.now ++ 10 ∷ [])))) else text.old.items) }
 {
-    let mut conn_buffer = Buffer::new();
-    let mut number_buffer = Buffer::new();
-    let conn = conn_buffer.format(conn);
-    let Pieces { head, number, tail } = sent.pieces(&mut number_buffer);
-    append_all(text, &["send ", conn, " ", head, number, tail, "\n"])
+    let mut buffer = Buffer::new();
+    let before = text.len();
+    append_all(text, &["send ", buffer.format(conn), " "])?;
+    if let Err(error) = sent.append(text) {
+        text.truncate(before);
+        return Err(error);
+    }
+    if let Err(error) = append_all(text, &["\n"]) {
+        text.truncate(before);
+        return Err(error);
+    }
+    Ok(())
 }
 
 /// Puts the line of what goes out.
