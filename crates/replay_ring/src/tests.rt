@@ -35,7 +35,13 @@ fn two_of_three(rt: HostRuntime) -> Result<(), Fail> {
     ring.push(short_text(rt.alloc(), "ij")?);
     assert!(rt; ring.covers(1));
     let mut texts = ring.after(1);
-    assert!(rt; texts.next().ok_or("no text")?.to_text(rt.alloc())?.is("efgh"));
+    assert!(rt;
+        texts
+            .next()
+            .ok_or("no text")?
+            .to_text(rt.alloc())?
+            .is("efgh")
+    );
     assert!(rt; texts.next().ok_or("no text")?.to_text(rt.alloc())?.is("ij"));
     assert!(rt; texts.next().is_none());
     Ok(())

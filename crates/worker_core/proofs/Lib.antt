@@ -20,3 +20,4 @@ pub mod Telling
 pub mod Looking
 pub mod Moving
 pub mod Entries
+pub mod Forms

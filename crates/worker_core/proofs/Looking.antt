@@ -14,7 +14,6 @@ use Rattle.edit_apply.specs.Edits.{verdict, accepts, applied, after, after_verdi
 use Rattle.edit_apply.specs.declared.Edit.{Edit}
 use Rattle.edit_events.specs.Due.{owed, due_between}
 use Rattle.edit_events.specs.Was.{was_of}
-use Rattle.edit_events.specs.declared.due.Was.{Was}
 use Rattle.replay_ring.specs.Replay.{Replay}
 use Rattle.session_core.specs.State.{State, Session, Place, Attached, Detached, Ended}
 use Rattle.worker_core.specs.World.{sends}

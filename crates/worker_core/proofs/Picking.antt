@@ -20,7 +20,7 @@ item_at xs i lt =
     record { item = split.item; found = found; read = get_or_from_slice_get xs i split.item split.item found }
 
 -- a list with more at its end has at each place what it had
-more_at : {A : Type 0} (xs more : List A) (k : ℕ) (a : A) → slice_get xs k ≡ Some a → slice_get (xs ++ more) k ≡ Some a
+pub more_at : {A : Type 0} (xs more : List A) (k : ℕ) (a : A) → slice_get xs k ≡ Some a → slice_get (xs ++ more) k ≡ Some a
 more_at [] more zero a e = absurd (cc)
 more_at [] more (suc k) a e = absurd (cc)
 more_at (x ∷ xs) more zero a e = e

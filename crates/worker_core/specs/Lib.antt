@@ -1,4 +1,5 @@
 pub mod Audience
+pub mod Forms
 pub mod World
 pub mod Law
 pub mod Entries

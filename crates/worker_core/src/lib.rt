@@ -3,6 +3,7 @@
 #![tactic(auto)]
 
 mod audience;
+mod form_places;
 mod greet;
 pub mod io;
 pub mod law;

@@ -7,13 +7,15 @@ ghost use Rattle.edit_apply.specs.Edits.{accepts, applied};
 ghost use Rattle.edit_events.specs.Due.{owed};
 ghost use Rattle.edit_events.specs.Was.{was_of};
 ghost use Rattle.worker_core.specs.Audience.{Picks, IsLonger, picked_by};
+ghost use Rattle.worker_core.specs.Forms.{AreOwed};
 ghost use Rattle.worker_core.specs.Telling.{TellsAt, FailsAt};
 
+use crate::form_places::FormPlaces;
 use crate::io::{Output, StepFault};
 use crate::tell::{envelopes_of, tell_written};
 use dispatch_types::{Dispatch, Viewer};
 use edit_apply::Edit;
-use edit_events::{Was, events};
+use edit_events::{Was, events, form};
 use guild_model::Guild;
 use payload_text::Envelope;
 use same_views::same_list;
@@ -46,7 +48,10 @@ impl Told {
         ensures { IfOk result (λ told. told ≡ dispatches.items) }
     {
         let envelopes = envelopes_of(alloc, dispatches.as_slice())?;
-        Ok(Told { dispatches, envelopes })
+        Ok(Told {
+            dispatches,
+            envelopes,
+        })
     }
 
     /// Whether these are the dispatches.
@@ -90,6 +95,32 @@ fn place_of(
     Ok(place)
 }
 
+// The place of what an accepted entry owes to a viewer. For a viewer to which it is told in the form of
+// one before, that is the place of what the other is owed.
+fn owed_place(
+    alloc: Global,
+    guild: &Guild,
+    entry: &Edit,
+    was: &Was,
+    viewer: &Viewer,
+    told: &mut Vec<Told>,
+    forms: &mut FormPlaces,
+) -> Result<usize, AllocError>
+    ensures owed { IfOk result (λ place. (s : Record) → was.now ≡ was_of s viewer.now entry.now → guild.now ≡ applied s entry.now → accepts s entry.now ≡ true
+        → AreOwed s entry.now told.old.items forms.old
+        → (slice_get told.new.items place ≡ Some (owed s entry.now viewer.now)) × AreOwed s entry.now told.new.items forms.new) }
+    ensures longer { OnOk result (IsLonger told.old.items told.new.items) }
+{
+    let form = form(guild, entry, was, viewer);
+    if let Some(place) = forms.place(form) {
+        return Ok(place);
+    }
+    let owed = events(alloc, guild, entry, was, viewer)?;
+    let place = place_of(alloc, told, owed)?;
+    forms.keep(form, place);
+    Ok(place)
+}
+
 /// What an entry owes to viewers: lists of dispatches, each once, and for each viewer, by its place,
 /// which of them is its.
 #[derive(Drop)]
@@ -113,10 +144,12 @@ impl Owed {
             → Picks o.told.items o.whose.items (map (owed s entry.now) viewers.now)) }
     {
         let mut told = Vec::new(alloc);
+        let mut forms = FormPlaces::new();
         let mut whose = Vec::with_capacity(alloc, viewers.len())?;
         for place in 0..viewers.len() {
-            let owed = events(alloc, guild, entry, &notes[place], &viewers[place])?;
-            whose.push(place_of(alloc, &mut told, owed)?)?;
+            let (was, viewer) = (&notes[place], &viewers[place]);
+            let owed = owed_place(alloc, guild, entry, was, viewer, &mut told, &mut forms)?;
+            whose.push(owed)?;
         }
         Ok(Owed { told, whose })
     }
