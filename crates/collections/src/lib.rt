@@ -4,8 +4,6 @@
 pub mod by_id;
 mod put_each;
 pub mod seq;
-#[cfg(test)]
-mod tests;
 pub mod text;
 
 pub use by_id::{ById, Change, Duplicate, Keyed};

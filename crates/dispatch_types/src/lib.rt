@@ -20,6 +20,3 @@ pub use serving::{served, serves};
 pub use threads::{BadCount, JoinedThread, ThreadCount, ThreadMemberObject, ThreadObject};
 pub use view::{GuildView, OpenView, ThreadView};
 pub use viewer::{BadShard, Shard, Viewer};
-
-#[cfg(test)]
-mod tests;

@@ -8,8 +8,6 @@ mod out;
 mod out_text;
 mod read;
 mod shapes;
-#[cfg(test)]
-mod tests;
 mod text;
 mod values;
 

@@ -2,8 +2,6 @@
 #![tactic(auto)]
 
 mod gate;
-#[cfg(test)]
-mod tests;
 
 use gate_outside::std_house::RealHouse;
 use gate_outside::std_streams::StdoutSink;

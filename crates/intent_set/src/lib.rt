@@ -4,8 +4,6 @@
 mod flags;
 mod intents;
 mod kind;
-#[cfg(test)]
-mod tests;
 
 pub use intents::{Intents, UnknownIntent};
 pub use kind::Kind;

@@ -89,34 +89,3 @@ pub fn id_of(object: &Value<'_>, name: &str) -> Result<u64, ViewFault>
 {
     id_from(field_of(object, name)?)
 }
-
-#[cfg(test)]
-mod tests {
-    use super::*;
-    use crate::{Scratch, list_of, value_of};
-    use snowflake_id::BadId;
-    use std::test::Fail;
-
-    #[test]
-    fn lines_with_one_scratch(rt: HostRuntime) -> Result<(), Fail> {
-        let mut scratch = Scratch::new(rt.alloc());
-        assert!(rt; value_of(rt.alloc(), b"[1e400]", &mut scratch)?.is_none());
-        assert!(rt; value_of(rt.alloc(), b"{} {}", &mut scratch)?.is_none());
-        assert!(rt; value_of(rt.alloc(), b"\"\xff\"", &mut scratch)?.is_none());
-        assert!(rt; value_of(rt.alloc(), b" [18446744073709551616] ", &mut scratch)?.is_some());
-        let bytes = b"{\"b\":7,\"b\":\"08\",\"c\":\"\\u0078\",\"d\":true,\"e\":-1,\"f\":[1,[]]}";
-        let object = value_of(rt.alloc(), bytes, &mut scratch)?.ok_or("no JSON")?;
-        assert_eq!(rt; id_of(&object, "b"), Ok(8));
-        assert_eq!(rt;
-            id_of(&object, "c"),
-            Err(ViewFault::BadId(BadId::NotDigits))
-        );
-        assert_eq!(rt; text_of(&object, "c"), Ok("x"));
-        assert_eq!(rt; flag_of(&object, "d"), Ok(true));
-        assert_eq!(rt; number_of(&object, "e"), Err(ViewFault::WrongType));
-        assert_eq!(rt; number_of(&object, "z"), Err(ViewFault::Missing));
-        let list = list_of(field_of(&object, "f")?).ok_or("no list")?;
-        assert_eq!(rt; list.len(), 2);
-        Ok(())
-    }
-}

@@ -8,6 +8,3 @@ mod writing;
 
 pub use reading::moment_of;
 pub use writing::moment_text;
-
-#[cfg(test)]
-mod tests;

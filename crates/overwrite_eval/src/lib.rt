@@ -7,8 +7,6 @@ mod parts;
 mod roles;
 mod sight;
 mod standing;
-#[cfg(test)]
-mod tests;
 mod tiers;
 
 pub use masks::{base_mask, channel_mask, mask_from};

@@ -4,8 +4,6 @@
 mod append;
 mod envelope;
 mod payload;
-#[cfg(test)]
-mod tests;
 
 pub use append::append_all;
 pub use envelope::Envelope;

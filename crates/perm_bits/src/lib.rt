@@ -5,7 +5,5 @@ mod flags;
 mod named;
 mod operators;
 mod perms;
-#[cfg(test)]
-mod tests;
 
 pub use perms::{BadMask, Perms};

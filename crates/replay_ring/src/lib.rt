@@ -4,8 +4,6 @@
 mod after;
 mod laws;
 mod ring;
-#[cfg(test)]
-mod tests;
 
 pub use after::After;
 pub use laws::{after_gives_all_later_texts, pushes_keep_the_longest_suffix};

@@ -16,6 +16,3 @@ pub use dispatches::same_list;
 pub use equality::SameAs;
 pub use lists::same_items;
 pub use views::{same, same_or_none};
-
-#[cfg(test)]
-mod tests;

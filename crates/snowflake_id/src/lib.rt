@@ -92,30 +92,3 @@ impl Snowflake {
         (self.0 >> 22) % count
     }
 }
-
-#[cfg(test)]
-mod tests {
-    use super::*;
-    use std::test::Fail;
-
-    #[test]
-    fn worked_examples(rt: HostRuntime) -> Result<(), Fail> {
-        let largest = Snowflake(18_446_744_073_709_551_615);
-        assert_eq!(rt; Snowflake::parse(""), Err(BadId::Empty));
-        assert_eq!(rt; Snowflake::parse("12a"), Err(BadId::NotDigits));
-        assert_eq!(rt; Snowflake::parse("+1"), Err(BadId::NotDigits));
-        assert_eq!(rt;
-            Snowflake::parse("18446744073709551616"),
-            Err(BadId::TooLarge)
-        );
-        assert_eq!(rt; Snowflake::parse("18446744073709551615"), Ok(largest));
-        assert_eq!(rt; Snowflake::parse("007"), Ok(Snowflake(7)));
-
-        // The documentation's own example.
-        let example = Snowflake(175_928_847_299_117_063);
-        assert_eq!(rt; example.millis(), 1_462_015_105_796);
-        assert_eq!(rt; example.shard_of(2), 0);
-        assert_eq!(rt; example.text(rt.alloc())?.as_str(), "175928847299117063");
-        Ok(())
-    }
-}

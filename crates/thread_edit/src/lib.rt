@@ -6,8 +6,6 @@ ghost use Rattle.guild_model.specs.Tests.{outcome};
 ghost use Rattle.thread_edit.specs.ThreadEdits.{thread_verdict, thread_applied};
 
 pub mod rules;
-#[cfg(test)]
-mod tests;
 pub mod thread_archive;
 pub mod thread_create;
 pub mod thread_delete;

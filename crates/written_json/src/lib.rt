@@ -20,21 +20,3 @@ pub fn is_written_as(alloc: Global, value: &Value, text: &str) -> Result<bool, A
     let found = value.to_string(alloc)?;
     Ok(found.as_str() == text)
 }
-
-#[cfg(test)]
-mod tests {
-    use super::*;
-    use json_view::value_of;
-    use std::test::Fail;
-
-    #[test]
-    fn spaces_and_order_are_no_matter(rt: HostRuntime) -> Result<(), Fail> {
-        let value = value_of(rt.alloc(), b"{ \"b\": [1, \"x\"],\n \"a\": null }")?.ok_or(
-            "no JSON",
-        )?;
-        let written = "{\"a\":null,\"b\":[1,\"x\"]}";
-        assert!(rt; is_written_as(rt.alloc(), &value, written)?);
-        assert!(rt; !is_written_as(rt.alloc(), &value, "{\"a\":null,\"b\":[1,\"y\"]}")?);
-        Ok(())
-    }
-}

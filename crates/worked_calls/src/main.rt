@@ -1,0 +1,57 @@
+//! Calls public functions of the lower crates, a line a call, and prints what each answers:
+//! `worked_calls FILE`, where a line is the name of a call and what it is given.
+#![tactic(auto)]
+
+mod bits;
+mod kept;
+mod record;
+mod rights;
+mod texts;
+mod words;
+
+use record::Record;
+use std::{env, fs};
+
+// What a call answers, where one has that name.
+fn answer(
+    rt: &HostRuntime,
+    record: &mut Record,
+    name: &str,
+    given: &str,
+) -> anyhow::Result<Option<String>> {
+    if let Some(answer) = bits::answer(rt.alloc(), name, given)? {
+        return Ok(Some(answer));
+    }
+    if let Some(answer) = texts::answer(rt.alloc(), name, given)? {
+        return Ok(Some(answer));
+    }
+    if let Some(answer) = kept::answer(rt.alloc(), name, given)? {
+        return Ok(Some(answer));
+    }
+    record.answer(rt.alloc(), name, given)
+}
+
+fn print_line(rt: &HostRuntime, record: &mut Record, line: &str) -> anyhow::Result<()> {
+    let (name, given) = line.split_once(' ').unwrap_or((line, ""));
+    match answer(rt, record, name, given)? {
+        Some(answer) => println!(rt; "{name}: {answer}")?,
+        None => println!(rt; "{name}: no such call")?,
+    }
+    Ok(())
+}
+
+fn print_file(rt: &HostRuntime, path: &str) -> anyhow::Result<()> {
+    let text = fs::read_to_string(rt, path)?;
+    let mut record = Record::new(rt.alloc());
+    for line in text.as_str().lines() {
+        print_line(rt, &mut record, line)?;
+    }
+    Ok(())
+}
+
+fn main(rt: HostRuntime) -> anyhow::Result<()> {
+    for path in env::args(&rt)?.skip(1) {
+        print_file(&rt, path.as_str())?;
+    }
+    Ok(())
+}
