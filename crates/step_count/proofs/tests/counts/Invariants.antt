@@ -1,4 +1,0 @@
-use Rattle.step_count.proofs.tests.counts.Given as goal
-
-abbrev pub ghosts-tick_twice : goal.ghosts-tick_twice
-ghosts-tick_twice a = record { name = a.blank.name; parts = a.blank.parts }
