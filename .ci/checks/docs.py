@@ -16,8 +16,8 @@ KINDS = {"moment": "time", "kind": "channel type", "thread_kind": "thread type",
 OBJECTS = {"role": "role roles", "channel": "channels CHANNEL_CREATE CHANNEL_UPDATE CHANNEL_DELETE", "overwrite": "permission_overwrites",
            "thread": "threads THREAD_CREATE THREAD_UPDATE", "thread member": "member added_members", "user": "user author mentions",
            "member": "members GUILD_MEMBER_ADD GUILD_MEMBER_UPDATE", "voice state": "voice_states VOICE_STATE_UPDATE", "emoji": "emoji",
-           "presence": "presences PRESENCE_UPDATE", "message": "MESSAGE_CREATE MESSAGE_UPDATE", "application": "application",
-           "thread_metadata": "thread_metadata"}
+           "presence": "presences PRESENCE_UPDATE", "message": "MESSAGE_CREATE MESSAGE_UPDATE",
+           "application": "application", "thread_metadata": "thread_metadata"}
 OBJECT_OF = {name: kind for kind, names in OBJECTS.items() for name in names.split()}
 failures, counts = [], collections.Counter()
 
@@ -29,6 +29,7 @@ def text_of(*patterns):
 def compare(what, path, line, page, source):
     counts[what] += len(page) if isinstance(page, (list, set)) else 1
     if page != source:
+        page, source = (page - source, source - page) if isinstance(page, set) else (page, source)
         failures.append(f"{path}:{line}: {what}: the page has {page}, the sources have {source}")
 
 def compare_rows(what, path, page, source):
@@ -42,7 +43,7 @@ def rows(path, head):
     for number, line in enumerate(text_of(path).split("\n"), 1):
         cells = [cell.strip() for cell in line.strip("|").split("|")] if line.startswith("|") else [""]
         inside = cells[0] == head or inside and line.startswith("|")
-        if inside and cells[0] != head and not cells[0].startswith("---"):
+        if inside and cells[0] != head and cells[0] != "---":
             yield number, [cells[0].strip("`"), *cells[1:]]
 
 def squeezed(items):
@@ -86,7 +87,8 @@ def verdicts_of(edit):
     """The verdicts of an edit, but for those that every edit has in a guild that is not open or in an outage."""
     file = "guild" if edit.startswith("guild_") else "reaction" if edit.startswith("reaction_") else edit
     check = "check" if file != "guild" else "in_service" if edit == "guild_outage" else "check_" + edit.removeprefix("guild_")
-    path = [path for path in glob.glob(f"crates/*/src/{file}.rt") if "fn check" in text_of(path)][0]
+    paths = [path for path in glob.glob(f"crates/*/src/{file}.rt") if "fn check" in text_of(path)]
+    path = (paths or ["crates/edit_apply/src/guild.rt"])[0]
     rules, crate = functions("crates/guild_model/src/rules.rt"), functions(f"{os.path.dirname(path)}/**/*.rt")
     found = verdicts(check, functions(path), crate, rules, constants("guild_model"))
     return found[2:] if found[:2] == ["NotOpen", "Unavailable"] else found
