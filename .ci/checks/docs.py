@@ -194,7 +194,6 @@ def play_examples(gate):
 
 for part in (compare_steps_and_edits, compare_tables, compare_payloads, compare_quotes, lambda: play_examples(program())):
     part()
-for failure in failures:
-    print(f"docs: {failure[:900]}")
+print(*(f"docs: {failure[:900]}\n" for failure in failures), sep="", end="")
 print("docs: " + ", ".join(f"{count} {what}" for what, count in counts.items()) + ("" if counts["causes"] else "; no built program at hand: nothing was played"))
 sys.exit(bool(failures))
