@@ -1,0 +1,199 @@
+"""Compares docs/{STEPS,TRANSCRIPT,PAYLOADS,COOKBOOK}.md and examples/ with the sources, and plays the examples."""
+import collections
+import glob
+import itertools
+import json
+import os
+import re
+import subprocess
+import sys
+
+os.chdir(os.path.join(os.path.dirname(os.path.abspath(__file__)), "../.."))
+STEPS, TRANSCRIPT, PAYLOADS = "docs/STEPS.md", "docs/TRANSCRIPT.md", "docs/PAYLOADS.md"
+# What the page calls a kind of field, by the name of the function that reads it.
+KINDS = {"moment": "time", "kind": "channel type", "thread_kind": "thread type", "overwrite_kind": "overwrite type", "parts": "count"}
+# Which objects stand under these keys, and are these dispatches.
+OBJECTS = {"role": "role roles", "channel": "channels CHANNEL_CREATE CHANNEL_UPDATE CHANNEL_DELETE", "overwrite": "permission_overwrites",
+           "thread": "threads THREAD_CREATE THREAD_UPDATE", "thread member": "member added_members", "user": "user author mentions",
+           "member": "members GUILD_MEMBER_ADD GUILD_MEMBER_UPDATE", "voice state": "voice_states VOICE_STATE_UPDATE", "emoji": "emoji",
+           "presence": "presences PRESENCE_UPDATE", "message": "MESSAGE_CREATE MESSAGE_UPDATE",
+           "application": "application", "thread_metadata": "thread_metadata"}
+OBJECT_OF = {name: kind for kind, names in OBJECTS.items() for name in names.split()}
+failures, counts = [], collections.Counter()
+
+def text_of(*patterns):
+    """The text of these files, one after another."""
+    paths = [path for pattern in patterns for path in sorted(glob.glob(pattern, recursive=True))]
+    return "".join(open(path, encoding="utf-8", newline="\n").read() for path in paths)
+
+def compare(what, path, line, page, source):
+    counts[what] += len(page) if isinstance(page, (list, set)) else 1
+    if page != source:
+        page, source = (page - source, source - page) if isinstance(page, set) else (page, source)
+        failures.append(f"{path}:{line}: {what}: the page has {page}, the sources have {source}")
+
+def compare_rows(what, path, page, source):
+    """Compares values, each with its line, with those of the sources, one by one."""
+    for found, wanted in itertools.zip_longest(page, source):
+        compare(what, path, found[0] if found else page[-1][0], found and found[1], wanted)
+
+def rows(path, head):
+    """The rows of the page's tables whose first column has this head, each with the number of its line."""
+    inside = False
+    for number, line in enumerate(text_of(path).split("\n"), 1):
+        cells = [cell.strip() for cell in line.strip("|").split("|")] if line.startswith("|") else [""]
+        inside = cells[0] == head or inside and line.startswith("|")
+        if inside and cells[0] != head and cells[0] != "---":
+            yield number, [cells[0].strip("`"), *cells[1:]]
+
+def squeezed(items):
+    return [item for item, _ in itertools.groupby(items)]
+
+def functions(pattern):
+    """The functions of these sources, by name, without their heads and clauses."""
+    found = re.findall(r"^( *)(?:pub )?fn (\w+)\b[^\n]*\n(.*?)^\1\}", text_of(pattern), re.M | re.S)
+    return {name: re.sub(r"(?m)^\s*(ensures|requires)\b.*$", "", body) for _, name, body in reversed(found)}
+
+def constants(crate):
+    found = re.findall(r"const (\w+): u\w+ =\s*([\d_]+);", text_of(f"crates/{crate}/src/**/*.rt"))
+    return {name: int(value.replace("_", "")) for name, value in found}
+
+def fields(known, name):
+    """The fields that a reader reads, in order, with their kinds."""
+    for it in re.finditer(r"(\w+)\((?:alloc, )?object(?:, \"(\w+)\")?", known.get(name, "")):
+        nullable, kind = re.match(r"(nullable_)?(\w+?)(?:_at)?$", it[1]).groups()
+        if it[1] == "number_below":
+            yield it[2], "milliseconds"
+        elif it[1].endswith("_at"):
+            yield it[2] or kind.replace("connection", "conn"), KINDS.get(kind, kind) + (" or null" if nullable else "")
+        else:
+            yield from fields(known, it[1])
+
+def verdicts(name, own, crate, rules, limits):
+    """The verdicts of a function of tests in the order of its text, with their limits."""
+    answer = []
+    for it in re.finditer(r"Verdict::(\w+)|limits::(\w+)|(rules::)?\b(\w+)\(", own.get(name) or crate[name]):
+        if it[1]:
+            answer.append(it[1])
+        elif it[2]:
+            answer[-1] += f" {limits[it[2]]}"
+        elif it[3]:
+            answer += verdicts(it[4], rules, rules, rules, limits)
+        elif it[4] in own or it[4] in crate:
+            answer += verdicts(it[4], own if it[4] in own else crate, crate, rules, limits)
+    return squeezed(answer)
+
+def verdicts_of(edit):
+    """The verdicts of an edit, but for those that every edit has in a guild that is not open or in an outage."""
+    file = "guild" if edit.startswith("guild_") else "reaction" if edit.startswith("reaction_") else edit
+    check = "check" if file != "guild" else "in_service" if edit == "guild_outage" else "check_" + edit.removeprefix("guild_")
+    paths = [path for path in glob.glob(f"crates/*/src/{file}.rt") if "fn check" in text_of(path)]
+    path = (paths or ["crates/edit_apply/src/guild.rt"])[0]
+    rules, crate = functions("crates/guild_model/src/rules.rt"), functions(f"{os.path.dirname(path)}/**/*.rt")
+    found = verdicts(check, functions(path), crate, rules, constants("guild_model"))
+    return found[2:] if found[:2] == ["NotOpen", "Unavailable"] else found
+
+def dispatches_by_edit():
+    """What each edit of examples/every_edit sends: a heartbeat follows its look, and the answer to it ends what was sent."""
+    steps = map(json.loads, text_of("examples/every_edit.jsonl").splitlines())
+    sent = collections.defaultdict(list)
+    for edit, part in zip((step for step in steps if step["step"] == "edit"), text_of("examples/every_edit.out").split('"op":11')):
+        sent[edit["do"]].append(squeezed(name for name in re.findall(r'"t":"(\w+)"\}$', part, re.M) if name != "READY"))
+    return sent
+
+def compare_steps_and_edits():
+    for head, named in (("step", r"StepName::\w+ => \"(\w+)\""), ("edit", r"EditName::\w+ => \"(\w+)\"")):
+        compare("names", STEPS, 1, {name for _, (name, *_) in rows(STEPS, head)}, set(re.findall(named, text_of("crates/edit_text/src/names.rt"))))
+    known, sent = functions("crates/edit_text/src/edits/*.rt") | functions("crates/edit_text/src/steps.rt"), dispatches_by_edit()
+    for line, (name, cell, *_) in [*rows(STEPS, "step"), *rows(STEPS, "edit")]:
+        page = [re.match(r"`(\w+)` (.+)", field).groups() for field in cell.split(", ") if field.startswith("`")]
+        compare("fields", STEPS, line, page, list(fields(known, "edit_line_from" if name == "edit" else f"{name}_from")))
+    for line, (name, _, refused, told) in rows(STEPS, "edit"):
+        page = re.findall(r"[A-Z]\w+(?: \d+)?", re.sub(r"\([^)]*\)", "", refused))
+        compare("verdicts of edits", STEPS, line, squeezed(page), verdicts_of(name))
+        order = re.findall(r"\b[A-Z]+(?:_[A-Z]+)+\b", told)
+        compare("dispatches of edits", STEPS, line, set(order), set().union(*sent[name]))
+        for part in sent[name]:
+            compare("looks", STEPS, line, tuple(name for name in order if name in part), tuple(part))
+
+def compare_tables():
+    for line, (_, value, place) in rows(STEPS, "limit"):
+        crate, name = re.findall(r"`(\w+)`", place)
+        compare("limits", STEPS, line, int(value.replace(",", "")), constants(crate).get(name))
+    bits = dict(re.findall(r"const (\w+) = 1 << (\d+)", text_of("crates/intent_set/src/flags.rt")))
+    for line, (name, value, _) in rows(STEPS, "intent"):
+        compare("intents", STEPS, line, int(value), 1 << int(bits[name.split(" ")[0]]))
+    source = re.findall(r"Verdict::(\w+)(?: \{ \.\. \})? => (\d+)", text_of("crates/guild_model/src/verdict.rt"))
+    source += re.findall(r"LineFault::(\w+) => ([1-9])", text_of("crates/scenario/src/texts.rt"))
+    page = [(line, (name, number)) for line, (number, name, *_) in rows(TRANSCRIPT, "number")]
+    compare_rows("verdicts and faults", TRANSCRIPT, page, source)
+    source = sorted((code, name.lower().replace("_", " ")) for name, code in constants("session_core").items() if 4000 <= code < 4100)
+    compare_rows("close codes", TRANSCRIPT, [(line, (int(code), name)) for line, (code, name, *_) in rows(TRANSCRIPT, "code")], source)
+    found = re.findall(r"(?:Ok\(\(\)\)|Err\(PlayFault::\w+(?: \{ \.\. \})?\)) => (\d+)|: u8 = (\d+);", text_of("crates/gateway_main/src/gate.rt"))
+    source = sorted({int(played or other) for played, other in found})
+    compare_rows("statuses", TRANSCRIPT, [(line, int(status)) for line, (status, *_) in rows(TRANSCRIPT, "status")], source)
+
+def add_objects(kind, value, found):
+    """Adds the keys of an object and of those inside it."""
+    found[kind].append(set(value))
+    for key, inner in value.items() if kind != "presence" else ():
+        held = "thread member" if (kind, key) == ("THREAD_LIST_SYNC", "members") else OBJECT_OF.get(key)
+        for one in inner if isinstance(inner, list) else [inner]:
+            if held and isinstance(one, dict):
+                add_objects(held, one, found)
+
+def compare_payloads():
+    found = collections.defaultdict(list)
+    for text in re.findall(r"^send \d+ (.*)$", text_of("examples/*.out", "crates/worked_examples/data/*.out"), re.M):
+        sent = json.loads(text)
+        if sent["op"] == 0:
+            add_objects(OBJECT_OF.get(sent["t"], sent["t"]), sent["d"], found)
+    page = [(line, name, cell) for line, (names, cell, _) in rows(PAYLOADS, "object") for name in names.split(", ")]
+    compare("objects", PAYLOADS, 1, {name for _, name, _ in page}, set(found))
+    for line, name, cell in page:
+        keys = {key + ("" if all(key in one for one in found[name]) else "?") for key in set().union(*found[name])}
+        compare("keys", PAYLOADS, line, {key + mark for key, mark in re.findall(r"`(\w+)`(\??)", cell)}, keys)
+
+def compare_quotes():
+    """Each step line and transcript line that a page quotes stands in an example; `..` leaves something out."""
+    steps = [json.loads(line) for line in text_of("examples/*.jsonl").split("\n") if line]
+    bare = [{key: value for key, value in step.items() if key != "note"} for step in steps]
+    for path in ["README.md", "examples/README.md", *sorted(glob.glob("docs/*.md"))]:
+        for number, line in enumerate((line.removeprefix("    ") for line in text_of(path).split("\n")), 1):
+            if line.startswith('{"step"'):
+                compare("quotes", path, number, line, line if json.loads(line) in bare else "no such step line in examples/")
+            elif re.match(r"(send|close|wish|refused|stop line) \d", line):
+                found = re.search(f"^{'.*'.join(map(re.escape, line.split('..')))}$", text_of("examples/*.out"), re.M)
+                compare("quotes", path, number, line, line if found else "no such line in examples/")
+    files = {os.path.basename(path).removesuffix(".jsonl") for path in glob.glob("examples/*.jsonl")}
+    compare("examples", "examples/README.md", 1, {name for _, (name, _) in rows("examples/README.md", "file")}, files)
+    compare("steps in examples", STEPS, 1, {step["step"] for step in steps}, {name for _, (name, *_) in rows(STEPS, "step")})
+
+def program():
+    """The program that GATE names, or else a built one that is at hand and newer than its sources."""
+    sources = [path for end in ("rt", "antt") for path in glob.glob(f"crates/*/*/**/*.{end}", recursive=True) if "/out/" not in path]
+    built = [path for path in ("out/gate", "crates/gateway_main/out/gateway_main") if os.path.isfile(path)]
+    newer = [path for path in built if os.path.getmtime(path) > max(map(os.path.getmtime, sources))]
+    return os.environ.get("GATE") or next(iter(newer), None)
+
+def play_examples(gate):
+    """Plays each example, also by the reader that docs/TRANSCRIPT.md shows, and compares what it prints."""
+    shown = {}
+    exec(re.search(r"```python\n(.*?)```", text_of(TRANSCRIPT), re.S)[1], shown)
+    for path in sorted(glob.glob("examples/*.jsonl")) if gate else ():
+        out = path.removesuffix("jsonl") + "out"
+        wanted = text_of(out).split("\n")
+        status = 5 if any(line.startswith("stop ") for line in wanted) else 0
+        run = subprocess.run([gate, "run", path], capture_output=True, timeout=60)
+        compare_rows("lines played", out, list(enumerate(wanted, 1)), run.stdout.decode().split("\n"))
+        compare("examples played", out, len(wanted), status, run.returncode)
+        *read, last = shown["read"](path, gate)
+        compare("examples read", TRANSCRIPT, 1, (len(wanted) - 1, status), (len(read), last[2]))
+    if gate:
+        compare("causes", TRANSCRIPT, 1, shown["cause"](text_of("examples/first.jsonl").encode().splitlines(True), 4, gate), 9)
+
+for part in (compare_steps_and_edits, compare_tables, compare_payloads, compare_quotes, lambda: play_examples(program())):
+    part()
+print(*(f"docs: {failure[:900]}\n" for failure in failures), sep="", end="")
+print("docs: " + ", ".join(f"{count} {what}" for what, count in counts.items()) + ("" if counts["causes"] else "; no built program at hand: nothing was played"))
+sys.exit(bool(failures))
