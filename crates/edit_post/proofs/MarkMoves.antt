@@ -1,14 +1,13 @@
 -- Each step on the marks keeps their rule.
-use Rattle.std.proofs.Common.{◌≡◌, ◌≢◌, ◌⊎◌, ℕ, zero, suc, ◌+◌, ◌<◌, ◌≤◌, ◌==◌, Bool, true, false, true≢false, cond, eqb, replicate, List, [], ◌∷◌, ◌++◌, length, get_or, set, length-append, length-set, sym, refl, ap, ◌∙◌, subst, inl, inr, ⊎_elim, get_or-set_same, get_or-set_other, arith}
+use Rattle.std.proofs.Common.{◌≡◌, ◌≢◌, ℕ, zero, suc, ◌+◌, ◌<◌, ◌==◌, true, false, cond, eqb, replicate, List, [], ◌∷◌, length, get_or, set, length-set, sym, refl, ap, ◌∙◌, subst, ⊎_elim, get_or-set_same, get_or-set_other, arith}
 use Rattle.std.proofs.lemmas.List.{set-get_or}
 use Rattle.std.proofs.lemmas.Bool.Decides.{eqb_tells}
-use mathlib.Core.Option.{some, none}
-use lib.ListN.{get_elem?}
-use Rattle.atomic_table.specs.Table.{State, Me, Step, step, opening, Act, keeps, Allows, Splits, Joins}
+use mathlib.Core.Option.{none}
+use Rattle.atomic_table.specs.Table.{step, opening, keeps, Allows, Splits, Joins}
 use Rattle.atomic_table.proofs.Lists.{set_again}
 use Rattle.edit_post.proofs.Views.{Each, each_none, each_set, each_snoc, unset, no, at_new, at_old}
 use Rattle.edit_post.specs.declared.mark_view.MarkView.{MarkView}
-use Rattle.edit_post.specs.MarkRule.{Slot, Sat, no_marks, no_mark, with_unfound, unstored, storing, finding, knowing, Marked, Stores, Finds, Agrees}
+use Rattle.edit_post.specs.MarkRule.{Sat, no_marks, no_mark, with_unfound, unstored, storing, finding, knowing, Marked, Stores, Finds, Agrees}
 
 abbrev Sends : ℕ → (ℕ → ℕ) → List ℕ → ℕ → MarkView → Type 0
 Sends made sender_at words j v = v.sends ≡ true → (sender_at v.sender ≡ j) × (get_or words v.sender 0 ≡ v.stored) × (v.sender < made) × (v.sender < 16)

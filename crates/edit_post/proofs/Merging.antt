@@ -1,5 +1,5 @@
 -- Merges: a list is one of its parts by a key, and what a filter or a function leaves of a merge is a merge of what it leaves of each list.
-use Rattle.std.proofs.Common.{◌≡◌, ◌≢◌, ◌⊎◌, ℕ, zero, suc, ◌+◌, ◌<◌, ◌==◌, Bool, true, false, List, [], ◌∷◌, map, length, get_or, set, cond, eqb, sym, refl, ap, ◌∙◌, subst, ⊎_elim, get_or-set_same, get_or-set_other, arith, length-set}
+use Rattle.std.proofs.Common.{◌≡◌, ◌≢◌, ℕ, zero, suc, ◌<◌, ◌==◌, Bool, true, false, List, [], ◌∷◌, map, length, get_or, set, cond, eqb, sym, refl, ap, ◌∙◌, subst, ⊎_elim, get_or-set_same, get_or-set_other, arith, length-set}
 use Rattle.std.specs.List.{filter, range_with_len, All}
 use Rattle.std.proofs.lemmas.Bool.Decides.{Decides-eqb, eqb_tells}
 use Rattle.std.proofs.lemmas.List.{set-get_or}

@@ -1,20 +1,19 @@
 -- Each move of the queue keeps its rule.
-use Rattle.std.proofs.Common.{◌≡◌, ◌≢◌, ◌⊎◌, ℕ, zero, suc, ◌+◌, ◌<◌, ◌≤◌, ◌==◌, Bool, true, false, true≢false, cond, eqb, List, [], ◌∷◌, ◌++◌, length, set, sym, refl, ap, ◌∙◌, subst, inl, inr, ⊎_elim, lt_of_not-le, append_assoc, arith}
-use Rattle.std.specs.List.{filter}
+use Rattle.std.proofs.Common.{◌≡◌, ◌≢◌, ℕ, ◌+◌, ◌<◌, ◌≤◌, ◌==◌, Bool, true, false, cond, eqb, List, [], ◌∷◌, ◌++◌, length, set, sym, refl, ap, ◌∙◌, subst, ⊎_elim, lt_of_not-le, append_assoc, arith}
 use Rattle.std.proofs.lemmas.List.Elements.{filter-append}
 use Rattle.std.proofs.lemmas.List.{append-nil}
-use Rattle.std.proofs.lemmas.Bool.Decides.{nat_tests, Decides-eqb, eqb_tells}
+use Rattle.std.proofs.lemmas.Bool.Decides.{Decides-eqb, eqb_tells}
 use mathlib.Core.Logic.{dite}
 use native.Mathlib.Decide.{dec_le}
-use mathlib.Core.Option.{some, some-injective, some-ne-none}
+use mathlib.Core.Option.{some}
 use lib.ListN.{get_elem?}
 use Rattle.crossbeam_queue.specs.Fifo.{Pushes, Pops, Forks, Merges, Learns}
-use Rattle.crossbeam_queue.proofs.Lists.{at_set, at_snoc}
+use Rattle.crossbeam_queue.proofs.Lists.{at_set}
 use Rattle.edit_post.proofs.Views.{Each, each_none, each_set, each_snoc, no, at_new, at_old}
 use Rattle.edit_post.specs.declared.request.Request.{Request}
 use Rattle.edit_post.specs.declared.queue_view.QueueView.{QueueView}
 use Rattle.edit_post.specs.Requests.{requests_of}
-use Rattle.edit_post.specs.QueueRule.{all_of, NumberedFrom, view_of, opening, spent, with_sender, new_sender, put, took, joined, KeepsOrder, TakesInOrder}
+use Rattle.edit_post.specs.QueueRule.{all_of, NumberedFrom, opening, spent, with_sender, new_sender, put, took, joined, KeepsOrder, TakesInOrder}
 
 -- the test of `of`
 abbrev is_by : ℕ → Request → Bool

@@ -1,5 +1,5 @@
 -- internal: cited by private functions only. What the fields of the passes say.
-use Rattle.std.specs.Prelude.{◌≡◌, ◌≢◌, ℕ, ◌<◌, ◌≤◌, ◌+◌, true, false, List, [], length, slice_index, All, None}
+use Rattle.std.specs.Prelude.{◌≡◌, ◌≢◌, ℕ, ◌<◌, ◌≤◌, ◌+◌, true, false, [], length, slice_index, All, None}
 use Rattle.edit_post.specs.declared.request.Request.{Request}
 use Rattle.edit_post.specs.declared.send_pass.SendPass.TheInside as send
 use Rattle.edit_post.specs.declared.take_pass.TakePass.TheInside as take

@@ -38,7 +38,7 @@ impl<R: Drop> Model for Post<R> {
     ghost invariant = { λ p. p.marks.shared.table_id.words ≡ 16 };
 }
 
-impl<R: Wait + Drop> Post<R> {
+impl<R: Drop> Post<R> {
     /// An empty post for so many senders, the pass of each in order, and the actor's pass.
     ///
     /// # Errors
@@ -89,31 +89,6 @@ impl<R: Wait + Drop> Post<R> {
         }
     }
 
-    /// Sends a request, which has the pass's sender and its next number. It allocates only what the
-    /// queue allocates.
-    ///
-    /// # Errors
-    /// `Spent` exactly if the sender has sent 2^57 requests, and `Memory`. Both hand the request back
-    /// and leave the pass as it was.
-    pub fn send(&self, pass: &mut SendPass, request: Request) -> Result<(), (Request, SendRefused)>
-        requires post { pass.old.post ≡ self.now }
-        requires open { pass.old.mark ≡ 0 }
-        requires next { (request.sender ≡ pass.old.sender) × (request.number ≡ length pass.old.sent + 1) }
-        ensures sent { MatchResult result (λ _. pass.new ≡ after_send pass.old request) (λ back. (back.0 ≡ request) × (pass.new ≡ pass.old)) }
-        ensures spent { (result ≡ Err (request, Spent)) ↔ (2 ^ 57 ≤ length pass.old.sent) }
-    {
-        if pass.next > MOST_REQUESTS {
-            return Err((request, SendRefused::Spent));
-        }
-        match queue::send(&self.rt, &self.queue, &mut pass.pass, request) {
-            Ok(()) => {
-                pass.next += 1;
-                Ok(())
-            }
-            Err(request) => Err((request, SendRefused::Memory)),
-        }
-    }
-
     /// Ends a pass: stores its sender's mark, which is how many requests it sent, and one more. It
     /// does not allocate.
     pub fn end(&self, pass: &mut SendPass)
@@ -123,19 +98,6 @@ impl<R: Wait + Drop> Post<R> {
     {
         let sender = usize::from(pass.sender);
         marks::store(&self.marks, &mut pass.seat, sender, pass.next);
-    }
-
-    /// Removes the request at the front of the queue. `None` only if the queue was empty at one step
-    /// of the call. The requests of each sender come in order, numbered from 1 without a gap. It does
-    /// not allocate.
-    pub fn take(&self, pass: &mut TakePass) -> Option<Request>
-        requires post { pass.old.post ≡ self.now }
-        ensures taken { MatchOption result ((pass.new ≡ pass.old) × FoundEmpty pass.old) (λ r. pass.new ≡ after_take pass.old r) }
-        ensures next { IfSome result (λ r. (r.sender < pass.old.senders) × (r.number ≡ length (requests_of r.sender pass.old.taken) + 1)) }
-    {
-        let request = queue::take(&self.rt, &self.queue, &mut pass.pass)?;
-        pass.counts[usize::from(request.sender)] = request.number;
-        Some(request)
     }
 
     // Looks at the mark of one sender, if it was not found before. True exactly if it is found now
@@ -174,6 +136,46 @@ impl<R: Wait + Drop> Post<R> {
             }
         }
         all
+    }
+}
+
+impl<R: Wait + Drop> Post<R> {
+    /// Sends a request, which has the pass's sender and its next number. It allocates only what the
+    /// queue allocates.
+    ///
+    /// # Errors
+    /// `Spent` exactly if the sender has sent 2^57 requests, and `Memory`. Both hand the request back
+    /// and leave the pass as it was.
+    pub fn send(&self, pass: &mut SendPass, request: Request) -> Result<(), (Request, SendRefused)>
+        requires post { pass.old.post ≡ self.now }
+        requires open { pass.old.mark ≡ 0 }
+        requires next { (request.sender ≡ pass.old.sender) × (request.number ≡ length pass.old.sent + 1) }
+        ensures sent { MatchResult result (λ _. pass.new ≡ after_send pass.old request) (λ back. (back.0 ≡ request) × (pass.new ≡ pass.old)) }
+        ensures spent { (result ≡ Err (request, Spent)) ↔ (2 ^ 57 ≤ length pass.old.sent) }
+    {
+        if pass.next > MOST_REQUESTS {
+            return Err((request, SendRefused::Spent));
+        }
+        match queue::send(&self.rt, &self.queue, &mut pass.pass, request) {
+            Ok(()) => {
+                pass.next += 1;
+                Ok(())
+            }
+            Err(request) => Err((request, SendRefused::Memory)),
+        }
+    }
+
+    /// Removes the request at the front of the queue. `None` only if the queue was empty at one step
+    /// of the call. The requests of each sender come in order, numbered from 1 without a gap. It does
+    /// not allocate.
+    pub fn take(&self, pass: &mut TakePass) -> Option<Request>
+        requires post { pass.old.post ≡ self.now }
+        ensures taken { MatchOption result ((pass.new ≡ pass.old) × FoundEmpty pass.old) (λ r. pass.new ≡ after_take pass.old r) }
+        ensures next { IfSome result (λ r. (r.sender < pass.old.senders) × (r.number ≡ length (requests_of r.sender pass.old.taken) + 1)) }
+    {
+        let request = queue::take(&self.rt, &self.queue, &mut pass.pass)?;
+        pass.counts[usize::from(request.sender)] = request.number;
+        Some(request)
     }
 
     /// Settles with a sender: the mark that was found of it is the mark that it stored, and what was

@@ -1,4 +1,4 @@
-use Rattle.std.proofs.Common.{rules, ◌≡◌, ◌<◌, ◌∙◌, ◌+◌, ◌++◌, ℕ, List, sym, ap, subst, arith}
+use Rattle.std.proofs.Common.{rules, ◌≡◌, ◌<◌, ◌∙◌, ◌+◌, ◌++◌, ℕ, List, sym, subst, arith}
 use Rattle.std.specs.List.{All}
 use Rattle.edit_post.specs.declared.request.Request.{Request}
 use Rattle.edit_post.specs.Post.{looked}

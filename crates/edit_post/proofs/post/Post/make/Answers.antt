@@ -1,9 +1,9 @@
-use Rattle.std.proofs.Common.{◌≡◌, ◌≢◌, ◌⊎◌, ℕ, zero, suc, ◌+◌, ◌<◌, ◌≤◌, List, [], ◌∷◌, ◌++◌, length, Some, sym, refl, ap, ◌∙◌, subst, ⊎_elim, arith, length-append}
+use Rattle.std.proofs.Common.{◌≡◌, ℕ, zero, suc, ◌+◌, ◌<◌, ◌≤◌, List, [], ◌∷◌, ◌++◌, length, Some, sym, refl, ap, ◌∙◌, arith, length-append}
 use Rattle.std.specs.Prelude.{slice_get}
 use Rattle.std.proofs.Common.{lt_of_not-le}
 use mathlib.Core.Logic.{dite}
 use native.Mathlib.Decide.{dec_le}
-use Rattle.edit_post.specs.Post.{PostId, Sender, Taker, new_sender, new_taker, with_one}
+use Rattle.edit_post.specs.Post.{PostId, Sender, Taker, new_sender, with_one}
 use Rattle.edit_post.proofs.post.Post.make.Goals as goal
 
 before : (xs ys : List Sender) (k : ℕ) → k < length xs → slice_get (xs ++ ys) k ≡ slice_get xs k
