@@ -1,0 +1,5 @@
+use Rattle.edit_post.proofs.QueueMoves.{pops, sees}
+use Rattle.edit_post.proofs.queue.take.Goals as goal
+
+pub pop_as-requires-clause-rule : goal.pop_as-requires-clause-rule
+pop_as-requires-clause-rule g c = (pops _ _ c.requires.taker, sees _ _)
