@@ -1,0 +1,6 @@
+pub mod Peers
+pub mod MemLinks
+pub mod Shelves
+pub mod Teams
+pub mod MemDoors
+pub mod MemDials
