@@ -4,3 +4,4 @@ pub mod Shelves
 pub mod Teams
 pub mod MemDoors
 pub mod MemDials
+pub mod Outcomes
