@@ -4,6 +4,8 @@
 
 mod copies;
 pub mod kept_notes;
+mod lane;
+pub mod lane_end;
 pub mod link_content;
 mod link_shelf;
 pub mod machine_clock;
