@@ -1,6 +1,11 @@
 pub mod Causes
 pub mod Streams
 pub mod Houses
+pub mod Links
+pub mod Doors
+pub mod Dials
+pub mod Clocks
+pub mod Spawners
 pub mod FaultPlans
 pub mod MemStreams
 pub mod MemHouses

@@ -162,7 +162,7 @@ impl MemFile {
     {
         let bytes = self.bytes.as_slice().to_vec(alloc)?;
         let failing = self.failing.as_slice().to_vec(alloc)?;
-        HouseSource::new(alloc, MemSource::new(bytes, self.most, failing))
+        HouseSource::new(alloc, MemSource::with_most(bytes, self.most, failing))
     }
 }
 

@@ -41,9 +41,21 @@ impl Model for MemSource {
 }
 
 impl MemSource {
-    /// A source of these bytes, of which one read gives at most `most`. `failing` has the numbers of
-    /// the reads that are to fail, from 1. A read after one that found the end never fails.
-    pub fn new(bytes: Vec<u8>, most: usize, failing: Vec<u64>) -> MemSource
+    /// A source of these bytes. `failing` has the numbers of the reads that are to fail, from 1. A read
+    /// after one that found the end never fails.
+    pub fn new(bytes: Vec<u8>, failing: Vec<u64>) -> MemSource
+        ensures { result ≡ record {
+          left = bytes.items;
+          most = usize.MAX;
+          ended = false;
+          plan = fresh failing.items;
+        } }
+    {
+        MemSource::with_most(bytes, usize::MAX, failing)
+    }
+
+    /// The same, of which one read gives at most `most` bytes.
+    pub fn with_most(bytes: Vec<u8>, most: usize, failing: Vec<u64>) -> MemSource
         requires { 0 < most }
         ensures { result ≡ record {
           left = bytes.items;

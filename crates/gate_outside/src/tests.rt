@@ -43,7 +43,7 @@ fn move_name<H: House>(
 #[test]
 fn memory_streams_fail_by_their_numbers(rt: HostRuntime) -> Result<(), Fail> {
     let alloc = rt.alloc();
-    let mut source = MemSource::new(b"abcdef".to_vec(alloc)?, 4, [2, 5].to_vec(alloc)?);
+    let mut source = MemSource::with_most(b"abcdef".to_vec(alloc)?, 4, [2, 5].to_vec(alloc)?);
     let mut sink = MemSink::new(alloc, 3, [2].to_vec(alloc)?);
     let mut piece = Piece::new(alloc)?;
     assert_eq!(rt;

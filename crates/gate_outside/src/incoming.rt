@@ -1,0 +1,12 @@
+//! What a link gives.
+
+/// What a link's `recv` gives.
+#[derive(Drop)]
+pub enum Incoming {
+    /// A text that the other end sent.
+    Text(String),
+    /// The code with which the other end closed, or this end itself.
+    Closed(u16),
+    /// Nothing waits.
+    NotYet,
+}

@@ -1,0 +1,111 @@
+-- Links in memory.
+use Rattle.std.specs.Prelude.{◌≡◌, ℕ, List, [], ◌∷◌, ◌++◌, Bool, true, false, drop, Result, Ok, Err, ◌⊎◌, MatchOption}
+use Rattle.std.specs.Option.{option_map, option_to_list}
+use Rattle.std.specs.declared.option.Option.{Option}
+use Rattle.std.specs.declared.option.Option.TheVariants.{Some, None}
+use Rattle.gate_outside.specs.FaultPlans.{Plan, fresh, fails, after_call, after_failed_call}
+use Rattle.gate_outside.specs.declared.faults.Fault.{Fault}
+use Rattle.gate_outside.specs.declared.faults.Fault.TheVariants.{Failed, Memory}
+use Rattle.gate_outside.specs.declared.incoming.Incoming.{Incoming}
+use Rattle.gate_outside.specs.declared.sending.Sending.{Sending}
+use Rattle.gate_outside.specs.Links.{LinkTale, ReturnedLink, returned_link, given_by, gave_text_after}
+use Rattle.thread_outside.specs.Peers.{first_turn}
+
+-- a link in memory; the turns that are still to come are told by a script alone
+pub record LinkState : Type 0 where
+  pub turns : Option (List (Option Sending))
+  pub own_code : Option ℕ
+  pub gave_text : Bool
+  pub gave : List Sending
+  pub sent : List Sending
+  pub plan : Plan
+
+-- what a link is made from: the turns of a script, and the calls that are to fail
+pub record ContentState : Type 0 where
+  pub turns : Option (List (Option Sending))
+  pub failing : List ℕ
+
+-- a link before its first call
+abbrev pub new_link : Option (List (Option Sending)) → List ℕ → LinkState
+new_link turns failing = record {
+  turns = turns;
+  own_code = None;
+  gave_text = false;
+  gave = [];
+  sent = [];
+  plan = fresh failing;
+}
+
+-- what waits at the next call of a script
+abbrev pub waiting : List (Option Sending) → List Sending
+waiting turns = option_to_list (first_turn turns)
+
+-- what a link in memory tells
+abbrev pub tale_of : LinkState → LinkTale
+tale_of s = record {
+  own_code = s.own_code;
+  gave_text = s.gave_text;
+  waits = option_map waiting s.turns;
+  gave = Some s.gave;
+  sent = Some s.sent;
+}
+
+-- after a call that failed
+abbrev pub after_fault_of : LinkState → LinkState
+after_fault_of s = record s { plan = after_failed_call s.plan }
+
+-- a call fails where it is to fail, or where the other end is no script
+abbrev pub Fails : LinkState → LinkState → Type 0
+Fails old new = ((fails old.plan ≡ true) ⊎ (old.turns ≡ None)) × (new ≡ after_fault_of old)
+
+-- after a call of `recv` that gave this, if it gave something
+abbrev pub after_given : LinkState → Option Sending → LinkState
+after_given s turn = record {
+  turns = option_map (drop 1) s.turns;
+  own_code = s.own_code;
+  gave_text = gave_text_after s.gave_text turn;
+  gave = s.gave ++ option_to_list turn;
+  sent = s.sent;
+  plan = after_call s.plan;
+}
+
+-- a call of `recv` on a link that this end has not closed
+abbrev pub GivesOpen : LinkState → LinkState → Result Incoming Fault → Type 0
+GivesOpen old new (Ok answer) = (fails old.plan ≡ false) × (new ≡ after_given old (given_by (Ok answer)))
+GivesOpen old new (Err Failed) = Fails old new
+GivesOpen old new (Err Memory) = new ≡ old
+
+-- a call of `recv`; after the link's own close no call is counted and nothing changes
+abbrev pub Gives : LinkState → LinkState → Result Incoming Fault → Type 0
+Gives old new result = MatchOption old.own_code (GivesOpen old new result) (λ own. new ≡ old)
+
+-- after what went out; a close is the link's own
+abbrev pub after_put : LinkState → Sending → Option ℕ → LinkState
+after_put s x own = record {
+  turns = s.turns;
+  own_code = own;
+  gave_text = s.gave_text;
+  gave = s.gave;
+  sent = s.sent ++ x ∷ [];
+  plan = after_call s.plan;
+}
+
+-- something goes out to the other end
+abbrev pub GoesOut : LinkState → LinkState → Sending → Result (Unit {0}) Fault → Type 0
+GoesOut old new x (Ok u) = new ≡ after_put old x old.own_code
+GoesOut old new x (Err Failed) = (old.turns ≡ None) × (new ≡ after_fault_of old)
+GoesOut old new x (Err Memory) = new ≡ old
+
+-- a call of `send` or `close` on a link that this end has not closed
+abbrev pub PutsOpen : LinkState → LinkState → Sending → Option ℕ → Result (Unit {0}) Fault → Type 0
+PutsOpen old new x own (Ok u) = (fails old.plan ≡ false) × (new ≡ after_put old x own)
+PutsOpen old new x own (Err Failed) = Fails old new
+PutsOpen old new x own (Err Memory) = new ≡ old
+
+-- a call of `send` or `close`; after the link's own close no call is counted and nothing changes
+abbrev pub PutsOut : LinkState → LinkState → Sending → Option ℕ → Result (Unit {0}) Fault → Type 0
+PutsOut old new x own result = MatchOption old.own_code (PutsOpen old new x own result) (λ code. new ≡ old)
+
+-- what is kept of a link that is back
+abbrev pub kept_link : LinkState → ReturnedLink
+kept_link s = returned_link (tale_of s) s.plan.faults

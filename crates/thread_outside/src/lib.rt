@@ -1,0 +1,24 @@
+//! What threads stand on, in memory and over the system: links, doors, dials, clocks, spawners and
+//! notes.
+#![tactic(auto)]
+
+mod copies;
+pub mod kept_notes;
+mod lane;
+pub mod lane_end;
+pub mod link_content;
+mod link_shelf;
+pub mod machine_clock;
+pub mod mem_clock;
+pub mod mem_dial;
+pub mod mem_door;
+pub mod mem_link;
+pub mod outcome;
+pub mod peer;
+pub mod quiet_notes;
+pub mod running;
+pub mod script;
+pub mod serial_spawner;
+mod start_count;
+pub mod sure_spawner;
+pub mod thread_team;

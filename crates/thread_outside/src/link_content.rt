@@ -1,0 +1,45 @@
+//! What a link in memory is made from.
+ghost use Rattle.std.specs.Prelude.{◌≡◌};
+
+use crate::peer::Peer;
+use std::marker::Model;
+
+/// The other end of a link that is to be made, and the numbers of its calls that are to fail, from 1.
+#[derive(Drop)]
+pub struct LinkContent<P: Peer + Drop> {
+    peer: P,
+    failing: Vec<u64>,
+}
+
+impl<P: Peer + Drop> Model for LinkContent<P> {
+    ghost use Rattle.thread_outside.specs.MemLinks.{ContentState};
+
+    ghost Value = { ContentState };
+
+    ghost view = { λ c. record {
+      turns = P.turns c.peer;
+      failing = c.failing.items;
+    } };
+}
+
+impl<P: Peer + Drop> LinkContent<P> {
+    /// What a link to that other end is made from.
+    pub fn new(peer: P, failing: Vec<u64>) -> LinkContent<P>
+        ensures { result ≡ record {
+          turns = P.turns peer;
+          failing = failing.items;
+        } }
+    {
+        LinkContent { peer, failing }
+    }
+
+    // The other end and the numbers.
+    pub(crate) fn into_parts(self) -> (P, Vec<u64>)
+        ensures { self ≡ record {
+          turns = P.turns result.0;
+          failing = result.1.items;
+        } }
+    {
+        (self.peer, self.failing)
+    }
+}

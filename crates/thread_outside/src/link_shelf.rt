@@ -1,0 +1,66 @@
+//! What is kept of links that are back, on a shelf that takes no memory to put one more on.
+ghost use Rattle.std.specs.Prelude.{◌≡◌, ◌++◌, ◌∷◌, [], IfOk};
+ghost use Rattle.thread_outside.specs.Shelves.{kept_at, new_place};
+
+use gate_outside::sending::Sending;
+use std::alloc::{AllocError, Global};
+use std::marker::Model;
+
+// What came over a link and was given, what went out, and its count of faults, with what lies below
+// it, where it lies on a shelf.
+#[derive(Drop)]
+pub(crate) struct Place {
+    pub(crate) gave: Vec<Sending>,
+    pub(crate) sent: Vec<Sending>,
+    pub(crate) faults: u64,
+    below: Option<Box<Place>>,
+}
+
+impl Place {
+    // A place of a link before its first call.
+    pub(crate) fn new(alloc: Global) -> Result<Box<Place>, AllocError>
+        ensures { IfOk result (λ p. kept_at p.value ≡ new_place) }
+    {
+        let place = Place {
+            gave: Vec::new(alloc),
+            sent: Vec::new(alloc),
+            faults: 0,
+            below: None,
+        };
+        Ok(Box::new(alloc, place)?)
+    }
+}
+
+/// What is kept of the links that are back, in order.
+#[derive(Drop)]
+pub(crate) struct Shelf {
+    top: Option<Box<Place>>,
+}
+
+impl Model for Shelf {
+    ghost use Rattle.std.specs.Prelude.{List};
+    ghost use Rattle.gate_outside.specs.Links.{ReturnedLink};
+    ghost use Rattle.thread_outside.specs.Shelves.{all_on};
+
+    ghost Value = { List ReturnedLink };
+
+    ghost view = { λ s. all_on s.top };
+}
+
+impl Shelf {
+    // An empty shelf.
+    pub(crate) fn new() -> Shelf
+        ensures { result ≡ [] }
+    {
+        Shelf { top: None }
+    }
+
+    // Puts a place on top.
+    pub(crate) fn put(&mut self, place: Box<Place>)
+        ensures { self.new ≡ self.old ++ kept_at place.value ∷ [] }
+    {
+        let mut place = place;
+        place.below = self.top.take();
+        self.top = Some(place);
+    }
+}

@@ -1,0 +1,24 @@
+//! What is at the other end of a link in memory.
+ghost use Rattle.std.specs.Prelude.{◌≡◌, List, OnErr};
+ghost use Rattle.std.specs.declared.option.Option.{Option};
+ghost use Rattle.gate_outside.specs.declared.sending.Sending.{Sending};
+ghost use Rattle.thread_outside.specs.Peers.{TakesTurn, KeepsCopy, Puts};
+
+use gate_outside::faults::Fault;
+use gate_outside::sending::Sending;
+
+/// The other end of a link in memory: a script, or an end that another thread may hold.
+pub trait Peer {
+    /// The turns of a script that are still to come. An end that another may hold tells none.
+    ghost turns: { Self → Option (List (Option Sending)) };
+
+    /// Takes what waits first, or nothing, and adds a copy of it to the list. A refusal changes
+    /// nothing, and a script never fails.
+    fn take(&mut self, taken: &mut Vec<Sending>) -> Result<Option<Sending>, Fault>
+        ensures turn { TakesTurn (turns self.old) (turns self.new) result }
+        ensures copy { KeepsCopy taken.old.items taken.new.items result };
+
+    /// Puts what goes out. A refusal puts nothing, and a script refuses nothing.
+    fn put(&mut self, sending: Sending) -> Result<(), Fault>
+        ensures { Puts (turns self.old) (turns self.new) result };
+}
