@@ -2,7 +2,7 @@
 ghost use Rattle.std.specs.Prelude.{◌≡◌, ℕ, List, IfOk};
 ghost use Rattle.gate_outside.specs.Causes.{FaultHasCause};
 ghost use Rattle.gate_outside.specs.Dials.{DialTale, Dials, HangsUp};
-ghost use Rattle.gate_outside.specs.Links.{IsNewLink, returned_link};
+ghost use Rattle.gate_outside.specs.Links.{IsNewLink};
 
 use crate::faults::Fault;
 use crate::links::Link;

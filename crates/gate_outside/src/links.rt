@@ -2,7 +2,6 @@
 ghost use Rattle.std.specs.Prelude.{◌≡◌, ℕ, IfOk};
 ghost use Rattle.gate_outside.specs.Causes.{FaultHasCause};
 ghost use Rattle.gate_outside.specs.Links.{LinkTale, Receives, Sends, Closes};
-ghost use Rattle.gate_outside.specs.declared.sending.Sending.TheVariants as sending;
 
 use crate::faults::Fault;
 use crate::incoming::Incoming;

@@ -1,7 +1,6 @@
 -- Dials in memory.
-use Rattle.std.specs.Prelude.{◌≡◌, ℕ, List, [], ◌∷◌, ◌++◌, Bool, true, false, Result, Ok, Err, MatchBool}
-use Rattle.std.specs.declared.option.Option.{Option}
-use Rattle.std.specs.declared.option.Option.TheVariants.{Some, None}
+use Rattle.std.specs.Prelude.{◌≡◌, ℕ, List, [], ◌∷◌, ◌++◌, Result, Ok, Err, MatchBool}
+use Rattle.std.specs.declared.option.Option.TheVariants.{Some}
 use Rattle.gate_outside.specs.Causes.{one_more}
 use Rattle.gate_outside.specs.FaultPlans.{Plan, fresh, fails, after_call, after_failed_call}
 use Rattle.gate_outside.specs.declared.faults.Fault.{Fault}

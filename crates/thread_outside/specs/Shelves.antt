@@ -1,5 +1,5 @@
 -- What is kept of links that are back.
-use Rattle.std.specs.Prelude.{ℕ, List, [], ◌∷◌, ◌++◌, Box}
+use Rattle.std.specs.Prelude.{List, [], ◌∷◌, ◌++◌, Box}
 use Rattle.std.specs.declared.option.Option.{Option}
 use Rattle.std.specs.declared.option.Option.TheVariants.{Some, None}
 use Rattle.std.specs.declared.alloc.Global.{Global}

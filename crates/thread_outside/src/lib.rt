@@ -21,4 +21,6 @@ pub mod script;
 pub mod serial_spawner;
 mod start_count;
 pub mod sure_spawner;
+#[cfg(test)]
+mod tests;
 pub mod thread_team;

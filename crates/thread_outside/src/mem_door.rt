@@ -13,7 +13,7 @@ use gate_outside::accepted::Accepted;
 use gate_outside::doors::Door;
 use gate_outside::fault_plan::FaultPlan;
 use gate_outside::faults::Fault;
-use std::alloc::{AllocError, Global};
+use std::alloc::Global;
 use std::collections::VecDeque;
 use std::marker::Model;
 
