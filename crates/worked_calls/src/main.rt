@@ -4,36 +4,25 @@
 
 mod bits;
 mod kept;
-mod record;
-mod rights;
 mod texts;
 mod words;
 
-use record::Record;
 use std::{env, fs};
 
 // What a call answers, where one has that name.
-fn answer(
-    rt: &HostRuntime,
-    record: &mut Record,
-    name: &str,
-    given: &str,
-) -> anyhow::Result<Option<String>> {
+fn answer(rt: &HostRuntime, name: &str, given: &str) -> anyhow::Result<Option<String>> {
     if let Some(answer) = bits::answer(rt.alloc(), name, given)? {
         return Ok(Some(answer));
     }
     if let Some(answer) = texts::answer(rt.alloc(), name, given)? {
         return Ok(Some(answer));
     }
-    if let Some(answer) = kept::answer(rt.alloc(), name, given)? {
-        return Ok(Some(answer));
-    }
-    record.answer(rt.alloc(), name, given)
+    kept::answer(rt.alloc(), name, given)
 }
 
-fn print_line(rt: &HostRuntime, record: &mut Record, line: &str) -> anyhow::Result<()> {
+fn print_line(rt: &HostRuntime, line: &str) -> anyhow::Result<()> {
     let (name, given) = line.split_once(' ').unwrap_or((line, ""));
-    match answer(rt, record, name, given)? {
+    match answer(rt, name, given)? {
         Some(answer) => println!(rt; "{name}: {answer}")?,
         None => println!(rt; "{name}: no such call")?,
     }
@@ -42,9 +31,8 @@ fn print_line(rt: &HostRuntime, record: &mut Record, line: &str) -> anyhow::Resu
 
 fn print_file(rt: &HostRuntime, path: &str) -> anyhow::Result<()> {
     let text = fs::read_to_string(rt, path)?;
-    let mut record = Record::new(rt.alloc());
     for line in text.as_str().lines() {
-        print_line(rt, &mut record, line)?;
+        print_line(rt, line)?;
     }
     Ok(())
 }
