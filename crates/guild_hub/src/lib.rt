@@ -1,0 +1,21 @@
+//! A guild's log, which one writer publishes and readers look at without waiting. A hub keeps the
+//! latest entries, and of those before them the record that they made.
+#![tactic(auto)]
+
+mod entry;
+mod find;
+mod head;
+mod item;
+mod mark;
+mod note;
+mod reader;
+mod ruled;
+mod sealed;
+mod shown;
+mod writer;
+
+pub use note::Note;
+pub use reader::{HubReader, LookRefused, Looked, Rebased};
+pub use sealed::SealedLog;
+pub use shown::KEPT;
+pub use writer::{HubRefused, HubWriter, MOST};
