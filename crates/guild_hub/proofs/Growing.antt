@@ -1,20 +1,19 @@
 -- What an entry more makes of a log.
-use Rattle.std.proofs.Common.{◌≡◌, ◌≤◌, ◌<◌, ◌+◌, ◌-◌, ℕ, Bool, true, false, List, [], ◌∷◌, ◌++◌, length, take, drop, cond, sym, refl, ap, ◌∙◌, zero-le, subst, arith}
-use Rattle.std.proofs.lemmas.List.{length-append, length-drop, length-take-le, take_all, take_at, take-append-le, take-append-drop, drop-drop, drop-append-le}
-use mathlib.Core.List.{IsPrefix}
+use Rattle.std.proofs.Common.{◌≡◌, ◌≤◌, ◌+◌, ◌-◌, ℕ, Bool, true, false, List, [], ◌∷◌, ◌++◌, length, take, drop, cond, sym, refl, ap, ◌∙◌, zero-le, subst, arith}
+use Rattle.std.proofs.lemmas.List.{length-append, length-drop, length-take-le, take_all, take-append-le, take-append-drop, drop-drop, drop-append-le}
 use mathlib.Core.Path.{ap₂}
 use Rattle.guild_model.specs.Record.{Record}
 use Rattle.edit_apply.specs.declared.Edit.{Edit}
 use Rattle.edit_apply.specs.Edits.{accepts, after, state_from, state}
-use Rattle.guild_hub.specs.Logs.{Published, with_entry, whole_record, record_after, accepted, accepted_from, GoesOn, base_of}
-use Rattle.guild_hub.specs.Sights.{Segment, Fits, part_of, end_of, with_more}
+use Rattle.guild_hub.specs.Logs.{Published, with_entry, whole_record, accepted, accepted_from, GoesOn, base_of}
+use Rattle.guild_hub.specs.Sights.{Fits, part_of, end_of, with_more}
 use Rattle.std.specs.Option.{is_none}
 use Rattle.std.specs.Prelude.{Option, Some, None, is_ok}
 use Rattle.guild_model.specs.declared.verdict.Verdict.{Verdict}
 use Rattle.guild_model.specs.Tests.{outcome}
 use Rattle.guild_hub.specs.Rules.{FindsEntries}
-use Rattle.guild_hub.specs.Sights.{seeing, segment}
-use Rattle.guild_hub.specs.Looks.{Looks, Steps}
+use Rattle.guild_hub.specs.Sights.{seeing}
+use Rattle.guild_hub.specs.Looks.{Looks}
 use Rattle.guild_hub.specs.declared.reader.Looked.{Looked}
 use Rattle.guild_hub.proofs.Trimming.{state_join}
 

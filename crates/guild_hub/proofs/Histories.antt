@@ -1,5 +1,5 @@
 -- A history that grows tells a log that goes on.
-use Rattle.std.proofs.Common.{◌≡◌, ◌≤◌, ◌<◌, ◌+◌, ℕ, Bool, true, false, true≢false, List, [], ◌∷◌, ◌++◌, length, cond, sym, refl, ap, ◌∙◌, subst, append-nil, append_assoc, arith}
+use Rattle.std.proofs.Common.{◌≡◌, ◌≤◌, ◌+◌, ℕ, true, false, true≢false, List, [], ◌∷◌, ◌++◌, length, sym, refl, ap, ◌∙◌, subst, append-nil, arith}
 use mathlib.Core.List.{IsPrefix, cons≢nil}
 use mathlib.Core.Path.{ap₂}
 use Rattle.logbook.specs.Pages.{Book}
@@ -7,7 +7,7 @@ use Rattle.edit_apply.specs.declared.Edit.{Edit}
 use Rattle.guild_hub.specs.declared.item.Item.{Item}
 use Rattle.guild_hub.specs.declared.item.Item.TheVariants.{Entry, Seal}
 use Rattle.guild_hub.specs.Items.{edits_of, has_seal, seals, IsFinal, log_of}
-use Rattle.guild_hub.specs.Logs.{Hub, Published, published, with_entry, with_seal, GoesOn}
+use Rattle.guild_hub.specs.Logs.{Hub, published, with_entry, with_seal, GoesOn}
 
 abbrev pub hub_of : ℕ → Book → Hub
 hub_of guild book = record { guild = guild; book = book }

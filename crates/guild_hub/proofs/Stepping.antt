@@ -1,11 +1,11 @@
 -- What a step on the word that counts a history owes.
-use Rattle.std.proofs.Common.{◌≡◌, ◌≤◌, ◌<◌, ◌+◌, ◌==◌, ℕ, Bool, true, false, List, [], ◌∷◌, ◌++◌, length, sym, refl, ap, ◌∙◌, subst, append-nil, inl, arith}
+use Rattle.std.proofs.Common.{◌≡◌, ◌<◌, ◌+◌, ◌==◌, ℕ, Bool, true, false, List, [], ◌∷◌, ◌++◌, length, sym, refl, ap, ◌∙◌, subst, append-nil, inl, arith}
 use Rattle.std.proofs.lemmas.List.{length-append}
 use Rattle.std.proofs.lemmas.Bool.Decides.{nat_tests}
 use Rattle.std.specs.Prelude.{Option}
 use prog.Atomic.{either}
-use mathlib.Core.List.{IsPrefix, cons≢nil}
-use Rattle.logbook.specs.Pages.{Cell, Nib, no_nib, step, Moves, Goes, keeps, cell}
+use mathlib.Core.List.{IsPrefix}
+use Rattle.logbook.specs.Pages.{Cell, no_nib, step, Moves, Goes, keeps, cell}
 use Rattle.guild_hub.specs.Books.{IsCounted, Adds, Counts}
 
 module _ {E : Type 0} (may_be : List E → Type 0) where

@@ -1,12 +1,12 @@
 -- An entry more leaves what is shown trimmed.
-use Rattle.std.proofs.Common.{◌≡◌, ◌≤◌, ◌<◌, ◌+◌, ◌-◌, ℕ, Bool, true, false, List, [], ◌∷◌, ◌++◌, length, take, drop, nat_lt, sym, refl, ap, ◌∙◌, take-add, arith}
+use Rattle.std.proofs.Common.{◌≡◌, ◌≤◌, ◌<◌, ◌+◌, ℕ, Bool, true, false, List, [], ◌∷◌, ◌++◌, length, take, drop, nat_lt, sym, refl, ap, ◌∙◌, take-add, arith}
 use Rattle.std.proofs.lemmas.List.{length-append, length-drop, take-append-le, drop-append-le, drop-drop}
 use Rattle.std.proofs.lemmas.Bool.Decides.{nat_tests}
 use Rattle.guild_model.specs.Record.{Record}
 use Rattle.edit_apply.specs.declared.Edit.{Edit}
 use Rattle.edit_apply.specs.Edits.{after, state_from, state}
-use Rattle.guild_hub.specs.Logs.{Published, published, with_entry, with_seal, base_of, trimmed, record_after}
-use Rattle.guild_hub.specs.Trims.{spine_of, over, pushed, IsTrimmed}
+use Rattle.guild_hub.specs.Logs.{with_entry, base_of}
+use Rattle.guild_hub.specs.Trims.{over, pushed, IsTrimmed}
 use Rattle.guild_hub.specs.declared.shown.Spine.{Spine}
 
 -- the record after some entries and then others

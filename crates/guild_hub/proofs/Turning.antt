@@ -1,18 +1,18 @@
 -- A step that leaves what is shown trimmed, and of one hub, keeps the rule.
-use Rattle.std.proofs.Common.{◌≡◌, ◌≢◌, ℕ, Bool, true, false, true≢false, List, [], ◌∷◌, ◌++◌, set, sym, refl, ap, ◌∙◌, subst, ⊎_elim, fold}
+use Rattle.std.proofs.Common.{◌≡◌, ◌≢◌, ℕ, true≢false, List, [], ◌∷◌, set, sym, refl, ap, ◌∙◌, subst, ⊎_elim, fold}
 use mathlib.Core.Option.{some}
 use lib.ListN.{get_elem?}
-use Rattle.crossbeam_utils.specs.Register.{Admits, TurnsAt, Turns, Forks, Merges}
+use Rattle.crossbeam_utils.specs.Register.{Admits, TurnsAt, Forks, Merges}
 use Rattle.atomic_table.proofs.Lists.{at_set, at_snoc, set_again}
 use Rattle.edit_apply.specs.declared.Edit.{Edit}
-use Rattle.guild_hub.specs.Logs.{Published, with_entry, with_seal, base_of}
+use Rattle.guild_hub.specs.Logs.{Published, with_entry, with_seal}
 use Rattle.guild_hub.specs.Trims.{spine_of, after_op, IsTrimmed}
 use Rattle.guild_hub.specs.declared.shown.Shown.{Shown}
 use Rattle.guild_hub.specs.declared.shown.Spine.{Spine}
 use Rattle.guild_hub.specs.declared.shown.Op.{Op}
 use Rattle.guild_hub.specs.declared.shown.Op.TheVariants.{Add, Seal}
 use Rattle.guild_hub.specs.declared.ruled.View.{View}
-use Rattle.guild_hub.specs.Rules.{name_of, view_of, stranger, knows, Names, Keeps, Sees, Continues}
+use Rattle.guild_hub.specs.Rules.{name_of, stranger, knows, Names, Keeps, Sees, Continues}
 use Rattle.guild_hub.proofs.Trimming.{pushed_trimmed}
 
 -- a stranger fits whatever is shown

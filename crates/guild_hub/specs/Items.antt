@@ -1,10 +1,10 @@
 -- The history of a hub: its entries, and then its seal, which nothing follows.
-use Rattle.std.specs.Prelude.{◌≡◌, ℕ, List, [], ◌∷◌, ◌++◌, Bool, true, false, length}
-use Rattle.logbook.specs.Pages.{Cell, Step, View, Book, Named}
+use Rattle.std.specs.Prelude.{◌≡◌, ℕ, List, [], ◌∷◌, Bool, true, false}
+use Rattle.logbook.specs.Pages.{Book}
 use Rattle.edit_apply.specs.declared.Edit.{Edit}
 use Rattle.guild_hub.specs.declared.item.Item.{Item}
 use Rattle.guild_hub.specs.declared.item.Item.TheVariants.{Entry, Seal}
-use Rattle.guild_hub.specs.Logs.{Hub, Published, published}
+use Rattle.guild_hub.specs.Logs.{Published, published}
 
 abbrev pub edits_of : List Item → List Edit
 edits_of [] = []

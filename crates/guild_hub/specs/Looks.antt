@@ -1,9 +1,7 @@
 -- What a look and a rebase do.
-use Rattle.std.specs.Prelude.{◌≡◌, ℕ, ◌+◌, ◌≤◌, ◌<◌, List, Bool, true, drop, length}
-use Rattle.guild_model.specs.Record.{Record}
-use Rattle.edit_apply.specs.declared.Edit.{Edit}
-use Rattle.guild_hub.specs.Logs.{Published, GoesOn, base_of, record_after}
-use Rattle.guild_hub.specs.Sights.{Seeing, seeing, Fits, end_of, segment, with_more}
+use Rattle.std.specs.Prelude.{◌≡◌, ◌≤◌, ◌<◌, true, drop, length}
+use Rattle.guild_hub.specs.Logs.{GoesOn, base_of, record_after}
+use Rattle.guild_hub.specs.Sights.{Seeing, Fits, end_of, segment, with_more}
 use Rattle.guild_hub.specs.declared.reader.Looked.{Looked}
 use Rattle.guild_hub.specs.declared.reader.Rebased.{Rebased}
 use Rattle.guild_hub.specs.declared.reader.LookRefused.{LookRefused}

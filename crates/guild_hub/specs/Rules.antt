@@ -1,10 +1,9 @@
 -- The rule of what a hub shows, and what a step tells of it.
-use Rattle.std.specs.Prelude.{◌≡◌, ℕ, ◌≤◌, ◌<◌, Bool, true, false, List, length, drop}
+use Rattle.std.specs.Prelude.{◌≡◌, ℕ, ◌≤◌, Bool, true, false, List, drop}
 use mathlib.Core.Option.{some}
 use lib.ListN.{get_elem?}
 use Rattle.edit_apply.specs.declared.Edit.{Edit}
-use Rattle.guild_model.specs.Record.{Record}
-use Rattle.guild_hub.specs.Logs.{Hub, Published, GoesOn, base_of, record_after}
+use Rattle.guild_hub.specs.Logs.{Hub, Published, base_of}
 use Rattle.guild_hub.specs.Trims.{spine_of, IsTrimmed}
 use Rattle.guild_hub.specs.declared.shown.Shown.{Shown}
 use Rattle.guild_hub.specs.declared.ruled.View.{View}

@@ -1,8 +1,8 @@
 -- What a reader has seen since it last began from a record.
-use Rattle.std.specs.Prelude.{◌≡◌, ℕ, ◌+◌, ◌-◌, ◌≤◌, ◌<◌, List, [], ◌++◌, Bool, take, drop, length}
+use Rattle.std.specs.Prelude.{◌≡◌, ℕ, ◌+◌, ◌-◌, ◌≤◌, List, [], ◌++◌, Bool, take, drop, length}
 use Rattle.guild_model.specs.Record.{Record, closed}
 use Rattle.edit_apply.specs.declared.Edit.{Edit}
-use Rattle.guild_hub.specs.Logs.{Hub, Published, GoesOn, base_of, record_after}
+use Rattle.guild_hub.specs.Logs.{Hub, Published, record_after}
 
 -- a position in the log, the record there, and the entries seen from there on
 pub record Segment : Type 0 where

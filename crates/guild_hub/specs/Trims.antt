@@ -1,5 +1,5 @@
 -- What an operation does to what a hub shows.
-use Rattle.std.specs.Prelude.{◌≡◌, ℕ, List, [], ◌∷◌, ◌++◌, take, drop, length, nat_lt, if◌then◌else◌}
+use Rattle.std.specs.Prelude.{◌≡◌, ℕ, [], ◌∷◌, ◌++◌, take, drop, length, nat_lt, if◌then◌else◌}
 use Rattle.edit_apply.specs.declared.Edit.{Edit}
 use Rattle.edit_apply.specs.Edits.{state_from}
 use Rattle.guild_hub.specs.Logs.{Published, base_of, record_after}

@@ -7,6 +7,7 @@ mod find;
 mod head;
 mod item;
 mod mark;
+mod new_hub;
 mod note;
 mod reader;
 mod ruled;
@@ -14,6 +15,7 @@ mod sealed;
 mod shown;
 mod writer;
 
+pub use new_hub::hub;
 pub use note::Note;
 pub use reader::{HubReader, LookRefused, Looked, Rebased};
 pub use sealed::SealedLog;

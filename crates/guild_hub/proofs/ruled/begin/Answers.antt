@@ -1,4 +1,4 @@
-use Rattle.std.proofs.Common.{◌≡◌, ◌∙◌, List, ap, fold}
+use Rattle.std.proofs.Common.{◌∙◌, List, ap, fold}
 use Rattle.guild_hub.specs.declared.shown.Op.{Op}
 use Rattle.guild_hub.specs.Trims.{after_op, spine_of}
 use Rattle.guild_hub.proofs.Turning.{turns, same_spine}

@@ -1,4 +1,4 @@
-use Rattle.std.proofs.Common.{◌≡◌, ◌∙◌, List, ◌∷◌, [], ◌++◌, ap, drop, sym}
+use Rattle.std.proofs.Common.{◌∙◌, List, ◌∷◌, [], ◌++◌, ap, drop, sym}
 use Rattle.guild_hub.specs.Logs.{with_entry}
 use Rattle.guild_hub.specs.declared.shown.Shown.{Shown}
 use Rattle.guild_hub.specs.declared.shown.Op.{Op}

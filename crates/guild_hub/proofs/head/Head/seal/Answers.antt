@@ -1,7 +1,7 @@
-use Rattle.std.proofs.Common.{◌≡◌, ◌∙◌, ◌+◌, ◌<◌, ℕ, List, true, false, length, ap, sym, subst, refl, arith}
-use Rattle.guild_hub.specs.Logs.{Published, with_entry, with_seal}
-use Rattle.guild_hub.specs.Items.{edits_of, has_seal, log_of}
-use Rattle.guild_hub.proofs.Histories.{all_entries, entry_more, seal_more, entry_told, seal_told}
+use Rattle.std.proofs.Common.{◌≡◌, ◌∙◌, false, length, ap, sym, arith}
+use Rattle.guild_hub.specs.Logs.{Published}
+use Rattle.guild_hub.specs.Items.{edits_of, has_seal}
+use Rattle.guild_hub.proofs.Histories.{all_entries, seal_more, seal_told}
 use Rattle.guild_hub.proofs.head.Head.seal.Goals as goal
 
 pub advance-requires-clause-count : goal.advance-requires-clause-count

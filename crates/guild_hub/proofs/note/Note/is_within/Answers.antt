@@ -1,8 +1,8 @@
-use Rattle.std.proofs.Common.{◌≡◌, ◌∙◌, ◌+◌, ◌≤◌, List, length, ap, sym, subst, arith}
+use Rattle.std.proofs.Common.{◌∙◌, ◌+◌, ◌≤◌, List, length, ap, sym, subst, arith}
 use mathlib.Core.List.{IsPrefix}
 use Rattle.guild_hub.specs.declared.item.Item.{Item}
-use Rattle.guild_hub.specs.Logs.{Published, GoesOn}
-use Rattle.guild_hub.specs.Items.{edits_of, has_seal, seals, log_of}
+use Rattle.guild_hub.specs.Logs.{Published}
+use Rattle.guild_hub.specs.Items.{edits_of, has_seal, seals}
 use Rattle.guild_hub.proofs.Histories.{compared}
 use Rattle.guild_hub.proofs.note.Note.is_within.Goals as goal
 

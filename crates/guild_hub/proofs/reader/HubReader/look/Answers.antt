@@ -1,5 +1,5 @@
-use Rattle.std.proofs.Common.{◌≡◌, ◌∙◌, List, length, Bool, true, ap, sym, subst}
-use Rattle.guild_hub.specs.Logs.{Published, GoesOn}
+use Rattle.std.proofs.Common.{◌≡◌, ◌∙◌, length, true, sym, subst}
+use Rattle.guild_hub.specs.Logs.{GoesOn}
 use Rattle.guild_hub.specs.Rules.{FindsEntries}
 use Rattle.guild_hub.proofs.Growing.{looks}
 use Rattle.guild_hub.proofs.reader.HubReader.look.Goals as goal

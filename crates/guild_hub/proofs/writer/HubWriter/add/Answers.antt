@@ -1,4 +1,4 @@
-use Rattle.std.proofs.Common.{◌≡◌, ◌∙◌, ◌≤◌, ◌<◌, ◌+◌, ◌∷◌, [], ℕ, List, Bool, true, false, length, cond, is_ok, ap, sym, refl, arith, rules}
+use Rattle.std.proofs.Common.{◌≡◌, ◌∙◌, ◌+◌, ◌∷◌, [], false, length, cond, is_ok, ap, sym, arith}
 use Rattle.std.proofs.lemmas.List.{length-append}
 use Rattle.edit_apply.specs.Edits.{accepts, after, verdict}
 use Rattle.guild_hub.specs.Logs.{Published, with_entry, whole_record, accepted}
