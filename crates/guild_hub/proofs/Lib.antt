@@ -1,0 +1,5 @@
+pub mod Histories
+pub mod Stepping
+pub mod Trimming
+pub mod Turning
+pub mod Growing

@@ -1,0 +1,17 @@
+use Rattle.std.proofs.Common.{◌≡◌, sym, ◌∙◌, ap, refl}
+use Rattle.guild_hub.specs.Books.{Anything, counter_of}
+use Rattle.guild_hub.proofs.Stepping.{adds_moves}
+use Rattle.guild_hub.proofs.mark.Mark.store.Goals as goal
+
+pub compare_exchange-requires : goal.compare_exchange-requires
+compare_exchange-requires c =
+    let offer = c.plain-offer.ensures in
+    let pen = c.no_pen-pen.ensures in
+    let seen = c.again-seen.ensures in
+    let is : c.deref-word.result.now ≡ counter_of c.args.self.now.seen.book = c.deref-word.ensures ∙ c.args.self.now.word_is in (
+      ap (λ w. w.tracked) is,
+      ap (λ s. s.book) seen ∙ sym (ap (λ w. w.book) is),
+      pen.0 ∙ (ap (λ s. s.book) seen ∙ sym (ap (λ w. w.book) is)),
+      offer.0,
+      rw (ap (λ w. w.key) is, pen.1, offer.1) (adds_moves Anything c.plain-offer.result.state c.again-seen.result.log _ 0 (rw (seen, c.args.self.now.unset) refl) tt),
+    )

@@ -1,0 +1,40 @@
+-- What a look and a rebase do.
+use Rattle.std.specs.Prelude.{◌≡◌, ◌≤◌, ◌<◌, true, drop, length}
+use Rattle.guild_hub.specs.Logs.{GoesOn, base_of, record_after}
+use Rattle.guild_hub.specs.Sights.{Seeing, Fits, end_of, segment, with_more}
+use Rattle.guild_hub.specs.declared.reader.Looked.{Looked}
+use Rattle.guild_hub.specs.declared.reader.Rebased.{Rebased}
+use Rattle.guild_hub.specs.declared.reader.LookRefused.{LookRefused}
+use Rattle.guild_hub.specs.declared.reader.LookRefused.TheVariants.{Lagged, Memory}
+
+-- what every step leaves: the log goes on, the last segment is a part of it, and a quit that was found stays
+pub record Steps (before after : Seeing) : Type 0 where
+  pub log : GoesOn before.log after.log
+  pub fits : Fits after.last after.log
+  pub quit : before.quit ≡ true → after.quit ≡ true
+
+-- a look gives the entries of the log, as it was at its step, that follow what was seen; all of them are kept
+pub record Looks (before : Seeing) (looked : Looked) (after : Seeing) : Type 0 where
+  pub steps : Steps before after
+  pub kept : base_of after.log ≤ end_of before.last
+  pub entries : looked.entries.items ≡ drop (end_of before.last) after.log.entries
+  pub last : after.last ≡ with_more before.last looked.entries.items
+  pub reaches : end_of after.last ≡ length after.log.entries
+  pub sealed : looked.sealed ≡ after.log.sealed
+  pub quit : looked.quit ≡ after.quit
+
+-- a look lags exactly if some of the entries that follow what was seen are no longer kept
+abbrev pub Lags : Seeing → LookRefused → Seeing → Type 0
+Lags before (Lagged base cursor) after =
+    Steps before after × (after.last ≡ before.last) × (base ≡ base_of after.log) × (cursor ≡ end_of before.last) × (cursor < base)
+Lags before Memory after = Steps before after × (after.last ≡ before.last) × (after.log ≡ before.log)
+
+-- a rebase gives the record and the entries that are kept of the log, as it was at its step
+pub record Rebases (before : Seeing) (rebased : Rebased) (after : Seeing) : Type 0 where
+  pub steps : Steps before after
+  pub base : rebased.base ≡ base_of after.log
+  pub basis : rebased.basis ≡ record_after after.log rebased.base
+  pub entries : rebased.entries.items ≡ drop rebased.base after.log.entries
+  pub last : after.last ≡ segment rebased.base rebased.basis rebased.entries.items
+  pub reaches : end_of after.last ≡ length after.log.entries
+  pub sealed : rebased.sealed ≡ after.log.sealed

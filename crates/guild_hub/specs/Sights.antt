@@ -1,0 +1,45 @@
+-- What a reader has seen since it last began from a record.
+use Rattle.std.specs.Prelude.{◌≡◌, ℕ, ◌+◌, ◌-◌, ◌≤◌, List, [], ◌++◌, Bool, take, drop, length}
+use Rattle.guild_model.specs.Record.{Record, closed}
+use Rattle.edit_apply.specs.declared.Edit.{Edit}
+use Rattle.guild_hub.specs.Logs.{Hub, Published, record_after}
+
+-- a position in the log, the record there, and the entries seen from there on
+pub record Segment : Type 0 where
+  pub base : ℕ
+  pub basis : Record
+  pub entries : List Edit
+
+abbrev pub segment : ℕ → Record → List Edit → Segment
+segment base basis entries = record { base = base; basis = basis; entries = entries }
+
+-- the position after the last entry seen
+abbrev pub end_of : Segment → ℕ
+end_of s = s.base + length s.entries
+
+-- what a reader has seen that has not looked
+abbrev pub unseen : Hub → Segment
+unseen hub = segment 0 (closed hub.guild) []
+
+abbrev pub with_more : Segment → List Edit → Segment
+with_more s entries = segment s.base s.basis (s.entries ++ entries)
+
+-- the segment is a part of the log, begun from the log's record at its position
+pub record Fits (s : Segment) (log : Published) : Type 0 where
+  pub within : end_of s ≤ length log.entries
+  pub basis : s.basis ≡ record_after log s.base
+  pub entries : s.entries ≡ take (length s.entries) (drop s.base log.entries)
+
+-- the part of a log from a position to another, begun from the record there
+abbrev pub part_of : Published → ℕ → ℕ → Segment
+part_of log base cursor = segment base (record_after log base) (take (cursor - base) (drop base log.entries))
+
+-- a reader: its last segment, the log as it was at its last step or as it was told since, and whether it
+-- found that the writer has quit
+pub record Seeing : Type 0 where
+  pub last : Segment
+  pub log : Published
+  pub quit : Bool
+
+abbrev pub seeing : Segment → Published → Bool → Seeing
+seeing last log quit = record { last = last; log = log; quit = quit }

@@ -1,0 +1,52 @@
+//! An entry of a log, which both copies of a hub's value and its readers share.
+
+ghost use Rattle.std.specs.Prelude.{◌≡◌, IfOk};
+ghost use Rattle.std.specs.Arc.{arc_value};
+
+use edit_apply::Edit;
+use std::alloc::{AllocError, Global};
+use std::marker::Model;
+use std::sync::Arc;
+
+/// An entry of a log. All owners share its edit, and a clause sees the edit.
+#[derive(Drop)]
+pub struct Entry {
+    edit: Arc<Edit>,
+}
+
+impl Model for Entry {
+    ghost use Rattle.std.specs.Arc.{arc_value};
+    ghost use Rattle.edit_apply.specs.declared.Edit.{Edit};
+
+    ghost Value = { Edit };
+
+    ghost view = { λ e. arc_value e.edit };
+}
+
+impl Entry {
+    /// An entry with this edit.
+    pub fn new(alloc: Global, edit: Edit) -> Result<Entry, AllocError>
+        ensures { IfOk result (λ entry. entry ≡ edit) }
+    {
+        Ok(Entry {
+            edit: Arc::new(alloc, edit)?,
+        })
+    }
+
+    /// The same entry, with one more owner.
+    pub fn again(&self) -> Result<Entry, AllocError>
+        ensures { IfOk result (λ entry. entry ≡ self.now) }
+    {
+        Ok(Entry {
+            edit: Arc::try_clone(&self.edit)?,
+        })
+    }
+
+    /// An edit of one's own that is equal to the entry's.
+    pub fn copy(&self, alloc: Global) -> Result<Edit, AllocError>
+        ensures { IfOk result (λ edit. edit ≡ self.now) }
+    {
+        let edit: &Edit = &self.edit;
+        edit.copy(alloc)
+    }
+}

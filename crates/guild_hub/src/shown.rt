@@ -1,0 +1,105 @@
+//! What a hub shows its readers, and how an operation of the writer changes it.
+
+ghost use Rattle.std.specs.Prelude.{◌≡◌, ◌<◌, length, MatchResult, OnOk, OnErr, drop, take};
+ghost use Rattle.guild_hub.specs.Trims.{spine_of, pushed, over};
+ghost use Rattle.std.specs.VecDeque.{deque_len, deque_capacity};
+ghost use Rattle.edit_apply.specs.Edits.{state_from};
+
+use crate::entry::Entry;
+use crate::note::Note;
+use edit_apply::Edit;
+use guild_model::Guild;
+use left_right::Absorb;
+use std::alloc::{AllocError, Global};
+use std::collections::{LinkedList, VecDeque};
+
+/// The number of entries that a hub keeps.
+pub const KEPT: usize = 4096;
+
+/// What readers look at: the record after the entries that are no longer kept, the entries that are,
+/// and a note of the whole log.
+#[derive(Drop)]
+pub struct Shown {
+    pub basis: Guild,
+    pub entries: VecDeque<Entry>,
+    pub note: Note,
+    pub alloc: Global,
+}
+
+/// What the writer does to both copies of what is shown.
+#[derive(Drop)]
+pub enum Op {
+    /// Adds an entry, with which the log is as the note says.
+    Add(Entry, Note),
+    /// Seals the log, which then is as the note says.
+    Seal(Note),
+}
+
+/// What both copies have in common. No value of it is made.
+pub struct Spine {
+    pub basis: Guild,
+    pub entries: LinkedList<Edit>,
+    pub note: Note,
+}
+
+impl Absorb<Op> for Shown {
+    ghost use Rattle.guild_hub.specs.Trims.{after_op, spine_of};
+
+    type State = Spine;
+
+    ghost state = { spine_of };
+
+    ghost applied = { after_op };
+
+    fn absorb_first(&mut self, operation: &Op, _other: &Shown) -> Result<(), AllocError> {
+        match operation {
+            Op::Add(entry, note) => self.push(entry.again()?, note.again()),
+            Op::Seal(note) => {
+                self.note = note.again();
+                Ok(())
+            }
+        }
+    }
+}
+
+impl Shown {
+    // Adds an entry, and moves the oldest one into the record if there are then too many. An `Err`
+    // changes nothing.
+    fn push(&mut self, entry: Entry, note: Note) -> Result<(), AllocError>
+        ensures { MatchResult result (λ _. spine_of self.new ≡ pushed (spine_of self.old) entry note) (λ _. spine_of self.new ≡ spine_of self.old) }
+    {
+        self.make_room()?;
+        self.entries.push_back_reserved(entry);
+        self.note = note;
+        Ok(())
+    }
+
+    // Makes room for an entry, and moves the oldest one into the record if there are as many as are kept.
+    // An `Err` changes nothing.
+    fn make_room(&mut self) -> Result<(), AllocError>
+        ensures room { OnOk result (deque_len self.new.entries < deque_capacity self.new.entries) }
+        ensures note { self.new.note ≡ self.old.note }
+        ensures moved { OnOk result ((self.new.basis ≡ state_from self.old.basis (take (over (length self.old.entries.items)) self.old.entries.items)) × (self.new.entries.items ≡ drop (over (length self.old.entries.items)) self.old.entries.items)) }
+        ensures kept { OnErr result (spine_of self.new ≡ spine_of self.old) }
+    {
+        self.entries.reserve(1)?;
+        if self.entries.len() >= KEPT {
+            return self.trim();
+        }
+        Ok(())
+    }
+
+    // Moves the oldest entry into the record. An `Err` changes nothing.
+    fn trim(&mut self) -> Result<(), AllocError>
+        requires { 0 < length self.old.entries.items }
+        ensures same { self.new.note ≡ self.old.note }
+        ensures moved { OnOk result ((self.new.basis ≡ state_from self.old.basis (take 1 self.old.entries.items)) × (self.new.entries.items ≡ drop 1 self.old.entries.items)) }
+        ensures kept { OnErr result (self.new ≡ self.old) }
+        ensures room { deque_len self.old.entries < deque_capacity self.old.entries → deque_len self.new.entries < deque_capacity self.new.entries }
+    {
+        let edit = self.entries[0].copy(self.alloc)?;
+        let _verdict = edit_apply::apply(self.alloc, &mut self.basis, edit)?;
+        self.entries.pop_front();
+        Ok(())
+    }
+}
