@@ -8,6 +8,11 @@ use snowflake_id::Snowflake;
 use std::alloc::{AllocError, Global};
 use std::str::SplitWhitespace;
 
+/// The most texts of a buffer, and the most bytes of them, that a line may ask for.
+const MOST_TEXTS: u64 = 65535;
+
+const MOST_BYTES: u64 = 16_777_215;
+
 // Ids with a blank after each.
 fn listed(alloc: Global, ids: &[Snowflake]) -> Result<String, AllocError> {
     let mut text = String::new(alloc);
@@ -106,17 +111,13 @@ fn lengths(alloc: Global, ring: &Ring, from: u64) -> Result<String, AllocError> 
     Ok(lengths)
 }
 
-fn has_room(items: u64, bytes: u64) -> bool {
-    0 < items && items < 65536 && bytes < 16_777_216
-}
-
 // A buffer for so many texts and bytes is given texts of these lengths, and asked for those after a
 // number: `ring TEXTS BYTES NUMBER LENGTH..`.
 fn ring(alloc: Global, given: &str) -> anyhow::Result<String> {
     let mut words = given.split_whitespace();
     let (items, bytes) = (number(&mut words)?, number(&mut words)?);
     let from = number(&mut words)?;
-    if !has_room(items, bytes) {
+    if items == 0 || items > MOST_TEXTS || bytes > MOST_BYTES {
         return Ok(String::from_str(alloc, "no such buffer")?);
     }
     let mut ring = Ring::new(alloc, items as usize, bytes as usize)?;
