@@ -1,5 +1,5 @@
 //! A link in memory, some of whose calls fail.
-ghost use Rattle.std.specs.Prelude.{◌≡◌, ◌≤◌, Ok, Some, None, IfOk};
+ghost use Rattle.std.specs.Prelude.{◌≡◌, Ok, Some, None, IfOk};
 ghost use Rattle.gate_outside.specs.Causes.{FaultHasCause};
 ghost use Rattle.gate_outside.specs.Links.{Receives, Sends, Closes, given_by, gave_text_after};
 ghost use Rattle.gate_outside.specs.declared.sending.Sending.TheVariants as sending;

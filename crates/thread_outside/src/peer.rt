@@ -1,5 +1,5 @@
 //! What is at the other end of a link in memory.
-ghost use Rattle.std.specs.Prelude.{◌≡◌, List, OnErr};
+ghost use Rattle.std.specs.Prelude.{List};
 ghost use Rattle.std.specs.declared.option.Option.{Option};
 ghost use Rattle.gate_outside.specs.declared.sending.Sending.{Sending};
 ghost use Rattle.thread_outside.specs.Lanes.{LaneEnds, TakesLane, PutsLane};
