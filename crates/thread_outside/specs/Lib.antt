@@ -1,3 +1,4 @@
+pub mod Lanes
 pub mod Peers
 pub mod MemLinks
 pub mod Shelves

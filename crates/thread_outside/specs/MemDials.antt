@@ -55,7 +55,7 @@ after_dial d ends = record d {
 -- a dial that is not to fail opens a link to the next of these ends, and fails where none is left
 abbrev pub OpensTo : List ContentState → DialState → DialState → Result LinkState Fault → Type 0
 OpensTo [] old new result = (result ≡ Err Failed) × (new ≡ after_failed_dial old)
-OpensTo (end ∷ more) old new result = (result ≡ Ok (new_link end.turns end.failing)) × (new ≡ after_dial old more)
+OpensTo (end ∷ more) old new result = (result ≡ Ok (new_link end.turns end.lane end.failing)) × (new ≡ after_dial old more)
 
 -- the dial whose URL is listed
 abbrev pub OpensNext : DialState → DialState → Result LinkState Fault → Type 0

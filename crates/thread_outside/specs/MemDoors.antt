@@ -67,7 +67,7 @@ let_on d callers given ended = record {
 abbrev pub LetsNext : List (Option ContentState) → DoorState → DoorState → Accepted LinkState → Type 0
 LetsNext [] old new answer = (answer ≡ accepted.Ended) × (new ≡ let_on old [] old.given true)
 LetsNext (None ∷ more) old new answer = (answer ≡ accepted.NotYet) × (new ≡ let_on old more old.given old.ended)
-LetsNext (Some caller ∷ more) old new answer = (answer ≡ accepted.Link (new_link caller.turns caller.failing))
+LetsNext (Some caller ∷ more) old new answer = (answer ≡ accepted.Link (new_link caller.turns caller.lane caller.failing))
     × (new ≡ let_on old more (old.given + 1) old.ended)
 
 -- the next caller is let in; after 2^32 - 1 links the door has ended

@@ -9,26 +9,30 @@ use Rattle.gate_outside.specs.declared.faults.Fault.TheVariants.{Failed, Memory}
 use Rattle.gate_outside.specs.declared.incoming.Incoming.{Incoming}
 use Rattle.gate_outside.specs.declared.sending.Sending.{Sending}
 use Rattle.gate_outside.specs.Links.{LinkTale, ReturnedLink, returned_link, given_by, gave_text_after}
+use Rattle.thread_outside.specs.Lanes.{LaneEnds, WasEmpty, came_on, went_on}
 use Rattle.thread_outside.specs.Peers.{first_turn}
 
--- a link in memory; the turns that are still to come are told by a script alone
+-- a link in memory; a script alone tells the turns that are still to come, and an end that another may hold tells its lanes
 pub record LinkState : Type 0 where
   pub turns : Option (List (Option Sending))
+  pub lane : Option LaneEnds
   pub own_code : Option ℕ
   pub gave_text : Bool
   pub gave : List Sending
   pub sent : List Sending
   pub plan : Plan
 
--- what a link is made from: the turns of a script, and the calls that are to fail
+-- what a link is made from: the turns of a script or the lanes of an end, and the calls that are to fail
 pub record ContentState : Type 0 where
   pub turns : Option (List (Option Sending))
+  pub lane : Option LaneEnds
   pub failing : List ℕ
 
 -- a link before its first call
-abbrev pub new_link : Option (List (Option Sending)) → List ℕ → LinkState
-new_link turns failing = record {
+abbrev pub new_link : Option (List (Option Sending)) → Option LaneEnds → List ℕ → LinkState
+new_link turns lane failing = record {
   turns = turns;
+  lane = lane;
   own_code = None;
   gave_text = false;
   gave = [];
@@ -58,10 +62,22 @@ after_fault_of s = record s { plan = after_failed_call s.plan }
 abbrev pub Fails : LinkState → LinkState → Type 0
 Fails old new = ((fails old.plan ≡ true) ⊎ (old.turns ≡ None)) × (new ≡ after_fault_of old)
 
+-- nothing waited on the lane at one step of a call
+abbrev pub FoundEmpty : Option LaneEnds → Type 0
+FoundEmpty None = Unit {0}
+FoundEmpty (Some e) = WasEmpty e.came
+
+-- what comes over a lane
+abbrev pub lane_after : Option LaneEnds → Option Sending → Option LaneEnds
+lane_after None turn = None
+lane_after (Some e) None = Some e
+lane_after (Some e) (Some x) = Some (came_on e x)
+
 -- after a call of `recv` that gave this, if it gave something
 abbrev pub after_given : LinkState → Option Sending → LinkState
 after_given s turn = record {
   turns = option_map (drop 1) s.turns;
+  lane = lane_after s.lane turn;
   own_code = s.own_code;
   gave_text = gave_text_after s.gave_text turn;
   gave = s.gave ++ option_to_list turn;
@@ -69,10 +85,10 @@ after_given s turn = record {
   plan = after_call s.plan;
 }
 
--- a call of `recv` on a link that this end has not closed
+-- a call of `recv` on a link that this end has not closed; that it gives nothing, or fails but is not to fail, tells that nothing waited
 abbrev pub GivesOpen : LinkState → LinkState → Result Incoming Fault → Type 0
-GivesOpen old new (Ok answer) = (fails old.plan ≡ false) × (new ≡ after_given old (given_by (Ok answer)))
-GivesOpen old new (Err Failed) = Fails old new
+GivesOpen old new (Ok answer) = (fails old.plan ≡ false) × (new ≡ after_given old (given_by (Ok answer))) × MatchOption (given_by (Ok answer)) (FoundEmpty old.lane) (λ x. Unit {0})
+GivesOpen old new (Err Failed) = Fails old new × ((fails old.plan ≡ true) ⊎ FoundEmpty old.lane)
 GivesOpen old new (Err Memory) = new ≡ old
 
 -- a call of `recv`; after the link's own close no call is counted and nothing changes
@@ -83,6 +99,7 @@ Gives old new result = MatchOption old.own_code (GivesOpen old new result) (λ o
 abbrev pub after_put : LinkState → Sending → Option ℕ → LinkState
 after_put s x own = record {
   turns = s.turns;
+  lane = option_map (λ e. went_on e x) s.lane;
   own_code = own;
   gave_text = s.gave_text;
   gave = s.gave;

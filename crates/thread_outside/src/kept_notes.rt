@@ -1,6 +1,5 @@
 //! Notes that are kept.
-ghost use Rattle.std.specs.Prelude.{◌≡◌, ◌++◌, ◌∷◌, [], Some, OnOk, OnErr};
-ghost use Rattle.gate_outside.specs.Houses.{GrowsBy};
+ghost use Rattle.std.specs.Prelude.{◌≡◌, [], Some};
 
 use gate_outside::notes::Notes;
 use std::alloc::{AllocError, Global};

@@ -1,39 +1,124 @@
 //! What goes one way between two ends in memory.
-ghost use Rattle.std.specs.Prelude.{◌≡◌, IfErr};
+ghost use Rattle.std.specs.Prelude.{◌≡◌, true, MatchOption, MatchResult, IfOk};
+ghost use Rattle.crossbeam_queue.specs.SegTies.{IsSegPassOf};
+ghost use Rattle.thread_outside.specs.Lanes.{opening, putter, taker, after_put, after_take, WasEmpty};
 
-use crossbeam_queue::SegQueue;
-use gate_outside::sending::Sending;
+use crate::lane_view::LaneView;
+use crate::twice::Twice;
+use crossbeam_queue::protocol::{Lesson, Outcome, Protocol, Split};
+use crossbeam_queue::{RuledSegQueue, SegPass};
 use std::alloc::{AllocError, Global};
+use std::marker::Model;
 use std::sync::atomic::{AtomicBool, Ordering};
 use std::sync::{Arc, Wait};
 
-// What waits for one end, and whether the end that puts it there is gone.
-#[derive(Drop)]
+// The rule of a lane.
+pub(crate) struct All;
+
+impl Protocol<Twice, LaneView> for All {
+    ghost use Rattle.thread_outside.specs.Lanes.{opening, KeepsAll};
+
+    ghost holds = { KeepsAll };
+
+    ghost first = { opening };
+}
+
+struct Puts;
+
+impl Outcome<Twice, LaneView> for Puts {
+    ghost then = { λ before sending after. after ≡ after_put before sending };
+}
+
+struct Takes;
+
+impl Outcome<Twice, LaneView> for Takes {
+    ghost then = { λ before sending after. after ≡ after_take before sending };
+}
+
+impl Lesson<Twice, LaneView> for Takes {
+    ghost use Rattle.std.specs.Prelude.{◌≡◌, ℕ, List};
+    ghost use mathlib.Core.Option.{some};
+    ghost use lib.ListN.{get_elem?};
+    ghost use Rattle.thread_outside.specs.declared.lane_view.LaneView.{LaneView};
+    ghost use Rattle.thread_outside.specs.Lanes.{KeepsAll};
+
+    ghost fact = { λ mine items. (views : List LaneView) × (port : ℕ) × KeepsAll items views × (get_elem? views port ≡ some mine) };
+}
+
+struct Parts;
+
+impl Split<LaneView> for Parts {
+    ghost left = { putter };
+
+    ghost right = { taker };
+}
+
+/// The right of one end to put into a lane, or to take from it.
+pub(crate) type LanePass = SegPass<Twice, LaneView>;
+
+// What waits for one end, and whether the end that puts it there is gone. A clause sees its queue.
 pub(crate) struct Lane {
-    waiting: SegQueue<Sending>,
+    waiting: RuledSegQueue<Twice, LaneView, All>,
     gone: AtomicBool,
 }
 
+impl Model for Lane {
+    ghost use Rattle.std.specs.declared.alloc.Global.{Global};
+    ghost use Rattle.crossbeam_queue.specs.SegTies.{SegId};
+
+    ghost Value = { SegId Global };
+
+    ghost view = { λ l. l.waiting };
+}
+
+impl Drop for Lane {
+    fn drop(self) {
+        let Self { waiting, gone: _ } = self;
+        waiting.destroy();
+    }
+}
+
 impl Lane {
-    // An empty lane, which two ends may share.
-    pub(crate) fn new(alloc: Global) -> Result<Arc<Lane, Global>, AllocError> {
+    // An empty lane, which two ends may share, the pass of the end that puts, and that of the end that
+    // takes.
+    pub(crate) fn open(alloc: Global) -> Result<(Arc<Lane, Global>, LanePass, LanePass), AllocError>
+        ensures lane { IfOk result (λ r. IsSegPassOf r.0.value r.1 × IsSegPassOf r.0.value r.2) }
+        ensures views { IfOk result (λ r. (r.1.me.view.client ≡ putter opening) × (r.2.me.view.client ≡ taker opening)) }
+    {
+        let (waiting, mut puts) = RuledSegQueue::with_rule(alloc)?;
+        let takes = waiting.another::<Parts>(&mut puts);
         let lane = Lane {
-            waiting: SegQueue::new(alloc)?,
+            waiting,
             gone: AtomicBool::new(false),
         };
-        Ok(Arc::new(alloc, lane)?)
+        let lane = Arc::new(alloc, lane)?;
+        Ok((lane, puts, takes))
     }
 
     // Puts something at the back. It comes back where memory is wanting.
-    pub(crate) fn put<R: Wait>(&self, runtime: &R, sending: Sending) -> Result<(), Sending>
-        ensures { IfErr result (λ back. back ≡ sending) }
+    pub(crate) fn put<R: Wait>(
+        &self,
+        runtime: &R,
+        pass: &mut LanePass,
+        sending: Twice,
+    ) -> Result<(), Twice>
+        requires lane { IsSegPassOf self.now pass.old }
+        requires puts { pass.old.me.view.client.puts ≡ true }
+        ensures lane { IsSegPassOf self.now pass.new }
+        ensures put { MatchResult result (λ _. pass.new.me.view.client ≡ after_put pass.old.me.view.client sending) (λ back. (back ≡ sending) × (pass.new.me.view.client ≡ pass.old.me.view.client)) }
     {
-        self.waiting.push(runtime, sending)
+        self.waiting.push_as::<Puts, R>(runtime, pass, sending)
     }
 
-    // Takes what waits first.
-    pub(crate) fn take<R: Wait>(&self, runtime: &R) -> Option<Sending> {
-        self.waiting.pop(runtime)
+    // Takes what waits first. `None` only if nothing waited at one step of the call.
+    pub(crate) fn take<R: Wait>(&self, runtime: &R, pass: &mut LanePass) -> Option<Twice>
+        requires lane { IsSegPassOf self.now pass.old }
+        requires takes { pass.old.me.view.client.takes ≡ true }
+        ensures lane { IsSegPassOf self.now pass.new }
+        ensures taken { MatchOption result ((pass.new.me.view.client ≡ pass.old.me.view.client) × WasEmpty pass.old.me.view.client)
+            (λ sending. pass.new.me.view.client ≡ after_take pass.old.me.view.client sending) }
+    {
+        self.waiting.pop_as::<Takes, R>(runtime, pass)
     }
 
     // Says that nothing more will be put.

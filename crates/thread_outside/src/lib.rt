@@ -6,6 +6,8 @@ mod copies;
 pub mod kept_notes;
 mod lane;
 pub mod lane_end;
+pub mod lane_view;
+pub mod laws;
 pub mod link_content;
 mod link_shelf;
 pub mod machine_clock;
@@ -24,3 +26,4 @@ pub mod sure_spawner;
 #[cfg(test)]
 mod tests;
 pub mod thread_team;
+mod twice;

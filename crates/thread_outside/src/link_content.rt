@@ -18,6 +18,7 @@ impl<P: Peer + Drop> Model for LinkContent<P> {
 
     ghost view = { λ c. record {
       turns = P.turns c.peer;
+      lane = P.lane c.peer;
       failing = c.failing.items;
     } };
 }
@@ -27,6 +28,7 @@ impl<P: Peer + Drop> LinkContent<P> {
     pub fn new(peer: P, failing: Vec<u64>) -> LinkContent<P>
         ensures { result ≡ record {
           turns = P.turns peer;
+          lane = P.lane peer;
           failing = failing.items;
         } }
     {
@@ -37,6 +39,7 @@ impl<P: Peer + Drop> LinkContent<P> {
     pub(crate) fn into_parts(self) -> (P, Vec<u64>)
         ensures { self ≡ record {
           turns = P.turns result.0;
+          lane = P.lane result.0;
           failing = result.1.items;
         } }
     {

@@ -1,5 +1,5 @@
 //! A link in memory, some of whose calls fail.
-ghost use Rattle.std.specs.Prelude.{◌≡◌, ◌≤◌, Ok, Some, None, IfOk};
+ghost use Rattle.std.specs.Prelude.{◌≡◌, Ok, Some, None, IfOk};
 ghost use Rattle.gate_outside.specs.Causes.{FaultHasCause};
 ghost use Rattle.gate_outside.specs.Links.{Receives, Sends, Closes, given_by, gave_text_after};
 ghost use Rattle.gate_outside.specs.declared.sending.Sending.TheVariants as sending;
@@ -38,6 +38,7 @@ impl<P: Peer + Drop> Model for MemLink<P> {
 
     ghost view = { λ l. record {
       turns = P.turns l.peer;
+      lane = P.lane l.peer;
       own_code = l.own_code;
       gave_text = l.gave_text;
       gave = l.gave.items;
@@ -49,7 +50,7 @@ impl<P: Peer + Drop> Model for MemLink<P> {
 impl<P: Peer + Drop> MemLink<P> {
     /// A link to that other end. `failing` has the numbers of its calls that are to fail, from 1.
     pub fn new(alloc: Global, peer: P, failing: Vec<u64>) -> Result<MemLink<P>, AllocError>
-        ensures { IfOk result (λ l. l ≡ new_link (P.turns peer) failing.items) }
+        ensures { IfOk result (λ l. l ≡ new_link (P.turns peer) (P.lane peer) failing.items) }
     {
         let place = Place::new(alloc)?;
         Ok(MemLink::at(alloc, place, LinkContent::new(peer, failing)))
@@ -57,7 +58,7 @@ impl<P: Peer + Drop> MemLink<P> {
 
     // A link made from that content, which has its place already.
     pub(crate) fn at(alloc: Global, place: Box<Place>, content: LinkContent<P>) -> MemLink<P>
-        ensures { result ≡ new_link content.turns content.failing }
+        ensures { result ≡ new_link content.turns content.lane content.failing }
     {
         let (peer, failing) = content.into_parts();
         MemLink {

@@ -1,5 +1,5 @@
 //! A script of what comes over a link.
-ghost use Rattle.std.specs.Prelude.{◌≡◌, ◌++◌, Ok, Some, OnOk, OnErr, drop};
+ghost use Rattle.std.specs.Prelude.{◌≡◌, ◌++◌, Ok, Some, OnOk, OnErr, drop, None};
 ghost use Rattle.std.specs.Option.{option_to_list};
 ghost use Rattle.thread_outside.specs.Peers.{TakesTurn, KeepsCopy, Puts, first_turn};
 
@@ -63,6 +63,8 @@ impl Script {
 
 impl Peer for Script {
     ghost turns = { λ s. Some s };
+
+    ghost lane = { λ _. None };
 
     fn take(&mut self, taken: &mut Vec<Sending>) -> Result<Option<Sending>, Fault>
         ensures turn { TakesTurn (Some self.old) (Some self.new) result }

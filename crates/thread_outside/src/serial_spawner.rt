@@ -2,7 +2,7 @@
 ghost use Rattle.std.specs.Prelude.{◌≡◌, ◌<◌, true, false, IfOk, IfErr, OnOk, OnErr};
 ghost use Rattle.gate_outside.specs.FaultPlans.{fresh, fails};
 ghost use Rattle.gate_outside.specs.Causes.{HasCause};
-ghost use Rattle.gate_outside.specs.Spawners.{no_starts, after_start, after_finish};
+ghost use Rattle.gate_outside.specs.Spawners.{no_starts, after_start};
 
 use crate::start_count::StartCount;
 use gate_outside::fault_plan::FaultPlan;

@@ -1,7 +1,7 @@
 //! A spawner without threads that never fails.
 ghost use Rattle.std.specs.Prelude.{◌≡◌, Ok};
 ghost use Rattle.gate_outside.specs.Causes.{HasCause};
-ghost use Rattle.gate_outside.specs.Spawners.{no_starts, after_start, after_finish};
+ghost use Rattle.gate_outside.specs.Spawners.{no_starts, after_start};
 
 use crate::start_count::StartCount;
 use gate_outside::spawners::{Spawner, Task};

@@ -1,0 +1,71 @@
+-- The rule of a lane: what was taken, and then what waits, is what was put.
+use Rattle.std.specs.Prelude.{◌≡◌, ℕ, Bool, true, false, List, [], ◌∷◌, ◌++◌, Result, Ok, Err}
+use Rattle.std.specs.declared.option.Option.{Option}
+use Rattle.std.specs.declared.option.Option.TheVariants.{Some, None}
+use mathlib.Core.Option.{some}
+use lib.ListN.{get_elem?}
+use Rattle.gate_outside.specs.declared.faults.Fault.{Fault}
+use Rattle.gate_outside.specs.declared.faults.Fault.TheVariants.{Failed, Memory}
+use Rattle.gate_outside.specs.declared.sending.Sending.{Sending}
+use Rattle.thread_outside.specs.declared.lane_view.LaneView.{LaneView}
+
+abbrev pub view_of : Bool → List Sending → Bool → List Sending → LaneView
+view_of puts put takes taken = record { puts = puts; put = put; takes = takes; taken = taken }
+
+-- the one pass of a new lane, before it is split
+abbrev pub opening : LaneView
+opening = view_of true [] true []
+
+-- the two passes that it is split into
+abbrev pub putter : LaneView → LaneView
+putter v = view_of true v.put false []
+
+abbrev pub taker : LaneView → LaneView
+taker v = view_of false [] true v.taken
+
+abbrev pub after_put : LaneView → Sending → LaneView
+after_put v x = view_of v.puts (v.put ++ x ∷ []) v.takes v.taken
+
+abbrev pub after_take : LaneView → Sending → LaneView
+after_take v x = view_of v.puts v.put v.takes (v.taken ++ x ∷ [])
+
+-- Each pass has a place in `views`: the one that puts has the place `put_at`, the one that takes has the place `take_at`.
+pub record KeepsAll (items : List Sending) (views : List LaneView) : Type 0 where
+  pub put_at : ℕ
+  pub take_at : ℕ
+  pub taken : List Sending
+  pub putters : (j : ℕ) (v : LaneView) → get_elem? views j ≡ some v → v.puts ≡ true → (j ≡ put_at) × (v.put ≡ taken ++ items)
+  pub takers : (j : ℕ) (v : LaneView) → get_elem? views j ≡ some v → v.takes ≡ true → (j ≡ take_at) × (v.taken ≡ taken)
+
+-- at one step the lane was empty, and this pass knew this
+abbrev pub WasEmpty : LaneView → Type 0
+WasEmpty v = (views : List LaneView) × (port : ℕ) × KeepsAll [] views × (get_elem? views port ≡ some v)
+
+-- what an end knows: of the lane that it takes from, and of the lane that it puts into
+pub record LaneEnds : Type 0 where
+  pub came : LaneView
+  pub went : LaneView
+
+-- an end before its first call
+abbrev pub new_ends : LaneEnds
+new_ends = record { came = taker opening; went = putter opening }
+
+abbrev pub came_on : LaneEnds → Sending → LaneEnds
+came_on e x = record { came = after_take e.came x; went = e.went }
+
+abbrev pub went_on : LaneEnds → Sending → LaneEnds
+went_on e x = record { came = e.came; went = after_put e.went x }
+
+-- an end takes what waits first; it takes nothing, and fails, only if the lane was empty at one step of the call
+abbrev pub TakesLane : Option LaneEnds → Option LaneEnds → Result (Option Sending) Fault → Type 0
+TakesLane None new result = new ≡ None
+TakesLane (Some e) new (Ok None) = (new ≡ Some e) × WasEmpty e.came
+TakesLane (Some e) new (Ok (Some x)) = new ≡ Some (came_on e x)
+TakesLane (Some e) new (Err Failed) = (new ≡ Some e) × WasEmpty e.came
+TakesLane (Some e) new (Err Memory) = new ≡ Some e
+
+-- an end puts at the back; a refusal puts nothing
+abbrev pub PutsLane : Option LaneEnds → Option LaneEnds → Sending → Result (Unit {0}) Fault → Type 0
+PutsLane None new x result = new ≡ None
+PutsLane (Some e) new x (Ok u) = new ≡ Some (went_on e x)
+PutsLane (Some e) new x (Err fault) = new ≡ Some e

@@ -1,0 +1,14 @@
+//! A law for proofs over lanes.
+ghost use Rattle.std.specs.Prelude.{◌≡◌, ◌++◌, ℕ, List, true};
+ghost use mathlib.Core.Option.{some};
+ghost use lib.ListN.{get_elem?};
+ghost use Rattle.gate_outside.specs.declared.sending.Sending.{Sending};
+ghost use Rattle.thread_outside.specs.declared.lane_view.LaneView.{LaneView};
+ghost use Rattle.thread_outside.specs.Lanes.{KeepsAll};
+
+/// A law for proofs: at each step of a lane, what was taken, and then what waits, is what was put.
+pub fn put_is_taken_or_waits()
+    ensures { (items : List Sending) (views : List LaneView) (j k : ℕ) (taker putter : LaneView) → KeepsAll items views
+        → get_elem? views j ≡ some taker → taker.takes ≡ true → get_elem? views k ≡ some putter → putter.puts ≡ true
+        → putter.put ≡ taker.taken ++ items }
+{}
