@@ -1,4 +1,4 @@
-"""Compares docs/{STEPS,TRANSCRIPT,PAYLOADS,COOKBOOK}.md and examples/ with the sources, and plays the examples."""
+"""Compares the documents, the READMEs of crates and examples/ with the sources, and plays the examples."""
 import collections
 import glob
 import itertools
@@ -169,6 +169,50 @@ def compare_quotes():
     compare("examples", "examples/README.md", 1, {name for _, (name, _) in rows("examples/README.md", "file")}, files)
     compare("steps in examples", STEPS, 1, {step["step"] for step in steps}, {name for _, (name, *_) in rows(STEPS, "step")})
 
+def names_of(cell):
+    """The names of a cell of code, with those in braces."""
+    return re.findall(r"[A-Za-z_]\w*", re.sub(r"\w+::(?=[\w{])", "", cell))
+
+def compare_definitions():
+    """Each definition stands in a file that its row names, and each file of specs/ is named somewhere on the page."""
+    page, where, cell = text_of("docs/DEFINITIONS.md").split("\n"), collections.defaultdict(set), ""
+    for path in glob.glob("crates/*/specs/*.antt") + glob.glob("crates/*/src/**/*.rt", recursive=True):
+        for name in re.findall(r"^\s*(?:\w+ )*?(?:pub )?(?:record |data |struct |enum )?(\w+)\s*(?:[:{(]|$)", text_of(path), re.M):
+            where[name].add(path)
+    for line, cells in rows("docs/DEFINITIONS.md", "definition"):
+        cell = cell if cells[-1] == "the same" else cells[-1]
+        for name in names_of(cells[0]):
+            found = [path for path in where[name] if path.split("/")[1] in cell or os.path.basename(path) in cell]
+            compare("definitions", "docs/DEFINITIONS.md", line, name, name if found else f"no such definition in {cell}")
+    for path in glob.glob("crates/*/specs/*.antt"):
+        crate, file = path.split("/")[1], os.path.basename(path)
+        named = file == "Lib.antt" or any(re.search(rf"\b{file[:-5]}\b", line) and (crate in line or file[:-5] + "`" in line) for line in page)
+        compare("files of specs", "docs/DEFINITIONS.md", 1, path, path if named else "not named there")
+
+def compare_crates():
+    """Each crate has a README, which names no function and no file that the crate does not have."""
+    for crate in re.findall(r"^(\w+)(?: \w+)?:", text_of("crates.txt"), re.M):
+        path, source = f"crates/{crate}/README.md", text_of(f"crates/{crate}/src/**/*.rt")
+        compare("READMEs of crates", path, 1, os.path.exists(path), True)
+        for head in ("function", "call"):
+            for line, (cell, *_) in rows(path, head) if os.path.exists(path) else ():
+                for name in names_of(" ".join(re.findall(r"`([^`]+)`", f"`{cell}`"))):
+                    known = re.search(rf"\b(fn|struct|enum|trait|mod|const) {name}\b", source)
+                    compare("functions of crates", path, line, name, name if known else "no such function in its src/")
+
+def compare_paths():
+    """Each file that a document names exists."""
+    for path in ["README.md", *sorted(glob.glob("docs/*.md"))]:
+        for number, line in enumerate(text_of(path).split("\n"), 1):
+            for name in re.findall(r"`((?:[\w.]+/)+\w+\.(?:rt|antt|md|sh|py|jsonl))`", line):
+                if not name.startswith(("src/", "specs/", "proofs/", "data/")):
+                    compare("files", path, number, name, name if os.path.exists(name) or os.path.exists("crates/" + name) else "no such file")
+    crate = None
+    for line, (cell, files, _) in rows("docs/ADDING.md", "crate"):
+        crate = next(iter(re.findall(r"^\w+$", cell.split("`")[0])), None) if cell and not cell.startswith("the ") else crate if not cell else None
+        for name in re.findall(r"`([\w./]+)`", files) if crate else ():
+            compare("files", "docs/ADDING.md", line, name, name if os.path.exists(f"crates/{crate}/{name}") else f"no such file in {crate}")
+
 def program():
     """The program that GATE names, or else a built one that is at hand and newer than its sources."""
     sources = [path for end in ("rt", "antt") for path in glob.glob(f"crates/*/*/**/*.{end}", recursive=True) if "/out/" not in path]
@@ -192,7 +236,7 @@ def play_examples(gate):
     if gate:
         compare("causes", TRANSCRIPT, 1, shown["cause"](text_of("examples/first.jsonl").encode().splitlines(True), 4, gate), 9)
 
-for part in (compare_steps_and_edits, compare_tables, compare_payloads, compare_quotes, lambda: play_examples(program())):
+for part in (compare_steps_and_edits, compare_tables, compare_payloads, compare_quotes, compare_definitions, compare_crates, compare_paths, lambda: play_examples(program())):
     part()
 print(*(f"docs: {failure[:900]}\n" for failure in failures), sep="", end="")
 print("docs: " + ", ".join(f"{count} {what}" for what, count in counts.items()) + ("" if counts["causes"] else "; no built program at hand: nothing was played"))
