@@ -12,8 +12,6 @@ mod request;
 mod send_pass;
 mod send_refused;
 mod take_pass;
-#[cfg(test)]
-mod tests;
 
 pub use laws::{taken_is_a_merge, taken_is_a_prefix};
 pub use post::Post;

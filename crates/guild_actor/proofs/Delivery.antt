@@ -64,12 +64,12 @@ module _ (ws : List Writer) (rs : List Request) (r : Request) where
     more n e = full_more (guilds_of ws) rs r place d n distinct within at (subst (λ g. refused_of g now ≡ refused_of g rs + n) own e)
 
     -- a request whose log has room
-    pub room : y ≡ ((get_or ws place y).0, publishing (with_entry (writer_after rs (get_or ws place y)).1.log r.edit) false) → length (entries_of (get_or ws place y).0 rs) < most
+    pub room : y ≡ ((get_or ws place y).0, publishing (with_entry (writer_after rs (get_or ws place y)).1.log r.edit) (get_or ws place y).1.mark false) → length (entries_of (get_or ws place y).0 rs) < most
         → holding (set (map (writer_after rs) ws) place y) (counted (strays_of (guilds_of ws) rs)) (counted (full_of (guilds_of ws) rs)) ≡ held_after ws now
     room is low =
         let w : Writer = get_or ws place y in
         held ws now (set (map (writer_after rs) ws) place y) (counted (strays_of (guilds_of ws) rs)) (counted (full_of (guilds_of ws) rs))
-            (one_more rs r ws place d y distinct lt at (is ∙ ap (λ l. (w.0, publishing (published w.1.log.hub l false) false)) (sym (entries_room w.0 rs r own low))))
+            (one_more rs r ws place d y distinct lt at (is ∙ ap (λ l. (w.0, publishing (published w.1.log.hub l false) w.1.mark false)) (sym (entries_room w.0 rs r own low))))
             no_stray
             (ap counted (sym (more 0 (refused_room w.0 rs r own low ∙ omega arith) ∙ omega arith)))
 
@@ -79,7 +79,7 @@ module _ (ws : List Writer) (rs : List Request) (r : Request) where
     full is high =
         let w : Writer = get_or ws place y in
         held ws now (set (map (writer_after rs) ws) place y) (counted (strays_of (guilds_of ws) rs)) (min (counted (full_of (guilds_of ws) rs) + 1) (2 ^ 64 - 1))
-            (one_more rs r ws place d y distinct lt at (is ∙ ap (λ l. (w.0, publishing (published w.1.log.hub l false) false)) (sym (entries_full w.0 rs r own high))))
+            (one_more rs r ws place d y distinct lt at (is ∙ ap (λ l. (w.0, publishing (published w.1.log.hub l false) w.1.mark false)) (sym (entries_full w.0 rs r own high))))
             no_stray
             (counted_more (full_of (guilds_of ws) rs) ∙ ap counted (sym (more 1 (refused_full w.0 rs r own high))))
 

@@ -27,7 +27,7 @@ module _ (ws : List Writer) (place : ℕ) (w : Writer) (new : Publishing) (lt : 
   same_guilds = kept (λ (v : Writer). v.0) ws place (w.0, new) lt (ap (λ (v : Writer). v.0) (at_any (w.0, new)))
 
   pub added : (edit : Edit) {U F : Type 0} (g : Result U (Edit × HubRefused)) (r : Result Bool F)
-      → IfOk g (λ _. (new ≡ publishing (with_entry w.1.log edit) false) × (length w.1.log.entries < most))
+      → IfOk g (λ _. (new ≡ publishing (with_entry w.1.log edit) w.1.mark false) × (length w.1.log.entries < most))
       → IfErr g (λ e. (e.0 ≡ edit) × Refuses w.1 new e.1) → IfOk g (λ _. r ≡ Ok true) → IfErr g (λ e. Tells e.1 r) → IfOk r (λ b. Publishes ws place edit b now)
   added edit (Ok u) r fine bad a b =
       subst (λ o. IfOk o (λ b. Publishes ws place edit b now)) (sym a)

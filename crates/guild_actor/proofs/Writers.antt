@@ -22,7 +22,7 @@ many (w ∷ ws) = ap suc (many ws)
 
 module _ (rs : List Request) (r : Request) where
   same : (w : Writer) → w.0 ≢ r.guild → writer_after rs w ≡ writer_after (rs ++ r ∷ []) w
-  same w n = ap (λ l. (w.0, publishing (published w.1.log.hub (take most l) false) false)) (sym (edits_other w.0 rs r n))
+  same w n = ap (λ l. (w.0, publishing (published w.1.log.hub (take most l) false) w.1.mark false)) (sym (edits_other w.0 rs r n))
 
   -- a request for another guild
   pub stays : (ws : List Writer) → has_guild r.guild (guilds_of ws) ≡ false → map (writer_after rs) ws ≡ map (writer_after (rs ++ r ∷ [])) ws

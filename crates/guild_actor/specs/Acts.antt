@@ -47,7 +47,7 @@ abbrev pub guilds_of : {W : Type 0} → List (ℕ × W) → List ℕ
 guilds_of writers = map (λ w. w.0) writers
 
 abbrev pub new_writer : ℕ × Publishing → ℕ × Publishing
-new_writer w = (w.0, publishing (published w.1.log.hub [] false) false)
+new_writer w = (w.0, publishing (published w.1.log.hub [] false) w.1.mark false)
 
 -- the logs are empty, without a seal, and their writers may publish
 abbrev pub AreNew : List (ℕ × Publishing) → Type 0

@@ -18,7 +18,7 @@ holding writers strays full = record { writers = writers; strays = strays; full 
 
 -- a writer whose log has the entries of these requests
 abbrev pub writer_after : List Request → ℕ × Publishing → ℕ × Publishing
-writer_after requests w = (w.0, publishing (published w.1.log.hub (entries_of w.0 requests) false) false)
+writer_after requests w = (w.0, publishing (published w.1.log.hub (entries_of w.0 requests) false) w.1.mark false)
 
 -- what is held after these requests, of writers of empty logs
 abbrev pub held_after : List (ℕ × Publishing) → List Request → Holding
@@ -33,7 +33,7 @@ log_sealed w = (w.0, with_seal w.1.log)
 
 -- a writer that took an edit, or did not
 abbrev pub edited : Bool → Edit → ℕ × Publishing → ℕ × Publishing
-edited true edit w = (w.0, publishing (with_entry w.1.log edit) false)
+edited true edit w = (w.0, publishing (with_entry w.1.log edit) w.1.mark false)
 edited false edit w = w
 
 abbrev pub HasRoom : Bool → Published → Type 0

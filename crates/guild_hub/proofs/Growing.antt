@@ -12,31 +12,10 @@ use Rattle.std.specs.Prelude.{Option, Some, None, is_ok}
 use Rattle.guild_model.specs.declared.verdict.Verdict.{Verdict}
 use Rattle.guild_model.specs.Tests.{outcome}
 use Rattle.guild_hub.specs.Rules.{FindsEntries}
-use Rattle.guild_hub.specs.Sights.{seeing}
+use Rattle.guild_hub.specs.Sights.{Watching, seeing}
 use Rattle.guild_hub.specs.Looks.{Looks}
 use Rattle.guild_hub.specs.declared.reader.Looked.{Looked}
 use Rattle.guild_hub.proofs.Trimming.{state_join}
-
-accepted_join : (g : Record) (xs ys : List Edit) → accepted_from g (xs ++ ys) ≡ accepted_from g xs + accepted_from (state_from g xs) ys
-accepted_join g [] ys = omega arith
-accepted_join g (x ∷ xs) ys = omega (arith, accepted_join (after g x) xs ys)
-
-one_at_most : (b : Bool) → cond b 1 0 ≤ 1
-one_at_most true = omega arith
-one_at_most false = omega arith
-
-accepted_within : (g : Record) (xs : List Edit) → accepted_from g xs ≤ length xs
-accepted_within g [] = zero-le
-accepted_within g (x ∷ xs) = omega (arith, accepted_within (after g x) xs, one_at_most (accepts g x))
-
-pub few_accepted : (log : Published) → accepted log ≤ length log.entries
-few_accepted log = accepted_within (state log.hub.guild []) log.entries
-
-pub accepted_more : (log : Published) (e : Edit) → accepted (with_entry log e) ≡ accepted log + cond (accepts (whole_record log) e) 1 0
-accepted_more log e = omega (arith, accepted_join (state log.hub.guild []) log.entries (e ∷ []))
-
-pub whole_more : (log : Published) (e : Edit) → whole_record (with_entry log e) ≡ after (whole_record log) e
-whole_more log e = state_join (state log.hub.guild []) log.entries (e ∷ [])
 
 -- a part of a log is a segment of it
 pub part_fits : (log : Published) (base cursor : ℕ) → base ≤ cursor → cursor ≤ length log.entries → (end_of (part_of log base cursor) ≡ cursor) × Fits (part_of log base cursor) log
@@ -69,19 +48,15 @@ part_more log base cursor up within =
     let rest : drop k (drop base es) ≡ drop cursor es = drop-drop k base es ∙ ap (λ n. drop n es) there in
     rw (all, ← rest, take-append-drop k (drop base es)) refl
 
-pub outcome_ok : (v : Option Verdict) → is_ok (outcome v) ≡ is_none v
-outcome_ok None = refl
-outcome_ok (Some v) = refl
-
 -- a look that finds the entries after the cursor
-pub looks : (a b : Published) (base cursor : ℕ) (q r : Bool) (looked : Looked) → GoesOn a b → base ≤ cursor → cursor ≤ length a.entries → FindsEntries cursor b looked.entries.items
-    → looked.sealed ≡ b.sealed → looked.quit ≡ r → (q ≡ true → r ≡ true)
+pub looks : (a b : Published) (base cursor : ℕ) (q r : Watching) (looked : Looked) → GoesOn a b → base ≤ cursor → cursor ≤ length a.entries → FindsEntries cursor b looked.entries.items
+    → looked.sealed ≡ b.sealed → looked.quit ≡ r.quit → r.mark ≡ q.mark → (q.quit ≡ true → r.quit ≡ true)
     → Looks (seeing (part_of a base cursor) a q) looked (seeing (part_of b base (length b.entries)) b r)
-looks a b base cursor q r looked on up within found sealed quit stays =
+looks a b base cursor q r looked on up within found sealed quit same stays =
     let before = part_fits a base cursor up within in
     let kept = part_stays a b base cursor on up within in
     let whole = part_fits b base (length b.entries) (omega (arith, kept.1)) (omega arith) in record {
-      steps = record { log = on; fits = whole.1; quit = stays };
+      steps = record { log = on; fits = whole.1; mark = same; quit = stays };
       kept = subst (λ n. base_of b ≤ n) (sym before.0) found.0;
       entries = subst (λ n. looked.entries.items ≡ drop n b.entries) (sym before.0) found.1;
       last = part_more b base cursor up kept.1 ∙ ap₂ with_more (sym kept.0) (sym found.1);

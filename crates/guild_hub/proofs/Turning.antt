@@ -61,7 +61,7 @@ sealed_by x y ops log one more is =
     let to : spine_of y ≡ after_op (spine_of x) (Seal log) = is ∙ ap (fold after_op (spine_of x)) one in
     let to' : spine_of y ≡ after_op (spine_of x) (Seal (with_seal x.note)) = to ∙ ap (λ l. after_op (spine_of x) (Seal l)) more in record {
       hub = sym (ap (λ (s : Spine). s.note.hub) to');
-      trimmed = λ t. subst IsTrimmed (sym to') (record { basis = t.basis; entries = t.entries });
+      trimmed = λ t. subst IsTrimmed (sym to') (record { basis = t.basis; accepted = t.accepted; entries = t.entries });
     }
 
 -- one seat's view is told to another

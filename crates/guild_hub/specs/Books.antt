@@ -25,3 +25,7 @@ Anything log = Unit {0}
 abbrev pub has_any : {E : Type 0} → List E → Bool
 has_any [] = false
 has_any (x ∷ xs) = true
+
+-- whatever number was found, the history has an item
+abbrev pub Stores : {E : Type 0} → Step E → View E ℕ → ℕ → View E ℕ → Type 0
+Stores s v found w = has_any w.0 ≡ true

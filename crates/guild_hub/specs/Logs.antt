@@ -52,6 +52,10 @@ abbrev pub accepted_from : Record → List Edit → ℕ
 accepted_from g [] = 0
 accepted_from g (edit ∷ edits) = cond (accepts g edit) 1 0 + accepted_from (after g edit) edits
 
+-- how many of the first n entries were accepted
+abbrev pub accepted_before : Published → ℕ → ℕ
+accepted_before log n = accepted_from (state log.hub.guild []) (take n log.entries)
+
 -- how many entries were accepted
 abbrev pub accepted : Published → ℕ
 accepted log = accepted_from (state log.hub.guild []) log.entries

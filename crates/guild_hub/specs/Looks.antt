@@ -11,6 +11,7 @@ use Rattle.guild_hub.specs.declared.reader.LookRefused.TheVariants.{Lagged, Memo
 pub record Steps (before after : Seeing) : Type 0 where
   pub log : GoesOn before.log after.log
   pub fits : Fits after.last after.log
+  pub mark : after.mark ≡ before.mark
   pub quit : before.quit ≡ true → after.quit ≡ true
 
 -- a look gives the entries of the log, as it was at its step, that follow what was seen; all of them are kept

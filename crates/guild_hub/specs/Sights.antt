@@ -1,6 +1,7 @@
 -- What a reader has seen since it last began from a record.
 use Rattle.std.specs.Prelude.{◌≡◌, ℕ, ◌+◌, ◌-◌, ◌≤◌, List, [], ◌++◌, Bool, take, drop, length}
 use Rattle.guild_model.specs.Record.{Record, closed}
+use Rattle.logbook.specs.Pages.{Book}
 use Rattle.edit_apply.specs.declared.Edit.{Edit}
 use Rattle.guild_hub.specs.Logs.{Hub, Published, record_after}
 
@@ -34,12 +35,21 @@ pub record Fits (s : Segment) (log : Published) : Type 0 where
 abbrev pub part_of : Published → ℕ → ℕ → Segment
 part_of log base cursor = segment base (record_after log base) (take (cursor - base) (drop base log.entries))
 
--- a reader: its last segment, the log as it was at its last step or as it was told since, and whether it
--- found that the writer has quit
+-- a mark by the name of its history, and whether its reader found that it is stored or was told so
+pub record Watching : Type 0 where
+  pub mark : Book
+  pub quit : Bool
+
+abbrev pub watching : Book → Bool → Watching
+watching mark quit = record { mark = mark; quit = quit }
+
+-- a reader: its last segment, the log as it was at its last step or as it was told since, the mark that its
+-- writer stores when it quits, and whether the reader found or was told that the writer has quit
 pub record Seeing : Type 0 where
   pub last : Segment
   pub log : Published
+  pub mark : Book
   pub quit : Bool
 
-abbrev pub seeing : Segment → Published → Bool → Seeing
-seeing last log quit = record { last = last; log = log; quit = quit }
+abbrev pub seeing : Segment → Published → Watching → Seeing
+seeing last log watch = record { last = last; log = log; mark = watch.mark; quit = watch.quit }

@@ -98,7 +98,7 @@ pub fn basis_of(shown: &Shown, alloc: Global, least: &Note) -> Result<Basis, All
     let entries = shared_from(alloc, &shown.entries, 0)?;
     Ok(Basis {
         note,
-        basis: shown.basis.copy(alloc)?,
+        basis: shown.front.record.copy(alloc)?,
         entries,
     })
 }

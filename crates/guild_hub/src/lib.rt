@@ -4,6 +4,7 @@
 
 mod entry;
 mod find;
+mod front;
 mod head;
 mod item;
 mod mark;
@@ -15,6 +16,7 @@ mod sealed;
 mod shown;
 mod writer;
 
+pub use mark::QuitNote;
 pub use new_hub::hub;
 pub use note::Note;
 pub use reader::{HubReader, LookRefused, Looked, Rebased};

@@ -3,6 +3,7 @@
 ghost use Rattle.std.specs.Prelude.{◌≡◌, [], true, false, IfOk};
 ghost use Rattle.std.specs.Arc.{arc_value};
 ghost use Rattle.guild_hub.specs.Books.{counter_of};
+ghost use Rattle.guild_hub.specs.Sights.{watching};
 
 use logbook::{Gain, Offer, Plain, Play, Rule, Seen, Start, Word};
 use std::alloc::{AllocError, Global};
@@ -57,9 +58,9 @@ impl Plain<Quit, Quit, u64> for Asking {
 pub struct Storing;
 
 impl Play<Quit, u64> for Storing {
-    ghost use Rattle.guild_hub.specs.Books.{Adds, Anything};
+    ghost use Rattle.guild_hub.specs.Books.{Stores};
 
-    ghost then = { λ s v found w. Adds Anything s v found w };
+    ghost then = { Stores };
 }
 
 /// The step that loads the mark.
@@ -95,7 +96,7 @@ impl Mark {
 
     /// A reader's end, which has not found the mark.
     pub fn watch(&self) -> Result<Watch, AllocError>
-        ensures { IfOk result (λ w. w ≡ false) }
+        ensures { IfOk result (λ w. w ≡ watching self.now.seen.book false) }
     {
         Ok(Watch {
             word: Arc::try_clone(&self.word)?,
@@ -104,8 +105,10 @@ impl Mark {
         })
     }
 
-    /// Stores the mark. It takes no memory.
-    pub fn store(&self) {
+    /// Stores the mark. It does not allocate.
+    pub fn store(&self) -> QuitNote
+        ensures { result ≡ self.now.seen.book }
+    {
         let mut seen = self.seen.again();
         let mut offer: Offer<Quit, u64, Quitting, NoGain> = seen.plain::<NoGain, Quit, Asking>(
             &Quit,
@@ -113,10 +116,30 @@ impl Mark {
         let mut pen = seen.no_pen();
         let word: &MarkWord = &self.word;
         word.compare_exchange::<Storing, NoGain>(0, 1, &mut seen, &mut offer, &mut pen);
+        QuitNote { seen }
     }
 }
 
-/// A reader's end of a mark. A clause sees whether it has found that the writer has quit.
+/// That the writer of a hub has quit. It takes no room. A clause sees which mark the writer stored.
+#[derive(Drop)]
+pub struct QuitNote {
+    seen: Seen<Quit, u64, Quitting>,
+}
+
+impl Model for QuitNote {
+    ghost use Rattle.std.specs.Prelude.{◌≡◌, true};
+    ghost use Rattle.logbook.specs.Pages.{Book};
+    ghost use Rattle.guild_hub.specs.Books.{has_any};
+
+    ghost Value = { Book };
+
+    ghost view = { λ n. n.seen.book };
+
+    ghost invariant = { λ n. has_any n.seen.log ≡ true };
+}
+
+/// A reader's end of a mark. A clause sees which mark it is, and whether the reader has found it or was
+/// told of it.
 #[derive(Drop)]
 pub struct Watch {
     word: Arc<MarkWord>,
@@ -125,22 +148,33 @@ pub struct Watch {
 }
 
 impl Model for Watch {
-    ghost use Rattle.std.specs.Prelude.{◌≡◌, Bool};
+    ghost use Rattle.std.specs.Prelude.{◌≡◌};
     ghost use Rattle.std.specs.Arc.{arc_value};
     ghost use Rattle.guild_hub.specs.Books.{counter_of, has_any};
+    ghost use Rattle.guild_hub.specs.Sights.{Watching, watching};
 
-    ghost Value = { Bool };
+    ghost Value = { Watching };
 
-    ghost view = { λ w. has_any w.seen.log };
+    ghost view = { λ w. watching w.seen.book (has_any w.seen.log) };
 
     ghost invariant = { λ w. (arc_value w.word ≡ counter_of w.seen.book) × (w.found ≡ has_any w.seen.log) };
 }
 
 impl Watch {
-    /// Whether the writer had quit at a step of this call. It waits for nobody, and takes no memory.
+    /// Takes in that the writer has quit. It does not allocate.
+    pub fn learn(&mut self, note: &QuitNote)
+        requires { note.now ≡ self.old.mark }
+        ensures { self.new ≡ watching self.old.mark true }
+    {
+        self.seen.learn(&note.seen);
+        self.found = true;
+    }
+
+    /// Whether the writer had quit at a step of this call. It waits for nobody, and does not allocate.
     pub fn look(&mut self) -> bool
-        ensures found { result ≡ self.new }
-        ensures stays { self.old ≡ true → self.new ≡ true }
+        ensures same { self.new.mark ≡ self.old.mark }
+        ensures found { result ≡ self.new.quit }
+        ensures stays { self.old.quit ≡ true → self.new.quit ≡ true }
     {
         let mut offer: Offer<Quit, u64, Quitting, NoGain> = self
             .seen

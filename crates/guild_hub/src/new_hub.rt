@@ -2,11 +2,13 @@
 
 ghost use Rattle.std.specs.Prelude.{◌≡◌, ◌≤◌, [], false, replicate, drop, IfOk};
 ghost use Rattle.guild_model.specs.Record.{closed};
-ghost use Rattle.guild_hub.specs.Sights.{seeing, unseen};
+ghost use Rattle.guild_hub.specs.Sights.{seeing, unseen, watching};
 ghost use Rattle.guild_hub.specs.Writes.{Opens, publishing};
+ghost use Rattle.guild_hub.specs.Trims.{spine_of, IsTrimmed};
 ghost use Rattle.guild_hub.specs.Rules.{knows};
 ghost use Rattle.left_right.specs.Sides.{view};
 
+use crate::front::Front;
 use crate::head::Head;
 use crate::mark::Mark;
 use crate::note::Note;
@@ -23,10 +25,13 @@ use std::sync::Wait;
 
 // What a hub of an empty log shows.
 fn empty(alloc: Global, guild: Snowflake, note: Note) -> Shown
-    ensures { (result.basis ≡ closed guild) × (result.entries.items ≡ []) × (result.note ≡ note) }
+    ensures { (result.front.record ≡ closed guild) × (result.front.accepted ≡ 0) × (result.entries.items ≡ []) × (result.note ≡ note) }
 {
     Shown {
-        basis: Guild::closed(alloc, guild),
+        front: Front {
+            record: Guild::closed(alloc, guild),
+            accepted: 0,
+        },
         entries: VecDeque::new(alloc),
         note,
         alloc,
@@ -43,7 +48,7 @@ fn readers_of(
 ) -> Result<Vec<HubReader>, AllocError>
     requires { view writer.old.desk.place ≡ knows note.now.hub }
     ensures same { (writer.new.desk.shown ≡ writer.old.desk.shown) × (drop writer.new.behind writer.new.log.items ≡ drop writer.old.behind writer.old.log.items) }
-    ensures unseen { IfOk result (λ readers. readers.items ≡ replicate places (seeing (unseen note.now.hub) note.now false)) }
+    ensures unseen { IfOk result (λ readers. readers.items ≡ replicate places (seeing (unseen note.now.hub) note.now (watching mark.now.seen.book false))) }
 {
     let mut readers = Vec::new(alloc);
     for _ in 0..places {
@@ -65,8 +70,8 @@ fn open_ends<R: Wait>(
 ) -> (LogWriter, Result<Vec<HubReader>, AllocError>)
     requires none { drop writer.behind writer.log.items ≡ [] }
     requires note { writer.desk.shown.value.note ≡ note.now }
-    ensures shown { IfOk result.1 (λ _. (result.0.desk.shown.value.note ≡ note.now) × (drop result.0.behind result.0.log.items ≡ [])) }
-    ensures unseen { IfOk result.1 (λ readers. readers.items ≡ replicate places (seeing (unseen note.now.hub) note.now false)) }
+    ensures shown { IfOk result.1 (λ _. (result.0.desk.shown.value.note ≡ note.now) × IsTrimmed (spine_of result.0.desk.shown.value) × (drop result.0.behind result.0.log.items ≡ [])) }
+    ensures unseen { IfOk result.1 (λ readers. readers.items ≡ replicate places (seeing (unseen note.now.hub) note.now (watching mark.now.seen.book false))) }
 {
     let (mut writer, begun) = ruled::begin(rt, writer);
     if let Err(error) = begun {
@@ -96,20 +101,17 @@ fn open_log(
 fn ends_of<R: Wait + Drop>(
     rt: R,
     alloc: Global,
-    guild: Snowflake,
     head: Head,
     writer: LogWriter,
     mark: Mark,
     readers: Vec<HubReader>,
 ) -> (HubWriter<R>, Vec<HubReader>)
-    requires guild { head.note.hub.guild ≡ guild }
     requires empty { (head.note.entries ≡ []) × (head.note.sealed ≡ false) }
-    requires shown { (writer.desk.shown.value.note ≡ head.note) × (drop writer.behind writer.log.items ≡ []) }
-    ensures writer { result.0 ≡ publishing head.note false }
+    requires shown { (writer.desk.shown.value.note ≡ head.note) × IsTrimmed (spine_of writer.desk.shown.value) × (drop writer.behind writer.log.items ≡ []) }
+    ensures writer { result.0 ≡ publishing head.note mark.seen.book false }
     ensures readers { result.1.items ≡ readers.items }
 {
-    let front = Guild::closed(alloc, guild);
-    let writer = HubWriter::of(rt, alloc, head, front, writer, mark);
+    let writer = HubWriter::of(rt, alloc, head, writer, mark);
     (writer, readers)
 }
 
@@ -131,7 +133,7 @@ pub fn hub<R: Wait + Drop>(
     let writer = open_log(alloc, guild, &head.note, places)?;
     let (writer, readers) = open_ends(&rt, alloc, writer, &head.note, &mark, places);
     match readers {
-        Ok(readers) => Ok(ends_of(rt, alloc, guild, head, writer, mark, readers)),
+        Ok(readers) => Ok(ends_of(rt, alloc, head, writer, mark, readers)),
         Err(error) => {
             drop(writer.take(&rt));
             Err(error)

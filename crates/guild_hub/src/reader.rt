@@ -8,7 +8,7 @@ ghost use Rattle.guild_hub.specs.Rules.{knows};
 ghost use Rattle.left_right.specs.Sides.{view};
 
 use crate::find::{Basis, Found, copies};
-use crate::mark::Watch;
+use crate::mark::{QuitNote, Watch};
 use crate::note::Note;
 use crate::ruled;
 use crate::ruled::LogReader;
@@ -103,9 +103,18 @@ impl HubReader {
         requires { note.now.hub ≡ self.old.log.hub }
         ensures told { GoesOn note.now self.new.log }
         ensures later { GoesOn self.old.log self.new.log }
-        ensures same { (self.new.last ≡ self.old.last) × (self.new.quit ≡ self.old.quit) }
+        ensures same { (self.new.last ≡ self.old.last) × (self.new.mark ≡ self.old.mark) × (self.new.quit ≡ self.old.quit) }
     {
         self.note = self.note.later(note);
+    }
+
+    /// Takes in that the writer has quit: from now on each look that succeeds tells so. It does not
+    /// allocate.
+    pub fn learn_quit(&mut self, note: &QuitNote)
+        requires { note.now ≡ self.old.mark }
+        ensures { self.new ≡ record self.old { quit = true } }
+    {
+        self.watch.learn(note);
     }
 
     /// Gives the entries after the cursor, and moves the cursor past them. It answers `Lagged` exactly if

@@ -77,7 +77,7 @@ pub fn open(alloc: Global, first: Shown, second: Shown, places: u8) -> Result<Lo
 /// Shows what is shown once more, so that the writer's seat knows its hub.
 pub fn begin<R: Wait>(rt: &R, writer: LogWriter) -> (LogWriter, Result<(), AllocError>)
     requires { drop writer.behind writer.log.items ≡ [] }
-    ensures { IfOk result.1 (λ _. (view result.0.desk.place ≡ knows result.0.desk.shown.value.note.hub) × (spine_of result.0.desk.shown.value ≡ spine_of writer.desk.shown.value) × (drop result.0.behind result.0.log.items ≡ [])) }
+    ensures { IfOk result.1 (λ _. (view result.0.desk.place ≡ knows result.0.desk.shown.value.note.hub) × (spine_of result.0.desk.shown.value ≡ spine_of writer.desk.shown.value) × IsTrimmed (spine_of result.0.desk.shown.value) × (drop result.0.behind result.0.log.items ≡ [])) }
 {
     writer.publish_as::<See, R>(rt)
 }
@@ -106,7 +106,7 @@ pub fn publish<R: Wait>(
 ) -> (LogWriter, Result<(), AllocError>)
     requires none { drop writer.behind writer.log.items ≡ [] }
     requires note { with.2 ≡ with_entry writer.desk.shown.value.note with.1 }
-    ensures { IfOk result.1 (λ _. (result.0.desk.shown.value.note ≡ with.entry.2) × (drop result.0.behind result.0.log.items ≡ [])) }
+    ensures { IfOk result.1 (λ _. (result.0.desk.shown.value.note ≡ with.entry.2) × IsTrimmed (spine_of result.0.desk.shown.value) × (drop result.0.behind result.0.log.items ≡ [])) }
 {
     let (rt, entry, note) = with;
     let mut writer = writer;

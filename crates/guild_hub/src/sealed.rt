@@ -3,6 +3,7 @@
 ghost use Rattle.std.specs.Prelude.{◌≡◌, length, true};
 ghost use Rattle.guild_hub.specs.Logs.{whole_record, accepted as accepted_in};
 
+use crate::front::Front;
 use crate::note::Note;
 use crate::ruled::LogWriter;
 use guild_model::Guild;
@@ -15,8 +16,7 @@ use std::sync::Wait;
 pub struct SealedLog<R: Wait + Drop> {
     rt: R,
     note: Note,
-    front: Guild,
-    accepted: u64,
+    front: Front,
     writer: LogWriter,
 }
 
@@ -28,7 +28,7 @@ impl<R: Wait + Drop> Model for SealedLog<R> {
 
     ghost view = { λ s. s.note };
 
-    ghost invariant = { λ s. (s.note.sealed ≡ true) × (s.front ≡ whole_record s.note) × (s.accepted ≡ accepted_in s.note) };
+    ghost invariant = { λ s. (s.note.sealed ≡ true) × (s.front.record ≡ whole_record s.note) × (s.front.accepted ≡ accepted_in s.note) };
 }
 
 impl<R: Wait + Drop> Drop for SealedLog<R> {
@@ -37,7 +37,6 @@ impl<R: Wait + Drop> Drop for SealedLog<R> {
             rt,
             note: _note,
             front: _front,
-            accepted: _,
             writer,
         } = self;
         drop(writer.take(&rt));
@@ -46,23 +45,15 @@ impl<R: Wait + Drop> Drop for SealedLog<R> {
 
 impl<R: Wait + Drop> SealedLog<R> {
     // A log whose seal is published.
-    pub(crate) fn of(
-        rt: R,
-        note: Note,
-        front: Guild,
-        accepted: u64,
-        writer: LogWriter,
-    ) -> SealedLog<R>
+    pub(crate) fn of(rt: R, note: Note, front: Front, writer: LogWriter) -> SealedLog<R>
         requires sealed { note.sealed ≡ true }
-        requires record { front ≡ whole_record note }
-        requires accepted { accepted ≡ accepted_in note }
+        requires front { (front.record ≡ whole_record note) × (front.accepted ≡ accepted_in note) }
         ensures { result ≡ note }
     {
         SealedLog {
             rt,
             note,
             front,
-            accepted,
             writer,
         }
     }
@@ -85,14 +76,14 @@ impl<R: Wait + Drop> SealedLog<R> {
     pub fn accepted(&self) -> u64
         ensures { result ≡ accepted_in self.now }
     {
-        self.accepted
+        self.front.accepted
     }
 
     /// The record after all entries. It takes no memory.
     pub fn record(&self) -> &Guild
         ensures { result.now ≡ whole_record self.now }
     {
-        &self.front
+        &self.front.record
     }
 }
 

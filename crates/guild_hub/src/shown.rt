@@ -1,11 +1,13 @@
 //! What a hub shows its readers, and how an operation of the writer changes it.
 
-ghost use Rattle.std.specs.Prelude.{◌≡◌, ◌<◌, length, MatchResult, OnOk, OnErr, drop, take};
+ghost use Rattle.std.specs.Prelude.{◌≡◌, ◌<◌, ◌+◌, length, MatchResult, OnOk, OnErr, drop, take};
 ghost use Rattle.guild_hub.specs.Trims.{spine_of, pushed, over};
 ghost use Rattle.std.specs.VecDeque.{deque_len, deque_capacity};
 ghost use Rattle.edit_apply.specs.Edits.{state_from};
+ghost use Rattle.guild_hub.specs.Logs.{accepted_from};
 
 use crate::entry::Entry;
+use crate::front::Front;
 use crate::note::Note;
 use edit_apply::Edit;
 use guild_model::Guild;
@@ -16,11 +18,11 @@ use std::collections::{LinkedList, VecDeque};
 /// The number of entries that a hub keeps.
 pub const KEPT: usize = 4096;
 
-/// What readers look at: the record after the entries that are no longer kept, the entries that are,
-/// and a note of the whole log.
+/// What readers look at: the record after the entries that are no longer kept, how many of these were
+/// accepted, the entries that are kept, and a note of the whole log.
 #[derive(Drop)]
 pub struct Shown {
-    pub basis: Guild,
+    pub front: Front,
     pub entries: VecDeque<Entry>,
     pub note: Note,
     pub alloc: Global,
@@ -38,6 +40,7 @@ pub enum Op {
 /// What both copies have in common. No value of it is made.
 pub struct Spine {
     pub basis: Guild,
+    pub accepted: u64,
     pub entries: LinkedList<Edit>,
     pub note: Note,
 }
@@ -60,6 +63,20 @@ impl Absorb<Op> for Shown {
             }
         }
     }
+
+    fn absorb_second(&mut self, operation: Op, _other: &Shown) -> Result<(), Op> {
+        match operation {
+            Op::Add(entry, note) => {
+                if self.make_room().is_err() {
+                    return Err(Op::Add(entry, note));
+                }
+                self.entries.push_back_reserved(entry);
+                self.note = note;
+            }
+            Op::Seal(note) => self.note = note,
+        }
+        Ok(())
+    }
 }
 
 impl Shown {
@@ -79,7 +96,7 @@ impl Shown {
     fn make_room(&mut self) -> Result<(), AllocError>
         ensures room { OnOk result (deque_len self.new.entries < deque_capacity self.new.entries) }
         ensures note { self.new.note ≡ self.old.note }
-        ensures moved { OnOk result ((self.new.basis ≡ state_from self.old.basis (take (over (length self.old.entries.items)) self.old.entries.items)) × (self.new.entries.items ≡ drop (over (length self.old.entries.items)) self.old.entries.items)) }
+        ensures moved { OnOk result ((self.new.front.record ≡ state_from self.old.front.record (take (over (length self.old.entries.items)) self.old.entries.items)) × (self.new.front.accepted ≡ self.old.front.accepted + accepted_from self.old.front.record (take (over (length self.old.entries.items)) self.old.entries.items)) × (self.new.entries.items ≡ drop (over (length self.old.entries.items)) self.old.entries.items)) }
         ensures kept { OnErr result (spine_of self.new ≡ spine_of self.old) }
     {
         self.entries.reserve(1)?;
@@ -93,12 +110,11 @@ impl Shown {
     fn trim(&mut self) -> Result<(), AllocError>
         requires { 0 < length self.old.entries.items }
         ensures same { self.new.note ≡ self.old.note }
-        ensures moved { OnOk result ((self.new.basis ≡ state_from self.old.basis (take 1 self.old.entries.items)) × (self.new.entries.items ≡ drop 1 self.old.entries.items)) }
+        ensures moved { OnOk result ((self.new.front.record ≡ state_from self.old.front.record (take 1 self.old.entries.items)) × (self.new.front.accepted ≡ self.old.front.accepted + accepted_from self.old.front.record (take 1 self.old.entries.items)) × (self.new.entries.items ≡ drop 1 self.old.entries.items)) }
         ensures kept { OnErr result (self.new ≡ self.old) }
         ensures room { deque_len self.old.entries < deque_capacity self.old.entries → deque_len self.new.entries < deque_capacity self.new.entries }
     {
-        let edit = self.entries[0].copy(self.alloc)?;
-        let _verdict = edit_apply::apply(self.alloc, &mut self.basis, edit)?;
+        self.front.add(self.alloc, &self.entries[0])?;
         self.entries.pop_front();
         Ok(())
     }

@@ -1,20 +1,20 @@
 //! The writer of a hub's log.
 
-ghost use Rattle.std.specs.Prelude.{◌≡◌, ◌<◌, ◌+◌, ◌-◌, ◌^◌, cond, is_ok, true, false, [], drop, length, IfOk, IfErr, MatchResult};
-ghost use Rattle.guild_hub.specs.Logs.{with_entry, with_seal};
-ghost use Rattle.guild_model.specs.Record.{closed};
+ghost use Rattle.std.specs.Prelude.{◌≡◌, ◌<◌, ◌-◌, ◌^◌, true, false, [], drop, length, IfOk, IfErr, MatchResult};
+ghost use Rattle.guild_hub.specs.Logs.{with_entry, with_seal, whole_record, accepted as accepted_in};
+ghost use Rattle.guild_hub.specs.Trims.{spine_of, IsTrimmed};
 ghost use Rattle.guild_hub.specs.Writes.{Refuses, publishing};
 
 use crate::entry::Entry;
+use crate::front::{self, Front};
 use crate::head::Head;
-use crate::mark::Mark;
+use crate::mark::{Mark, QuitNote};
 use crate::note::Note;
 use crate::ruled;
 use crate::ruled::LogWriter;
 use crate::sealed::{SealedLog, leave_to_readers};
 use core::mem::replace_with;
 use edit_apply::Edit;
-use guild_model::{Guild, Verdict};
 use std::alloc::{AllocError, Global};
 use std::marker::Model;
 use std::sync::Wait;
@@ -37,8 +37,6 @@ pub struct HubWriter<R: Wait + Drop> {
     alloc: Global,
     head: Head,
     note: Note,
-    front: Guild,
-    accepted: u64,
     writer: LogWriter,
     mark: Mark,
     spent: bool,
@@ -46,24 +44,39 @@ pub struct HubWriter<R: Wait + Drop> {
 
 impl<R: Wait + Drop> Model for HubWriter<R> {
     ghost use Rattle.std.specs.Prelude.{◌≡◌, ◌≤◌, ◌-◌, ◌^◌, [], length, drop, false};
-    ghost use Rattle.guild_hub.specs.Logs.{whole_record, accepted as accepted_in};
+    ghost use Rattle.guild_hub.specs.Trims.{spine_of, IsTrimmed};
     ghost use Rattle.guild_hub.specs.Writes.{Publishing, publishing};
 
     ghost Value = { Publishing };
 
-    ghost view = { λ w. publishing w.note w.spent };
+    ghost view = { λ w. publishing w.note w.mark.seen.book w.spent };
 
-    ghost invariant = { λ w. (w.note.sealed ≡ false) × (length w.note.entries ≤ 2 ^ 53 - 1) × (w.spent ≡ false → (w.head.note ≡ w.note) × (w.front ≡ whole_record w.note) × (w.accepted ≡ accepted_in w.note) × (w.writer.desk.shown.value.note ≡ w.note) × (drop w.writer.behind w.writer.log.items ≡ [])) };
+    ghost invariant = { λ w. (w.note.sealed ≡ false) × (length w.note.entries ≤ 2 ^ 53 - 1) × (w.spent ≡ false → (w.head.note ≡ w.note) × (w.writer.desk.shown.value.note ≡ w.note) × IsTrimmed (spine_of w.writer.desk.shown.value) × (drop w.writer.behind w.writer.log.items ≡ [])) };
 }
 
-// The number of accepted entries with one entry more.
-fn counted(accepted: u64, verdict: Result<(), Verdict>) -> u64
-    requires { accepted < 2 ^ 60 }
-    ensures { result ≡ accepted + cond (is_ok verdict) 1 0 }
+// Seals the log that is shown, and gives what its entries come to.
+fn seal_log<R: Wait>(
+    rt: &R,
+    alloc: Global,
+    head: &mut Head,
+    writer: LogWriter,
+) -> (LogWriter, Result<Front, AllocError>)
+    requires unsealed { (head.old.note.sealed ≡ false) × (length head.old.note.entries < 2 ^ 60) }
+    requires shown { (writer.desk.shown.value.note ≡ head.old.note) × IsTrimmed (spine_of writer.desk.shown.value) × (drop writer.behind writer.log.items ≡ []) }
+    ensures sealed { IfOk result.1 (λ _. head.new.note ≡ with_seal head.old.note) }
+    ensures front { IfOk result.1 (λ front. (front.record ≡ whole_record head.old.note) × (front.accepted ≡ accepted_in head.old.note)) }
 {
-    match verdict {
-        Ok(()) => accepted + 1,
-        Err(_) => accepted,
+    let front = match front::front_of(writer.published(), alloc) {
+        Ok(front) => front,
+        Err(error) => return (writer, Err(error)),
+    };
+    if !head.seal() {
+        return (writer, Err(AllocError));
+    }
+    let (writer, sealed) = ruled::seal(writer, (rt, head.note.again()));
+    match sealed {
+        Ok(()) => (writer, Ok(front)),
+        Err(error) => (writer, Err(error)),
     }
 }
 
@@ -73,13 +86,12 @@ impl<R: Wait + Drop> HubWriter<R> {
         rt: R,
         alloc: Global,
         head: Head,
-        front: Guild,
         writer: LogWriter,
         mark: Mark,
     ) -> HubWriter<R>
-        requires empty { (head.note.entries ≡ []) × (head.note.sealed ≡ false) × (front ≡ closed head.note.hub.guild) }
-        requires shown { (writer.desk.shown.value.note ≡ head.note) × (drop writer.behind writer.log.items ≡ []) }
-        ensures { result ≡ publishing head.note false }
+        requires empty { (head.note.entries ≡ []) × (head.note.sealed ≡ false) }
+        requires shown { (writer.desk.shown.value.note ≡ head.note) × IsTrimmed (spine_of writer.desk.shown.value) × (drop writer.behind writer.log.items ≡ []) }
+        ensures { result ≡ publishing head.note mark.seen.book false }
     {
         let note = head.note.again();
         HubWriter {
@@ -87,8 +99,6 @@ impl<R: Wait + Drop> HubWriter<R> {
             alloc,
             head,
             note,
-            front,
-            accepted: 0,
             writer,
             mark,
             spent: false,
@@ -109,15 +119,13 @@ impl<R: Wait + Drop> HubWriter<R> {
         self.note.again()
     }
 
-    // Adds an entry to the record, to the history and to what is shown. On an `Err` the writer is spent.
+    // Adds an entry to the history and to what is shown. On an `Err` the writer is spent.
     fn add(&mut self, edit: &Edit) -> Result<(), AllocError>
         requires { (self.old.spent ≡ false) × (length self.old.log.entries < 2 ^ 53 - 1) }
-        ensures { MatchResult result (λ _. self.new ≡ publishing (with_entry self.old.log edit.now) false) (λ _. self.new ≡ publishing self.old.log true) }
+        ensures { MatchResult result (λ _. self.new ≡ publishing (with_entry self.old.log edit.now) self.old.mark false) (λ _. self.new ≡ publishing self.old.log self.old.mark true) }
     {
         self.spent = true;
         let entry = Entry::new(self.alloc, edit.copy(self.alloc)?)?;
-        let copy = edit.copy(self.alloc)?;
-        let verdict = edit_apply::apply(self.alloc, &mut self.front, copy)?;
         if !self.head.add(edit) {
             return Err(AllocError);
         }
@@ -127,7 +135,6 @@ impl<R: Wait + Drop> HubWriter<R> {
             (&self.rt, entry, note.again()),
             ruled::publish,
         )?;
-        self.accepted = counted(self.accepted, verdict);
         self.note = note;
         self.spent = false;
         Ok(())
@@ -138,7 +145,7 @@ impl<R: Wait + Drop> HubWriter<R> {
     /// waits for readers that are in a look.
     pub fn publish(&mut self, edit: Edit) -> Result<(), (Edit, HubRefused)>
         requires { self.old.spent ≡ false }
-        ensures ok { IfOk result (λ _. (self.new ≡ publishing (with_entry self.old.log edit) false) × (length self.old.log.entries < 2 ^ 53 - 1)) }
+        ensures ok { IfOk result (λ _. (self.new ≡ publishing (with_entry self.old.log edit) self.old.mark false) × (length self.old.log.entries < 2 ^ 53 - 1)) }
         ensures err { IfErr result (λ e. (e.0 ≡ edit) × Refuses self.old self.new e.1) }
     {
         if self.note.len() >= MOST {
@@ -154,63 +161,57 @@ impl<R: Wait + Drop> HubWriter<R> {
     /// readers that are in a look.
     pub fn seal(self) -> Result<SealedLog<R>, (HubWriter<R>, AllocError)>
         requires { self.spent ≡ false }
-        ensures { MatchResult result (λ sealed. sealed ≡ with_seal self.log) (λ e. e.0 ≡ publishing self.log true) }
+        ensures { MatchResult result (λ sealed. sealed ≡ with_seal self.log) (λ e. e.0 ≡ publishing self.log self.mark true) }
     {
         let HubWriter {
             rt,
             alloc,
             mut head,
             note,
-            front,
-            accepted,
-            mut writer,
+            writer,
             mark,
             spent: _,
         } = self;
-        let mut sealed = head.seal();
-        if sealed {
-            let (next, result) = ruled::seal(writer, (&rt, head.note.again()));
-            writer = next;
-            sealed = result.is_ok();
+        let (writer, sealed) = seal_log(&rt, alloc, &mut head, writer);
+        match sealed {
+            Ok(front) => Ok(SealedLog::of(rt, head.note, front, writer)),
+            Err(error) => {
+                let writer = HubWriter {
+                    rt,
+                    alloc,
+                    head,
+                    note,
+                    writer,
+                    mark,
+                    spent: true,
+                };
+                Err((writer, error))
+            }
         }
-        if sealed {
-            return Ok(SealedLog::of(rt, head.note, front, accepted, writer));
-        }
-        let writer = HubWriter {
-            rt,
-            alloc,
-            head,
-            note,
-            front,
-            accepted,
-            writer,
-            mark,
-            spent: true,
-        };
-        Err((writer, AllocError))
     }
 
     /// Ends the log without a seal, which readers then find. They may still look at it, so that its
-    /// memory is never given back. It takes no memory.
-    pub fn quit(self) {
+    /// memory is never given back. It does not allocate.
+    pub fn quit(self) -> QuitNote
+        ensures { result ≡ self.mark }
+    {
         let HubWriter {
             rt,
             alloc: _,
             head: _head,
             note: _note,
-            front: _front,
-            accepted: _,
             writer,
             mark,
             spent: _,
         } = self;
-        mark.store();
+        let note = mark.store();
         leave_to_readers(rt, writer);
+        note
     }
 }
 
 impl<R: Wait + Drop> Drop for HubWriter<R> {
     fn drop(self) {
-        self.quit();
+        let _note = self.quit();
     }
 }

@@ -1,6 +1,6 @@
 use Rattle.std.proofs.Common.{◌≡◌, sym, ◌∙◌, ap, refl}
-use Rattle.guild_hub.specs.Books.{Anything, counter_of}
-use Rattle.guild_hub.proofs.Stepping.{adds_moves}
+use Rattle.guild_hub.specs.Books.{counter_of}
+use Rattle.guild_hub.proofs.Stepping.{stores_moves}
 use Rattle.guild_hub.proofs.mark.Mark.store.Goals as goal
 
 pub compare_exchange-requires : goal.compare_exchange-requires
@@ -13,5 +13,5 @@ compare_exchange-requires c =
       ap (λ s. s.book) seen ∙ sym (ap (λ w. w.book) is),
       pen.0 ∙ (ap (λ s. s.book) seen ∙ sym (ap (λ w. w.book) is)),
       offer.0,
-      rw (ap (λ w. w.key) is, pen.1, offer.1) (adds_moves Anything c.plain-offer.result.state c.again-seen.result.log _ 0 (rw (seen, c.args.self.now.unset) refl) tt),
+      rw (ap (λ w. w.key) is, pen.1) (stores_moves c.plain-offer.result.state c.again-seen.result.log c.plain-offer.result.ask),
     )

@@ -11,6 +11,6 @@ returns-clause-ok c =
     let same : c.in-Ok-copies.entries.items ≡ c.in-Some.entries.items = c.in-Ok-copies.ensures ∙ c.deref.ensures.value in
     let found : FindsEntries c.self.inside.cursor c.in-Ok.found.note c.in-Ok-copies.entries.items = subst (FindsEntries c.self.inside.cursor c.in-Ok.found.note) (sym same) kept in
     let len : c.len-self-inside.result ≡ length c.in-Ok.found.note.entries = c.len-self-inside.ensures in
-    let stays : c.self.inside.watch ≡ true → c.look-quit.new.self ≡ true = c.look-quit.ensures.stays in
+    let stays : c.self.inside.watch.quit ≡ true → c.look-quit.new.self.quit ≡ true = c.look-quit.ensures.stays in
     rw (← c.self.view_is, len)
-    (looks c.self.inside.note c.in-Ok.found.note c.self.inside.base c.self.inside.cursor c.self.inside.watch c.look-quit.new.self _ later c.self.invariant.0 c.self.invariant.1 found c.is_sealed-sealed.ensures c.look-quit.ensures.found stays)
+    (looks c.self.inside.note c.in-Ok.found.note c.self.inside.base c.self.inside.cursor c.self.inside.watch c.look-quit.new.self _ later c.self.invariant.0 c.self.invariant.1 found c.is_sealed-sealed.ensures c.look-quit.ensures.found c.look-quit.ensures.same stays)

@@ -1,0 +1,53 @@
+//! What the first entries of a log come to.
+
+ghost use Rattle.std.specs.Prelude.{◌≡◌, ◌+◌, cond, drop, IfOk, OnOk, OnErr};
+ghost use Rattle.edit_apply.specs.Edits.{accepts, after};
+ghost use Rattle.guild_hub.specs.Logs.{whole_record, accepted as accepted_in};
+ghost use Rattle.guild_hub.specs.Trims.{spine_of, IsTrimmed};
+
+use crate::entry::Entry;
+use crate::shown::Shown;
+use guild_model::Guild;
+use std::alloc::{AllocError, Global};
+
+/// The record after the first entries of a log, and how many of them were accepted.
+#[derive(Drop)]
+pub struct Front {
+    pub record: Guild,
+    pub accepted: u64,
+}
+
+impl Front {
+    /// Adds the entry that follows. An `Err` changes nothing.
+    pub fn add(&mut self, alloc: Global, entry: &Entry) -> Result<(), AllocError>
+        ensures record { OnOk result (self.new.record ≡ after self.old.record entry.now) }
+        ensures accepted { OnOk result (self.new.accepted ≡ self.old.accepted + cond (accepts self.old.record entry.now) 1 0) }
+        ensures kept { OnErr result (self.new ≡ self.old) }
+    {
+        let Some(more) = self.accepted.checked_add(1) else {
+            return Err(AllocError);
+        };
+        let edit = entry.copy(alloc)?;
+        let verdict = edit_apply::apply(alloc, &mut self.record, edit)?;
+        if verdict.is_ok() {
+            self.accepted = more;
+        }
+        Ok(())
+    }
+}
+
+/// What all entries of a log come to, out of what is shown of it.
+pub fn front_of(shown: &Shown, alloc: Global) -> Result<Front, AllocError>
+    requires { IsTrimmed (spine_of shown.now) }
+    ensures record { IfOk result (λ front. front.record ≡ whole_record shown.now.note) }
+    ensures accepted { IfOk result (λ front. front.accepted ≡ accepted_in shown.now.note) }
+{
+    let mut front = Front {
+        record: shown.front.record.copy(alloc)?,
+        accepted: shown.front.accepted,
+    };
+    for place in 0..shown.entries.len() {
+        front.add(alloc, &shown.entries[place])?;
+    }
+    Ok(front)
+}
