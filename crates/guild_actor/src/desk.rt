@@ -63,6 +63,7 @@ impl<R: Wait + Drop> Desk<R> {
         ensures err { OnErr result (logs_of self.new.writers ≡ logs_of self.old.writers) }
     {
         let Some(place) = index::place_of(&self.index, request.guild) else {
+            drop(request);
             self.strays = self.strays.saturating_add(1);
             return Ok(());
         };

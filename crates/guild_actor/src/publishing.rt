@@ -18,8 +18,13 @@ fn outcome(published: Result<(), (Edit, HubRefused)>) -> Result<bool, AllocError
 {
     match published {
         Ok(()) => Ok(true),
-        Err((_, HubRefused::Full)) => Ok(false),
-        Err((_, HubRefused::Memory)) => Err(AllocError),
+        Err((edit, refused)) => {
+            drop(edit);
+            match refused {
+                HubRefused::Full => Ok(false),
+                HubRefused::Memory => Err(AllocError),
+            }
+        }
     }
 }
 
