@@ -1,0 +1,6 @@
+pub mod Edits
+pub mod Counts
+pub mod Places
+pub mod Writers
+pub mod Delivery
+pub mod OneEdit

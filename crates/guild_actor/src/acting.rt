@@ -1,0 +1,91 @@
+//! The actor: it publishes what it takes, and then seals every log.
+
+ghost use Rattle.std.specs.Prelude.{◌≡◌, ◌++◌, ◌∷◌, [], List, ℕ, map, OnOk, OnErr, IfOk};
+ghost use Rattle.edit_post.specs.declared.request.Request.{Request};
+ghost use Rattle.edit_post.specs.Merge.{Merge};
+ghost use Rattle.edit_post.specs.Post.{HasEnded, ended_lists};
+ghost use Rattle.guild_actor.specs.Acts.{AreDistinct, AreNew, guilds_of, edits_of, sealed_log, strays_of, full_of, counted};
+ghost use Rattle.guild_actor.specs.Desks.{held_after, logs_of};
+
+use crate::desk::Desk;
+use crate::report::ActReport;
+use crate::seals;
+use edit_post::{Post, TakePass};
+use guild_hub::HubWriter;
+use snowflake_id::Snowflake;
+use std::alloc::{AllocError, Global};
+use std::sync::Wait;
+use std::thread;
+use std::time::{Clock, Duration};
+
+// For so many milliseconds an actor rests that finds nothing to take.
+const REST_MS: u64 = 1;
+
+// Publishes what it takes, in order, until every sender has ended. After an `Err` all requests that
+// were taken are published but for the last.
+fn deliver_all<R: Wait + Clock + Drop>(
+    rt: &R,
+    post: &Post<R>,
+    pass: &mut TakePass,
+    desk: &mut Desk<R>,
+) -> Result<(), AllocError>
+    requires post { (pass.old.post ≡ post.now) × (pass.old.taken ≡ []) }
+    requires start { desk.old ≡ held_after desk.old.writers [] }
+    ensures post { (pass.new.post ≡ pass.old.post) × (pass.new.senders ≡ pass.old.senders) }
+    ensures ended { OnOk result (HasEnded pass.new × Merge (ended_lists pass.new) pass.new.taken) }
+    ensures ok { OnOk result (desk.new ≡ held_after desk.old.writers pass.new.taken) }
+    ensures err { OnErr result ((requests : List Request) × (last : Request) × (pass.new.taken ≡ requests ++ last ∷ []) × (logs_of desk.new.writers ≡ logs_of (held_after desk.old.writers requests).writers)) }
+{
+    for _ in rt.forever() {
+        match post.take(pass) {
+            Some(request) => desk.deliver(request)?,
+            None => {
+                if post.ended(pass) {
+                    return Ok(());
+                }
+                thread::sleep(rt, Duration::from_millis(REST_MS));
+            }
+        }
+    }
+    unreachable!()
+}
+
+/// Publishes what it takes from a post, in order, each request in the log of its guild, until every
+/// sender has ended; then it seals every log. While nothing comes it looks again each millisecond. It
+/// waits for the senders.
+///
+/// # Errors
+/// Out of memory. All requests that were taken are then published but for the last, and every log that
+/// is not sealed has ended without a seal.
+pub fn act<R: Wait + Clock + Drop>(
+    rt: &R,
+    alloc: Global,
+    post: &Post<R>,
+    mut pass: TakePass,
+    writers: Vec<(Snowflake, HubWriter<R>)>,
+) -> Result<ActReport<R>, AllocError>
+    requires post { (pass.post ≡ post.now) × (pass.taken ≡ []) }
+    requires writers { AreDistinct (guilds_of writers.items) × AreNew writers.items }
+    ensures post { IfOk result (λ r. (r.pass.post ≡ pass.post) × (r.pass.senders ≡ pass.senders)) }
+    ensures ended { IfOk result (λ r. HasEnded r.pass) }
+    ensures logs { IfOk result (λ r. r.logs.items ≡ map (sealed_log r.pass.taken) writers.items) }
+    ensures merged { IfOk result (λ r. (guild : ℕ) → Merge (map (edits_of guild) (ended_lists r.pass)) (edits_of guild r.pass.taken)) }
+    ensures strays { IfOk result (λ r. r.strays ≡ counted (strays_of (guilds_of writers.items) r.pass.taken)) }
+    ensures full { IfOk result (λ r. r.full ≡ counted (full_of (guilds_of writers.items) r.pass.taken)) }
+{
+    let mut desk = Desk::of(alloc, writers)?;
+    deliver_all(rt, post, &mut pass, &mut desk)?;
+    let Desk {
+        writers,
+        index: _index,
+        strays,
+        full,
+    } = desk;
+    let logs = seals::seal_all(alloc, writers)?;
+    Ok(ActReport {
+        logs,
+        strays,
+        full,
+        pass,
+    })
+}
