@@ -20,6 +20,4 @@ pub mod spawners;
 pub mod std_house;
 pub mod std_streams;
 pub mod streams;
-#[cfg(test)]
-mod tests;
 mod unread;

@@ -1,2 +1,4 @@
 pub mod Views
 pub mod LaneMoves
+pub mod CallMoves
+pub mod CallSteps

@@ -1,9 +1,11 @@
 -- The rule of a lane: what was taken, and then what waits, is what was put.
 use Rattle.std.specs.Prelude.{◌≡◌, ℕ, Bool, true, false, List, [], ◌∷◌, ◌++◌, Result, Ok, Err}
+use Rattle.std.specs.declared.alloc.Global.{Global}
 use Rattle.std.specs.declared.option.Option.{Option}
 use Rattle.std.specs.declared.option.Option.TheVariants.{Some, None}
 use mathlib.Core.Option.{some}
 use lib.ListN.{get_elem?}
+use Rattle.crossbeam_queue.specs.SegTies.{SegId}
 use Rattle.gate_outside.specs.declared.faults.Fault.{Fault}
 use Rattle.gate_outside.specs.declared.faults.Fault.TheVariants.{Failed, Memory}
 use Rattle.gate_outside.specs.declared.sending.Sending.{Sending}
@@ -41,20 +43,22 @@ pub record KeepsAll (items : List Sending) (views : List LaneView) : Type 0 wher
 abbrev pub WasEmpty : LaneView → Type 0
 WasEmpty v = (views : List LaneView) × (port : ℕ) × KeepsAll [] views × (get_elem? views port ≡ some v)
 
--- what an end knows: of the lane that it takes from, and of the lane that it puts into
+-- which lane an end takes from, which it puts into, and what it knows of them
 pub record LaneEnds : Type 0 where
+  pub from : SegId Global
+  pub to : SegId Global
   pub came : LaneView
   pub went : LaneView
 
 -- an end before its first call
-abbrev pub new_ends : LaneEnds
-new_ends = record { came = taker opening; went = putter opening }
+abbrev pub new_ends : SegId Global → SegId Global → LaneEnds
+new_ends from to = record { from = from; to = to; came = taker opening; went = putter opening }
 
 abbrev pub came_on : LaneEnds → Sending → LaneEnds
-came_on e x = record { came = after_take e.came x; went = e.went }
+came_on e x = record { from = e.from; to = e.to; came = after_take e.came x; went = e.went }
 
 abbrev pub went_on : LaneEnds → Sending → LaneEnds
-went_on e x = record { came = e.came; went = after_put e.went x }
+went_on e x = record { from = e.from; to = e.to; came = e.came; went = after_put e.went x }
 
 -- an end takes what waits first; it takes nothing, and fails, only if the lane was empty at one step of the call
 abbrev pub TakesLane : Option LaneEnds → Option LaneEnds → Result (Option Sending) Fault → Type 0

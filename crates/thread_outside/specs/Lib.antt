@@ -6,3 +6,7 @@ pub mod Teams
 pub mod MemDoors
 pub mod MemDials
 pub mod Outcomes
+pub mod CallLists
+pub mod CallRule
+pub mod CallInside
+pub mod DialledDoors

@@ -9,7 +9,9 @@ use Rattle.gate_outside.specs.declared.faults.Fault.TheVariants.{Failed, Memory}
 use Rattle.gate_outside.specs.declared.incoming.Incoming.{Incoming}
 use Rattle.gate_outside.specs.declared.sending.Sending.{Sending}
 use Rattle.gate_outside.specs.Links.{LinkTale, ReturnedLink, returned_link, given_by, gave_text_after}
-use Rattle.thread_outside.specs.Lanes.{LaneEnds, WasEmpty, came_on, went_on}
+use Rattle.crossbeam_queue.specs.SegTies.{SegId}
+use Rattle.std.specs.declared.alloc.Global.{Global}
+use Rattle.thread_outside.specs.Lanes.{LaneEnds, WasEmpty, new_ends, came_on, went_on}
 use Rattle.thread_outside.specs.Peers.{first_turn}
 
 -- a link in memory; a script alone tells the turns that are still to come, and an end that another may hold tells its lanes
@@ -39,6 +41,10 @@ new_link turns lane failing = record {
   sent = [];
   plan = fresh failing;
 }
+
+-- two links before their first calls, of which each takes from the lane that the other puts into
+abbrev pub ArePaired : LinkState → LinkState → Type 0
+ArePaired near far = (here there : SegId Global) × ((near ≡ new_link None (Some (new_ends here there)) []) × (far ≡ new_link None (Some (new_ends there here)) []))
 
 -- what waits at the next call of a script
 abbrev pub waiting : List (Option Sending) → List Sending

@@ -1,55 +1,43 @@
 //! One of two ends in memory, which two threads may hold.
-ghost use Rattle.std.specs.Prelude.{◌≡◌, [], None, Some, IfOk};
+ghost use Rattle.std.specs.Prelude.{◌≡◌, None, Some, IfOk};
 ghost use Rattle.thread_outside.specs.Lanes.{new_ends};
-ghost use Rattle.thread_outside.specs.MemLinks.{new_link};
+ghost use Rattle.thread_outside.specs.MemLinks.{ArePaired};
 
-use crate::lane::{Lane, LanePass};
+use crate::ends::{Ends, joined_ends};
 use crate::mem_link::MemLink;
 use crate::peer::Peer;
-use crate::twice::Twice;
 use gate_outside::faults::Fault;
 use gate_outside::sending::Sending;
 use std::alloc::{AllocError, Global};
 use std::marker::Model;
-use std::sync::{Arc, Wait};
+use std::sync::Wait;
 
 /// One of two ends. What is put at one is taken at the other, which another thread may hold.
+#[derive(Drop)]
 pub struct LaneEnd<R: Wait + Drop> {
     runtime: R,
     alloc: Global,
-    from: Arc<Lane, Global>,
-    to: Arc<Lane, Global>,
-    takes: LanePass,
-    puts: LanePass,
+    ends: Ends,
 }
 
 impl<R: Wait + Drop> Model for LaneEnd<R> {
-    ghost use Rattle.std.specs.Prelude.{◌≡◌, true};
-    ghost use Rattle.crossbeam_queue.specs.SegTies.{IsSegPassOf};
     ghost use Rattle.thread_outside.specs.Lanes.{LaneEnds};
 
     ghost Value = { LaneEnds };
 
-    ghost view = { λ e. record {
-      came = e.takes.me.view.client;
-      went = e.puts.me.view.client;
-    } };
-
-    ghost invariant = { λ e. IsSegPassOf e.from.value e.takes × IsSegPassOf e.to.value e.puts
-        × (e.takes.me.view.client.takes ≡ true) × (e.puts.me.view.client.puts ≡ true) };
+    ghost view = { λ e. e.ends };
 }
 
-impl<R: Wait + Drop> Drop for LaneEnd<R> {
-    fn drop(self) {
-        let Self {
-            runtime: _,
-            alloc: _,
-            from: _,
-            to,
-            takes: _,
-            puts: _,
-        } = self;
-        to.leave();
+impl<R: Wait + Drop> LaneEnd<R> {
+    // An end of these lanes.
+    pub(crate) fn new(runtime: R, alloc: Global, ends: Ends) -> LaneEnd<R>
+        ensures { result ≡ ends }
+    {
+        LaneEnd {
+            runtime,
+            alloc,
+            ends,
+        }
     }
 }
 
@@ -58,27 +46,13 @@ pub fn two_ends<R: Wait + Copy + Drop>(
     runtime: R,
     alloc: Global,
 ) -> Result<(LaneEnd<R>, LaneEnd<R>), AllocError>
-    ensures { IfOk result (λ ends. (ends.0 ≡ new_ends) × (ends.1 ≡ new_ends)) }
+    ensures { IfOk result (λ ends. (ends.0 ≡ new_ends ends.0.from ends.0.to) × (ends.1 ≡ new_ends ends.0.to ends.0.from)) }
 {
-    let (there, near_puts, far_takes) = Lane::open(alloc)?;
-    let (back, far_puts, near_takes) = Lane::open(alloc)?;
-    let near = LaneEnd {
-        runtime,
-        alloc,
-        from: Arc::try_clone(&back)?,
-        to: Arc::try_clone(&there)?,
-        takes: near_takes,
-        puts: near_puts,
-    };
-    let far = LaneEnd {
-        runtime,
-        alloc,
-        from: there,
-        to: back,
-        takes: far_takes,
-        puts: far_puts,
-    };
-    Ok((near, far))
+    let (near, far) = joined_ends(alloc)?;
+    Ok((
+        LaneEnd::new(runtime, alloc, near),
+        LaneEnd::new(runtime, alloc, far),
+    ))
 }
 
 impl<R: Wait + Copy + Drop> MemLink<LaneEnd<R>> {
@@ -89,20 +63,12 @@ impl<R: Wait + Copy + Drop> MemLink<LaneEnd<R>> {
         runtime: R,
         alloc: Global,
     ) -> Result<(MemLink<LaneEnd<R>>, MemLink<LaneEnd<R>>), AllocError>
-        ensures { IfOk result (λ links. (links.0 ≡ new_link None (Some new_ends) []) × (links.1 ≡ new_link None (Some new_ends) [])) }
+        ensures { IfOk result (λ links. ArePaired links.0 links.1) }
     {
         let (near, far) = two_ends(runtime, alloc)?;
         let near = MemLink::new(alloc, near, Vec::new(alloc))?;
         let far = MemLink::new(alloc, far, Vec::new(alloc))?;
         Ok((near, far))
-    }
-}
-
-// Whether it is a text.
-fn is_text(sending: &Sending) -> bool {
-    match sending {
-        Sending::Text(_) => true,
-        Sending::Close(_) => false,
     }
 }
 
@@ -112,28 +78,10 @@ impl<R: Wait + Drop> Peer for LaneEnd<R> {
     ghost lane = { λ e. Some e };
 
     fn take(&mut self, taken: &mut Vec<Sending>) -> Result<Option<Sending>, Fault> {
-        taken.reserve(1)?;
-        // Asked before the lane: what was put before the other end went is found below.
-        let left = self.from.is_left();
-        match self.from.take(&self.runtime, &mut self.takes) {
-            Some(twice) => {
-                let (given, kept) = twice.into_parts();
-                taken.push_reserved(kept);
-                Ok(Some(given))
-            }
-            None if left => Err(Fault::Failed),
-            None => Ok(None),
-        }
+        self.ends.take(&self.runtime, taken)
     }
 
     fn put(&mut self, sending: Sending) -> Result<(), Fault> {
-        if is_text(&sending) && self.from.is_left() {
-            return Err(Fault::Failed);
-        }
-        let twice = Twice::new(self.alloc, sending)?;
-        match self.to.put(&self.runtime, &mut self.puts, twice) {
-            Ok(()) => Ok(()),
-            Err(_) => Err(Fault::Memory),
-        }
+        self.ends.put(&self.runtime, self.alloc, sending)
     }
 }

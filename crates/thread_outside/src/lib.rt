@@ -2,7 +2,14 @@
 //! notes.
 #![tactic(auto)]
 
+pub mod call;
+mod call_taker;
+pub mod call_view;
+mod calls;
 mod copies;
+pub mod dialled_door;
+pub mod door_dial;
+mod ends;
 pub mod kept_notes;
 mod lane;
 pub mod lane_end;
@@ -22,8 +29,8 @@ pub mod running;
 pub mod script;
 pub mod serial_spawner;
 mod start_count;
+pub mod sure_door;
+pub mod sure_link;
 pub mod sure_spawner;
-#[cfg(test)]
-mod tests;
 pub mod thread_team;
 mod twice;

@@ -1,0 +1,123 @@
+//! The two lanes of an end in memory.
+ghost use Rattle.std.specs.Prelude.{◌≡◌, Some, None, IfOk};
+ghost use Rattle.thread_outside.specs.Lanes.{new_ends, TakesLane, PutsLane};
+ghost use Rattle.thread_outside.specs.Peers.{KeepsCopy};
+
+use crate::lane::{Lane, LanePass};
+use crate::twice::Twice;
+use gate_outside::faults::Fault;
+use gate_outside::sending::Sending;
+use std::alloc::{AllocError, Global};
+use std::marker::Model;
+use std::sync::{Arc, Wait};
+
+/// The lane that an end takes from and the lane that it puts into, with its passes.
+pub(crate) struct Ends {
+    from: Arc<Lane, Global>,
+    to: Arc<Lane, Global>,
+    takes: LanePass,
+    puts: LanePass,
+}
+
+impl Model for Ends {
+    ghost use Rattle.std.specs.Prelude.{◌≡◌, true};
+    ghost use Rattle.crossbeam_queue.specs.SegTies.{IsSegPassOf};
+    ghost use Rattle.thread_outside.specs.Lanes.{LaneEnds};
+
+    ghost Value = { LaneEnds };
+
+    ghost view = { λ e. record {
+      from = e.from.value;
+      to = e.to.value;
+      came = e.takes.me.view.client;
+      went = e.puts.me.view.client;
+    } };
+
+    ghost invariant = { λ e. IsSegPassOf e.from.value e.takes × IsSegPassOf e.to.value e.puts
+        × (e.takes.me.view.client.takes ≡ true) × (e.puts.me.view.client.puts ≡ true) };
+}
+
+impl Drop for Ends {
+    fn drop(self) {
+        let Self {
+            from: _,
+            to,
+            takes: _,
+            puts: _,
+        } = self;
+        to.leave();
+    }
+}
+
+// Two ends, of which each takes from the lane that the other puts into.
+pub(crate) fn joined_ends(alloc: Global) -> Result<(Ends, Ends), AllocError>
+    ensures { IfOk result (λ ends. (ends.0 ≡ new_ends ends.0.from ends.0.to) × (ends.1 ≡ new_ends ends.0.to ends.0.from)) }
+{
+    let (there, near_puts, far_takes) = Lane::open(alloc)?;
+    let (back, far_puts, near_takes) = Lane::open(alloc)?;
+    let near = Ends {
+        from: Arc::try_clone(&back)?,
+        to: Arc::try_clone(&there)?,
+        takes: near_takes,
+        puts: near_puts,
+    };
+    let far = Ends {
+        from: there,
+        to: back,
+        takes: far_takes,
+        puts: far_puts,
+    };
+    Ok((near, far))
+}
+
+// Whether it is a text.
+fn is_text(sending: &Sending) -> bool {
+    match sending {
+        Sending::Text(_) => true,
+        Sending::Close(_) => false,
+    }
+}
+
+impl Ends {
+    // Takes what waits first, and adds a copy of it to the list.
+    pub(crate) fn take<R: Wait>(
+        &mut self,
+        runtime: &R,
+        taken: &mut Vec<Sending>,
+    ) -> Result<Option<Sending>, Fault>
+        ensures lane { TakesLane (Some self.old) (Some self.new) result }
+        ensures copy { KeepsCopy taken.old.items taken.new.items result }
+    {
+        taken.reserve(1)?;
+        // Asked before the lane: what was put before the other end went is found below.
+        let left = self.from.is_left();
+        match self.from.take(runtime, &mut self.takes) {
+            Some(twice) => {
+                let (given, kept) = twice.into_parts();
+                taken.push_reserved(kept);
+                Ok(Some(given))
+            }
+            None if left => Err(Fault::Failed),
+            None => Ok(None),
+        }
+    }
+
+    // Puts what goes out.
+    pub(crate) fn put<R: Wait>(
+        &mut self,
+        runtime: &R,
+        alloc: Global,
+        sending: Sending,
+    ) -> Result<(), Fault>
+        ensures { PutsLane (Some self.old) (Some self.new) sending result }
+    {
+        if is_text(&sending) && self.from.is_left() {
+            return Err(Fault::Failed);
+        }
+        let twice = Twice::new(alloc, sending)?;
+        match self.to.put(runtime, &mut self.puts, twice) {
+            Ok(()) => Ok(()),
+            Err(_) => Err(Fault::Memory),
+        }
+    }
+}
