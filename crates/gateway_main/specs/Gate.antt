@@ -1,5 +1,5 @@
 -- What the command answers and leaves.
-use Rattle.std.specs.Prelude.{◌≡◌, ◌⊎◌, ℕ, List, Result, Ok, Err, MatchResult}
+use Rattle.std.specs.Prelude.{◌≡◌, ◌⊎◌, ℕ, List, Result, Ok, Err, Some, None, MatchResult}
 use Rattle.std.specs.declared.option.Option.{Option}
 use Rattle.gate_outside.specs.Houses.{Returned, GrowsBy, GivesOwn}
 use Rattle.scenario.specs.declared.fault.PlayFault.{PlayFault}
@@ -19,6 +19,11 @@ status_of (Err Write) = 4
 status_of (Err (Line line fault)) = 5
 status_of (Err Memory) = 6
 status_of (Err Spent) = 12
+
+-- why a play did not come to its end, and nothing where it did
+abbrev pub fault_of : Result (Unit {0}) PlayFault → Option PlayFault
+fault_of (Ok x) = None
+fault_of (Err fault) = Some fault
 
 -- no source was given, and nothing was written or put back
 abbrev pub NotGiven : (returned0 returned1 : Option (List Returned)) (got0 got1 : Option (List ℕ)) → Result (Unit {0}) PlayFault → Type 0

@@ -7,7 +7,7 @@ ghost use Rattle.gate_outside.specs.Causes.{FaultHasCause};
 ghost use Rattle.scenario.specs.declared.fault.PlayFault.{PlayFault as Fault};
 ghost use Rattle.scenario.specs.Played.{PlayCause};
 ghost use Rattle.gateway_main.specs.Words.{is_file, run_file};
-ghost use Rattle.gateway_main.specs.Gate.{status_of, usage_status, Runs, AsksOnce, TellsUsage};
+ghost use Rattle.gateway_main.specs.Gate.{status_of, fault_of, usage_status, Runs, AsksOnce, TellsUsage};
 
 use gate_outside::faults;
 use gate_outside::houses::House;
@@ -23,10 +23,10 @@ use worker_core::law::{
 pub const USAGE: &str =
     "usage: gate run FILE | serve PORT WORKERS ACCEPTS FILES | client URL TOKEN INTENTS COUNT | load SEED\n";
 
-/// The exit status where the words are not of the grammar.
+/// The exit status if the words are not those of a command.
 pub const BAD_WORDS: u8 = 2;
 
-/// The exit status for want of memory.
+/// The exit status if memory ran out.
 pub const NO_MEMORY: u8 = 6;
 
 fn is_file(word: &str) -> bool
@@ -57,6 +57,15 @@ fn status_of(played: &Result<(), PlayFault>) -> u8
         Err(PlayFault::Line { .. }) => 5,
         Err(PlayFault::Memory) => 6,
         Err(PlayFault::Spent) => 12,
+    }
+}
+
+fn fault_of(played: &Result<(), PlayFault>) -> Option<PlayFault>
+    ensures { result ≡ fault_of played.now }
+{
+    match played {
+        Ok(()) => None,
+        Err(fault) => Some(*fault),
     }
 }
 
@@ -102,10 +111,18 @@ fn refuse<K: Sink>(sink: &mut K) -> u8
 }
 
 /// Does what the words say, and answers the exit status. `run FILE` plays the step file and writes
-/// its transcript: 0, or 3 where the file could not be read, 4 where the sink failed, 5 where a line
-/// was refused, 6 for want of memory, 12 where a count of the server is spent. Other words are
-/// answered by the usage line and 2, or 6 where memory was wanted for it.
-pub fn gate<H: House>(alloc: Global, words: &[String], house: &mut H, sink: &mut H::Out) -> u8
+/// its transcript: 0, or 3 if the file cannot be read, 4 if the sink fails, 5 if a line is no step,
+/// 6 if memory runs out, 12 if a count is at its last value. For other words it writes the usage
+/// line and answers 2, or 6 if memory runs out.
+///
+/// `fault` is then why the play did not come to its end; `None` if it did, or if nothing was played.
+pub fn gate<H: House>(
+    alloc: Global,
+    words: &[String],
+    house: &mut H,
+    sink: &mut H::Out,
+    fault: &mut Option<PlayFault>,
+) -> u8
     ensures words { result ≡ 2 → run_file (map string_bytes words.now) ≡ None }
     ensures usage { run_file (map string_bytes words.now) ≡ None → TellsUsage (H.Out.got sink.old) (H.Out.got sink.new) (H.Out.faults sink.old) (H.Out.faults sink.new) result }
     ensures asks_nothing { run_file (map string_bytes words.now) ≡ None → H.asks house.new ≡ H.asks house.old }
@@ -113,6 +130,9 @@ pub fn gate<H: House>(alloc: Global, words: &[String], house: &mut H, sink: &mut
         × Runs (H.contents house.old file) (H.returned house.old) (H.returned house.new) (H.Out.got sink.old) (H.Out.got sink.new) played
         × AsksOnce (H.asks house.old) (H.asks house.new) file played
         × PlayCause (H.source_faults house.old) (H.source_faults house.new) (H.Out.faults sink.old) (H.Out.faults sink.new) played }
+    ensures fault { (file : List ℕ) → run_file (map string_bytes words.now) ≡ Some file → (played : Result (Unit {0}) Fault) × (fault.new ≡ fault_of played) × (result ≡ status_of played)
+        × Runs (H.contents house.old file) (H.returned house.old) (H.returned house.new) (H.Out.got sink.old) (H.Out.got sink.new) played }
+    ensures no_fault { run_file (map string_bytes words.now) ≡ None → fault.new ≡ None }
     ensures folds { EachRunHolds }
     ensures sends { EachSendHolds }
     ensures entries { EachEntryHolds }
@@ -125,8 +145,10 @@ pub fn gate<H: House>(alloc: Global, words: &[String], house: &mut H, sink: &mut
     messages_are_told();
     resumes_go_on();
     if !is_run(words) {
+        *fault = None;
         return refuse(sink);
     }
     let played = run(alloc, words[1].as_str(), house, sink);
+    *fault = fault_of(&played);
     status_of(&played)
 }

@@ -15,3 +15,15 @@ returns-clause-run g c file is =
       subst (λ (f : List ℕ). AsksOnce (g.H.House.asks c.args.house.now) (g.H.House.asks c.run-played.new.house) f c.run-played.result) same c.run-played.ensures.asks,
       c.run-played.ensures.cause,
     )
+
+-- the same play, whose fault was kept
+pub returns-clause-fault : goal.returns-clause-fault
+returns-clause-fault g c file is =
+    let word : c.as_str.result.now ≡ string_bytes c.index-words-1.result = c.as_str.ensures.value in
+    let second = second_word (map string_bytes c.args.words.now) file (string_bytes c.index-words-1.result) is in
+    let same : c.as_str.result.now ≡ file = word ∙ (ap string_bytes c.index-words-1.is ∙ (sym (get_or-map string_bytes c.args.words.now 1 c.index-words-1.result) ∙ second)) in (
+      c.run-played.result,
+      c.fault_of.ensures,
+      c.status_of.ensures,
+      subst (λ (f : List ℕ). Runs (g.H.House.contents c.args.house.now f) (g.H.House.returned c.args.house.now) (g.H.House.returned c.run-played.new.house) (g.H.Out.Sink.got c.args.sink.now) (g.H.Out.Sink.got c.run-played.new.sink) c.run-played.result) same c.run-played.ensures.runs,
+    )

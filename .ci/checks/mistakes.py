@@ -1,0 +1,215 @@
+"""Plays files and words that bot authors get wrong, and compares what the built program says: its status, the
+last line of the transcript and the line on standard error. Without a built program nothing is played."""
+import os
+import resource
+import subprocess
+import sys
+import tempfile
+
+os.chdir(os.path.join(os.path.dirname(os.path.abspath(__file__)), "../.."))
+BOT = '{"step":"bot","token":"t1","user":"9","name":"bee","privileged":33026}'
+GUILD = '{"step":"guild","id":"1"}'
+OPEN = '{"step":"edit","guild":"1","do":"guild_open","name":"den","owner":"5","owner_name":"ann","perms":"1024","at":0}'
+BEE = '{"step":"edit","guild":"1","do":"member_add","user":"9","name":"bee","bot":true,"at":0}'
+LOOK = '{"step":"look","worker":0,"guild":"1"}'
+CONN = '{"step":"open","worker":0,"conn":1}'
+IDENTIFY = '{"step":"frame","conn":1,"text":"{\\"op\\":2,\\"d\\":{\\"token\\":\\"t1\\",\\"intents\\":1,\\"properties\\":{}}}"}'
+HEAD, OPENED = [BOT, GUILD], [BOT, GUILD, OPEN]
+READY = ('send 1 {"d":{"application":{"flags":0,"id":"9"},"guilds":[%s],"resume_gateway_url":"ws://w0.gate.invalid","session_id":"w0s1",'
+         '"user":{"bot":true,"id":"9","username":"bee"},"v":10},"op":0,"s":1,"t":"READY"}')
+CREATE = ('send 1 {"d":{"channels":[],"id":"1","large":false,"member_count":2,"members":[{"communication_disabled_until":null,'
+          '"joined_at":"1970-01-01T00:00:00.000000+00:00","nick":null,"roles":[],"user":{"bot":true,"id":"9","username":"bee"}}],"name":"den",'
+          '"owner_id":"5","presences":[],"roles":[{"id":"1","name":"@everyone","permissions":"1024","position":0}],"threads":[],"voice_states":[]},'
+          '"op":0,"s":2,"t":"GUILD_CREATE"}')
+USAGE = "usage: gate run FILE | serve PORT WORKERS ACCEPTS FILES | client URL TOKEN INTENTS COUNT | load SEED"
+
+
+def edit(fields):
+    return '{"step":"edit","guild":"1",%s}' % fields
+
+
+def frame(text):
+    return '{"step":"frame","conn":1,"text":"%s"}' % text.replace('"', '\\"')
+
+
+# What was wrong, the lines of the file, and the last line of the transcript.
+LINES = [
+    ("a comment", ["# bots", BOT], "stop line 1 1 NotJson"),
+    ("a comment with slashes", [BOT, "// guilds", GUILD], "stop line 2 1 NotJson"),
+    ("a trailing comma", ['{"step":"guild","id":"1",}'], "stop line 1 1 NotJson"),
+    ("single quotes", ["{'step':'guild','id':'1'}"], "stop line 1 1 NotJson"),
+    ("a key without quotes", ['{step:"guild","id":"1"}'], "stop line 1 1 NotJson"),
+    ("a byte order mark", ["\ufeff" + BOT], "stop line 1 1 NotJson"),
+    ("a byte order mark before an empty first line", ["\ufeff", BOT], "stop line 1 1 NotJson"),
+    ("UTF-16", (BOT + "\n").encode("utf-16"), "stop line 1 1 NotJson"),
+    ("a byte that is not UTF-8", b'{"step":"bot","token":"t1","user":"9","name":"be\xe9","privileged":0}\n', "stop line 1 1 NotJson"),
+    ("True of Python", OPENED + [edit('"do":"member_add","user":"6","name":"bob","bot":True,"at":0')], "stop line 4 1 NotJson"),
+    ("NaN", OPENED + [edit('"do":"member_timeout","user":"5","until":NaN')], "stop line 4 1 NotJson"),
+    ("an object over two lines", ['{"step":"guild",', '"id":"1"}'], "stop line 1 1 NotJson"),
+    ("two objects on a line", [GUILD + " " + GUILD], "stop line 1 1 NotJson"),
+    ("a list of steps", ["[" + BOT + "]"], "stop line 1 4 WrongType"),
+    ("a number", ["7"], "stop line 1 4 WrongType"),
+    ("no step", ['{"id":"1"}'], "stop line 1 3 Missing"),
+    ("`type` for `step`", ['{"type":"guild","id":"1"}'], "stop line 1 3 Missing"),
+    ("an unknown step", ['{"step":"connect","conn":1}'], "stop line 1 2 NoSuchStep"),
+    ("a step in capitals", ['{"step":"BOT","token":"t1","user":"9","name":"bee","privileged":0}'], "stop line 1 2 NoSuchStep"),
+    ("a bot after an edit", [GUILD, OPEN, BOT], "stop line 3 2 NoSuchStep"),
+    ("a guild after an edit", [BOT, GUILD, OPEN, '{"step":"guild","id":"2"}'], "stop line 4 2 NoSuchStep"),
+    ("an unknown edit", OPENED + [edit('"do":"role_add","role":"11"')], "stop line 4 2 NoSuchStep"),
+    ("a dispatch's name for an edit", OPENED + [edit('"do":"GUILD_ROLE_CREATE","role":"11"')], "stop line 4 2 NoSuchStep"),
+    ("`edit` without `do`", OPENED + [edit('"name":"hut"')], "stop line 4 3 Missing"),
+    ("a misspelt field", OPENED + [edit('"do":"guild_rename","nme":"hut"')], "stop line 4 3 Missing"),
+    ("`user_id` for `user`", OPENED + [edit('"do":"member_add","user_id":"6","name":"bob","bot":false,"at":0')], "stop line 4 3 Missing"),
+    ("a null that was left out", OPENED + [edit('"do":"channel_create","channel":"7","type":0,"name":"a","position":0,"sync":false')], "stop line 4 3 Missing"),
+    ("`kind` for `type`", OPENED + [edit('"do":"channel_create","channel":"7","kind":0,"name":"a","parent":null,"position":0,"sync":false')], "stop line 4 3 Missing"),
+    ("a bot without `privileged`", ['{"step":"bot","token":"t1","user":"9","name":"bee"}'], "stop line 1 3 Missing"),
+    ("an open without `worker`", HEAD + ['{"step":"open","conn":1}'], "stop line 3 3 Missing"),
+    ("a date for a time", OPENED + [edit('"do":"member_timeout","user":"5","until":"2030-01-01T00:00:00Z"')], "stop line 4 4 WrongType"),
+    ("a time in seconds with a point", OPENED + [edit('"do":"member_timeout","user":"5","until":1700000000.5')], "stop line 4 4 WrongType"),
+    ("a whole number with a point", OPENED + [edit('"do":"role_create","role":"11","name":"mod","perms":"0","position":1.0')], "stop line 4 4 WrongType"),
+    ("a negative number", OPENED + [edit('"do":"role_create","role":"11","name":"mod","perms":"0","position":-1')], "stop line 4 4 WrongType"),
+    ("permissions in hexadecimal", OPENED + [edit('"do":"role_create","role":"11","name":"mod","perms":"0x400","position":1')], "stop line 4 4 WrongType"),
+    ("permissions by name", OPENED + [edit('"do":"role_create","role":"11","name":"mod","perms":["VIEW_CHANNEL"],"position":1')], "stop line 4 4 WrongType"),
+    ("permissions of 2^53", OPENED + [edit('"do":"role_create","role":"11","name":"mod","perms":"9007199254740992","position":1')], "stop line 4 4 WrongType"),
+    ("an id with a letter", ['{"step":"guild","id":"1a"}'], "stop line 1 4 WrongType"),
+    ("an id of 2^64", ['{"step":"guild","id":"18446744073709551616"}'], "stop line 1 4 WrongType"),
+    ("an intent that is none", ['{"step":"bot","token":"t1","user":"9","name":"bee","privileged":131072}'], "stop line 1 4 WrongType"),
+    ("a channel type that is none", OPENED + [edit('"do":"channel_create","channel":"7","type":1,"name":"a","parent":null,"position":0,"sync":false')], "stop line 4 4 WrongType"),
+    ("a channel type by name", OPENED + [edit('"do":"channel_create","channel":"7","type":"text","name":"a","parent":null,"position":0,"sync":false')], "stop line 4 4 WrongType"),
+    ("a status that is none", OPENED + [edit('"do":"presence_set","user":"5","status":"away"')], "stop line 4 4 WrongType"),
+    ("embeds as a list", OPENED + [edit('"do":"message_create","message":"30","channel":"7","author":"5","content":"hi","mentions":[],"embeds":[],"attachments":0,"components":0')], "stop line 4 4 WrongType"),
+    ("eleven embeds", OPENED + [edit('"do":"message_create","message":"30","channel":"7","author":"5","content":"hi","mentions":[],"embeds":11,"attachments":0,"components":0')], "stop line 4 4 WrongType"),
+    ("a fifth worker", HEAD + ['{"step":"look","worker":4,"guild":"1"}'], "stop line 3 4 WrongType"),
+    ("a connection by name", HEAD + ['{"step":"open","worker":0,"conn":"a"}'], "stop line 3 4 WrongType"),
+    ("a frame that is an object", HEAD + [CONN, '{"step":"frame","conn":1,"text":{"op":1,"d":null}}'], "stop line 4 4 WrongType"),
+    ("a token of 101 bytes", ['{"step":"bot","token":"%s","user":"9","name":"bee","privileged":0}' % ("t" * 101)], "stop line 1 5 TooLong"),
+    ("33 guilds", ['{"step":"guild","id":"%d"}' % number for number in range(1, 34)], "stop line 33 5 TooLong"),
+    ("a line of 65,537 bytes", [BOT, " " * 65537], "stop line 2 5 TooLong"),
+    ("line 1,000,001", [""] * 1000000 + [BOT], "stop line 1000001 5 TooLong"),
+    ("an edit of a guild that is not open", HEAD + [BEE], "refused 3 1 NotOpen"),
+    ("an edit of an undeclared guild", [BOT, OPEN], "refused 2 1 NotOpen"),
+    ("a role without `role_create`", OPENED + [edit('"do":"member_role_add","user":"5","role":"11"')], "refused 4 4 UnknownRole"),
+    ("a thread in a voice channel", OPENED + [
+        edit('"do":"channel_create","channel":"8","type":2,"name":"v","parent":null,"position":0,"sync":false'),
+        edit('"do":"thread_create","thread":"20","parent":"8","type":11,"name":"t","owner":"5","at":0')], "refused 5 10 WrongType"),
+    ("Identify with a prefix `Bot `", OPENED + [CONN, frame('{"op":2,"d":{"token":"Bot t1","intents":1,"properties":{}}}')], "close 1 4004"),
+    ("Identify with an intent that is none", OPENED + [CONN, frame('{"op":2,"d":{"token":"t1","intents":131072,"properties":{}}}')], "close 1 4013"),
+    ("Identify without `intents`", OPENED + [CONN, frame('{"op":2,"d":{"token":"t1","properties":{}}}')], "close 1 4002"),
+    ("a request before Identify", OPENED + [CONN, frame('{"op":8,"d":{"guild_id":"1","query":"","limit":0}}')], "close 1 4003"),
+    ("Identify twice", OPENED + [CONN, IDENTIFY, IDENTIFY], "close 1 4005"),
+    ("a frame that is no JSON", OPENED + [CONN, frame("hello")], "close 1 4002"),
+    # In these nothing is wrong; the bot is sent no more than this.
+    ("no look before Identify", OPENED + [BEE, CONN, IDENTIFY], READY % ""),
+    ("no look after an edit", OPENED + [BEE, LOOK, CONN, IDENTIFY, edit('"do":"guild_rename","name":"hut"')], CREATE),
+    ("a look of another worker", OPENED + [BEE, '{"step":"look","worker":1,"guild":"1"}', CONN, IDENTIFY], READY % ""),
+]
+
+# What is said of a line, by the name of its fault.
+SAID = {
+    "NotJson": "not JSON in UTF-8",
+    "NoSuchStep": "no such step or edit, or a bot or guild line after another step",
+    "Missing": "a field is missing, or its name is misspelt",
+    "WrongType": "not an object, or a field of the wrong type or out of its range",
+    "TooLong": "the line, the file, a token or the list of guilds is too long",
+}
+# What was wrong, the words, the status and the line on standard error.
+WORDS = [
+    ("no word", [], 2, "no command"),
+    ("no file", ["run"], 2, "run takes one file, or - for standard input"),
+    ("two files", ["run", "a", "b"], 2, "run takes one file, or - for standard input"),
+    ("an option", ["run", "-v"], 2, "run takes one file, or - for standard input"),
+    ("a file alone", ["examples/first.jsonl"], 2, "no command examples/first.jsonl"),
+    ("another word", ["play", "examples/first.jsonl"], 2, "no command play"),
+    ("a word in capitals", ["RUN", "examples/first.jsonl"], 2, "no command RUN"),
+    ("help", ["--help"], 2, "no command --help"),
+    ("an empty word", [""], 2, 'no command ""'),
+    ("a word with a line feed", ["a\nb"], 2, 'no command "a\\nb"'),
+    ("a command that is not built", ["serve", "8080", "4", "1", "a"], 2, "serve is not built yet"),
+    ("another that is not built", ["load", "1"], 2, "load is not built yet"),
+    ("a word that is not UTF-8", [b"run", b"a\xff"], 2, "a word is not UTF-8"),
+    ("a file that does not exist", ["run", "nosuch.jsonl"], 3, "cannot read nosuch.jsonl"),
+    ("a name with a line feed", ["run", "no\nsuch"], 3, 'cannot read "no\\nsuch"'),
+    ("an empty name", ["run", ""], 3, 'cannot read ""'),
+    ("a folder", ["run", "examples"], 3, "cannot read examples"),
+]
+PAGES = {2: "README.md", 3: "docs/TRANSCRIPT.md", 4: "docs/TRANSCRIPT.md", 5: "docs/STEPS.md", 6: "docs/TRANSCRIPT.md"}
+failures = []
+
+
+def compare(what, wanted, found):
+    if wanted != found:
+        failures.append(f"mistakes: {what}: wanted {wanted}, found {found}")
+
+
+def said(status, text):
+    return "" if status == 0 else f"gate: {text} (status {status}; see {PAGES[status]})\n"
+
+
+def try_lines(gate, folder):
+    path = os.path.join(folder, "steps.jsonl")
+    for what, lines, last in LINES:
+        content = lines if isinstance(lines, bytes) else "".join(line + "\n" for line in lines).encode()
+        with open(path, "wb") as file:
+            file.write(content)
+        run = subprocess.run([gate, "run", path], capture_output=True, timeout=60)
+        printed = run.stdout.decode().split("\n")
+        stops = last.split(" ") if last.startswith("stop line ") else None
+        status, text = (5, f"line {stops[2]} of {path}: {SAID[stops[4]]}") if stops else (0, "")
+        compare(what, (status, last, said(status, text)), (run.returncode, printed[-2] if printed[1:] else "", run.stderr.decode()))
+
+
+def try_words(gate):
+    for what, words, status, text in WORDS:
+        run = subprocess.run([gate, *words], capture_output=True, timeout=60)
+        printed = USAGE + "\n" if status == 2 else ""
+        compare(what, (status, printed, said(status, text)), (run.returncode, run.stdout.decode(), run.stderr.decode()))
+
+
+def try_outside(gate):
+    """Standard input, an empty file, a full disk, a pipe that is closed, and a standard error that takes nothing."""
+    text = "cannot write the transcript of examples/first.jsonl"
+    run = subprocess.run([gate, "run", "-"], input=b"no\n", capture_output=True, timeout=60)
+    compare("standard input", (5, said(5, "line 1 of standard input: " + SAID["NotJson"])), (run.returncode, run.stderr.decode()))
+    run = subprocess.run([gate, "run", "/dev/null"], capture_output=True, timeout=60)
+    compare("an empty file", (0, b"", b""), (run.returncode, run.stdout, run.stderr))
+    with open("/dev/full", "wb") as full:
+        run = subprocess.run([gate, "run", "examples/first.jsonl"], stdout=full, stderr=subprocess.PIPE, timeout=60)
+        compare("a full disk", (4, said(4, text)), (run.returncode, run.stderr.decode()))
+        run = subprocess.run([gate, "run", "nosuch.jsonl"], stdout=subprocess.PIPE, stderr=full, timeout=60)
+        compare("a full standard error", (3, b""), (run.returncode, run.stdout))
+    reader, writer = os.pipe()
+    os.close(reader)
+    run = subprocess.run([gate, "run", "examples/first.jsonl"], stdout=writer, stderr=subprocess.PIPE, timeout=60)
+    os.close(writer)
+    compare("a closed pipe", (4, said(4, text)), (run.returncode, run.stderr.decode()))
+
+
+def try_little_memory(gate, folder):
+    path = os.path.join(folder, "large.jsonl")
+    message = '"do":"message_create","message":"%d","channel":"7","author":"5","content":"%s","mentions":[],"embeds":0,"attachments":0,"components":0'
+    channel = edit('"do":"channel_create","channel":"7","type":0,"name":"a","parent":null,"position":0,"sync":false')
+    with open(path, "w") as file:
+        file.writelines(line + "\n" for line in [*OPENED, channel, *(edit(message % (number, "x" * 2000)) for number in range(100, 16000))])
+    limit = lambda: resource.setrlimit(resource.RLIMIT_AS, (24 << 20, 24 << 20))
+    run = subprocess.run([gate, "run", path], capture_output=True, timeout=60, preexec_fn=limit)
+    compare("little memory", (6, b"", said(6, f"out of memory while playing {path}")), (run.returncode, run.stdout, run.stderr.decode()))
+
+
+def program():
+    """The program that GATE names, or else the one that the gate has built."""
+    built = os.environ.get("GATE") or "crates/gateway_main/out/gateway_main"
+    return os.path.abspath(built) if os.access(built, os.X_OK) else None
+
+
+gate = program()
+if not gate:
+    print("mistakes: no built program at hand: nothing was run")
+    sys.exit(0)
+with tempfile.TemporaryDirectory() as folder:
+    try_lines(gate, folder)
+    try_little_memory(gate, folder)
+try_words(gate)
+try_outside(gate)
+print(*failures, sep="\n", end="\n" if failures else "")
+print(f"mistakes: {len(LINES) + len(WORDS) + 6} tried, {len(failures)} answered otherwise")
+sys.exit(bool(failures))

@@ -1,0 +1,94 @@
+//! What the program says on standard error if its status is not 0.
+use crate::gate::NO_MEMORY;
+use crate::shown::Shown;
+use edit_text::LineFault;
+use gate_outside::std_house::STANDARD_INPUT;
+use scenario::PlayFault;
+use std::io;
+use std::io::Eprint;
+
+// What is wrong with a line.
+fn line_is(fault: LineFault) -> &'static str {
+    match fault {
+        LineFault::NotJson => "not JSON in UTF-8",
+        LineFault::NoSuchStep => {
+            "no such step or edit, or a bot or guild line after another step"
+        }
+        LineFault::Missing => "a field is missing, or its name is misspelt",
+        LineFault::WrongType => "not an object, or a field of the wrong type or out of its range",
+        LineFault::TooLong => "the line, the file, a token or the list of guilds is too long",
+        LineFault::Memory => "out of memory",
+    }
+}
+
+// Says why the words are not those of a command.
+fn tell_words<R: Eprint>(rt: &R, words: &[String]) -> io::Result<()> {
+    match words {
+        [] => eprintln!(rt; "gate: no command (status 2; see README.md)"),
+        [command, ..] => match command.as_str() {
+            "run" => eprintln!(rt;
+                "gate: run takes one file, or - for standard input (status 2; see README.md)"
+            ),
+            "serve" | "client" | "load" => {
+                eprintln!(rt; "gate: {command} is not built yet (status 2; see README.md)")
+            }
+            word => eprintln!(rt;
+                "gate: no command {} (status 2; see README.md)",
+                Shown(word)
+            ),
+        },
+    }
+}
+
+// Says why the play of a file did not come to its end.
+fn tell_fault<R: Eprint>(rt: &R, file: &str, fault: PlayFault) -> io::Result<()> {
+    let file = if file == STANDARD_INPUT {
+        Shown("standard input")
+    } else {
+        Shown(file)
+    };
+    match fault {
+        PlayFault::Read => {
+            eprintln!(rt; "gate: cannot read {file} (status 3; see docs/TRANSCRIPT.md)")
+        }
+        PlayFault::Write => eprintln!(rt;
+            "gate: cannot write the transcript of {file} (status 4; see docs/TRANSCRIPT.md)"
+        ),
+        PlayFault::Line { line, fault } => eprintln!(rt;
+            "gate: line {line} of {file}: {} (status 5; see docs/STEPS.md)",
+            line_is(fault)
+        ),
+        PlayFault::Memory => {
+            eprintln!(rt;
+                "gate: out of memory while playing {file} (status 6; see docs/TRANSCRIPT.md)"
+            )
+        }
+        PlayFault::Spent => eprintln!(rt;
+            "gate: a count is at its last value while playing {file} (status 12; see docs/TRANSCRIPT.md)"
+        ),
+    }
+}
+
+/// Says that memory ran out before there were words.
+pub fn tell_memory<R: Eprint>(rt: &R) -> io::Result<()> {
+    eprintln!(rt; "gate: out of memory (status 6; see docs/TRANSCRIPT.md)")
+}
+
+/// Says that a word of the command is not UTF-8.
+pub fn tell_no_text<R: Eprint>(rt: &R) -> io::Result<()> {
+    eprintln!(rt; "gate: a word is not UTF-8 (status 2; see README.md)")
+}
+
+/// Says why the command ended with a status other than 0, by its words and the fault of its play.
+pub fn tell<R: Eprint>(
+    rt: &R,
+    words: &[String],
+    fault: Option<PlayFault>,
+    status: u8,
+) -> io::Result<()> {
+    match (fault, words) {
+        (Some(fault), [_, file]) => tell_fault(rt, file.as_str(), fault),
+        _ if status == NO_MEMORY => tell_memory(rt),
+        _ => tell_words(rt, words),
+    }
+}
