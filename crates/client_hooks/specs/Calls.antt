@@ -14,8 +14,9 @@ Keeps Answers Meets = (dispatch : Dispatch) (value : ℕ) → Answers dispatch v
 abbrev pub called : {H : Type 0} → (H → ℕ) → Kind → List H → List (ℕ × H)
 called kinds_of kind hooks = filter (λ call. holds (kinds_of call.1) kind) (enumerate_from 0 hooks)
 
--- a note names the hook that was called by its place, the dispatch by its number, and an answer of that hook
-pub record IsNoteOf {H : Type 0} (Answers : H → ℕ → Type 0) (number : ℕ) (call : ℕ × H) (note : HookNote) : Type 0 where
+-- a note names the hook that was called by its place, the dispatch by its number, and an answer of that hook, which meets the rule if the hook keeps it
+pub record IsNoteOf {H : Type 0} (Answers : H → Dispatch → ℕ → Type 0) (Meets : Dispatch → ℕ → Type 0) (dispatch : Dispatch) (number : ℕ) (call : ℕ × H) (note : HookNote) : Type 0 where
   pub place : note.hook ≡ call.0
   pub counted : note.number ≡ number
-  pub answered : Answers call.1 note.value
+  pub answered : Answers call.1 dispatch note.value
+  pub meets : Keeps (Answers call.1) Meets → Meets dispatch note.value

@@ -59,7 +59,7 @@ impl<R> Hooks<R> {
     }
 }
 
-impl<R> Hooks<R> {
+impl<R: HookRule> Hooks<R> {
     ghost use Rattle.dispatch_types.specs.Kinds.{kind_of};
     ghost use Rattle.client_hooks.specs.Calls.{called, IsNoteOf};
 
@@ -69,7 +69,7 @@ impl<R> Hooks<R> {
     /// # Errors
     /// Out of memory.
     pub fn run(&self, dispatch: &Dispatch, number: u64) -> Result<Vec<HookNote>, AllocError>
-        ensures { IfOk result (λ notes. AllZip (IsNoteOf (λ it value. FnReturnsAt Hook.Fn it.kept.hook dispatch.now value) number) (called (λ it. it.kinds) (kind_of dispatch.now) self.now.hooks.items) notes.items) }
+        ensures { IfOk result (λ notes. AllZip (IsNoteOf (λ it. FnReturnsAt Hook.Fn it.kept.hook) R.Meets dispatch.now number) (called (λ it. it.kinds) (kind_of dispatch.now) self.now.hooks.items) notes.items) }
     {
         let kind = dispatch.kind();
         let mut notes = Vec::new(self.alloc);

@@ -26,7 +26,8 @@ impl<R: HookRule> Kept<R> {
     pub fn new(hook: Hook) -> Kept<R>
         requires callable { Hook.IsAlwaysCallable hook }
         requires keeps { Keeps (FnReturnsAt Hook.Fn hook) R.Meets }
-        ensures { result.hook ≡ hook }
+        ensures hook { result.hook ≡ hook }
+        ensures keeps { Keeps (FnReturnsAt Hook.Fn result.hook) R.Meets }
     {
         Kept {
             hook,

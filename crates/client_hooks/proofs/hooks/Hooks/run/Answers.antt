@@ -21,6 +21,7 @@ loop-entry-preserved g c =
           place = c.loop-entry.invariant.0;
           counted = refl;
           answered = record { shown = e.shown; shows = e.shows; says = record { met = e.says.met } };
+          meets = λ keeps. keeps _ _ (record { shown = e.shown; shows = e.shows; says = record { met = e.says.met } });
         }) (ap (λ v. v.items) w.notes-is ∙ w.in_ok-push.ensures.items) c.loop-entry.invariant.1)
         | else-has w ↦ after_pass _ _ hooks i entry c.loop-entry.notes.items c.if-has.notes.items below at (sym has ∙ w.if-has.false) (ap (λ v. v.items) w.notes-is) c.loop-entry.invariant.1
       ],
@@ -37,4 +38,5 @@ returns g c =
       place = is.place;
       counted = is.counted;
       answered = record { shown = is.answered.shown; shows = is.answered.shows; says = record { met = is.answered.says.met } };
+      meets = λ keeps. keeps _ _ (record { shown = is.answered.shown; shows = is.answered.shows; says = record { met = is.answered.says.met } });
     }) _ _ (at_end _ _ hooks i c.loop-entry.notes.items over c.loop-entry.invariant.1)

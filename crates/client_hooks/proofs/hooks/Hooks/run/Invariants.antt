@@ -9,4 +9,4 @@ use Rattle.client_hooks.proofs.hooks.Hooks.run.Given as goal
 abbrev pub invariant-loop-entry : goal.invariant-loop-entry
 invariant-loop-entry g l =
     (l.hook ≡ l.entry-index)
-    × RunsTo (λ call. holds call.1.kinds (kind_of l.dispatch)) (IsNoteOf (λ it value. FnReturnsAt (goal.Fn-dyn g) (it.kept.hook.vtable, it.kept.hook.value) l.dispatch value) l.number) l.self.hooks.items l.entry-index l.notes.items
+    × RunsTo (λ call. holds call.1.kinds (kind_of l.dispatch)) (IsNoteOf (λ it. FnReturnsAt (goal.Fn-dyn g) (it.kept.hook.vtable, it.kept.hook.value)) g.R.HookRule.Meets l.dispatch l.number) l.self.hooks.items l.entry-index l.notes.items
