@@ -47,7 +47,10 @@ impl<R> Hooks<R> {
     /// Out of memory, which hands the hook back and changes nothing.
     pub fn on(&mut self, kinds: KindSet, hook: Kept<R>) -> Result<(), (Kept<R>, AllocError)>
         requires { length self.old.hooks.items < 2 ^ 32 - 1 }
-        ensures { MatchResult result (λ _. self.new.hooks.items ≡ self.old.hooks.items ++ record { kinds = kinds; kept = hook } ∷ []) (λ back. (back.0 ≡ hook) × (self.new.hooks.items ≡ self.old.hooks.items)) }
+        ensures { MatchResult result
+            (λ _. self.new.hooks.items
+            ≡ self.old.hooks.items ++ record { kinds = kinds; kept = hook } ∷ [])
+            (λ back. (back.0 ≡ hook) × (self.new.hooks.items ≡ self.old.hooks.items)) }
     {
         match self.hooks.push(KeptFor { kinds, kept: hook }) {
             Ok(()) => Ok(()),
@@ -69,7 +72,10 @@ impl<R: HookRule> Hooks<R> {
     /// # Errors
     /// Out of memory.
     pub fn run(&self, dispatch: &Dispatch, number: u64) -> Result<Vec<HookNote>, AllocError>
-        ensures { IfOk result (λ notes. AllZip (IsNoteOf (λ it. FnReturnsAt Hook.Fn it.kept.hook) R.Meets dispatch.now number) (called (λ it. it.kinds) (kind_of dispatch.now) self.now.hooks.items) notes.items) }
+        ensures { IfOk result (λ notes. AllZip
+            (IsNoteOf (λ it. FnReturnsAt Hook.Fn it.kept.hook) R.Meets dispatch.now number)
+            (called (λ it. it.kinds) (kind_of dispatch.now) self.now.hooks.items)
+            notes.items) }
     {
         let kind = dispatch.kind();
         let mut notes = Vec::new(self.alloc);

@@ -1,4 +1,4 @@
-use Rattle.std.proofs.Common.{◌≡◌, ◌+◌, ◌<◌, ◌≤◌, true, false, length, slice_index_or, refl, sym, ap, subst, ◌∙◌, arith}
+use Rattle.std.proofs.Common.{◌≡◌, ◌+◌, ◌<◌, ◌≤◌, length, slice_index_or, refl, sym, ap, subst, ◌∙◌, arith}
 use Rattle.dispatch_types.specs.Kinds.{kind_of}
 use Rattle.client_hooks.specs.Kinds.{holds}
 use Rattle.client_hooks.proofs.Called.{after_call, after_pass, at_end, same_notes}
