@@ -99,7 +99,11 @@ impl Cache {
                 self.guilds
                     .change(self.alloc, self.intents, self.bot, guild, dispatch)
             }
-            None => self.begin_by(&dispatch),
+            None => {
+                let begun = self.begin_by(&dispatch);
+                drop(dispatch);
+                begun
+            }
         }
     }
 

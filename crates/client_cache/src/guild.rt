@@ -1,15 +1,15 @@
 //! GUILD_CREATE, GUILD_UPDATE and GUILD_DELETE.
 
-ghost use Rattle.std.specs.Prelude.{◌≡◌, ◌==◌, [], map, IfOk};
+ghost use Rattle.std.specs.Prelude.{◌≡◌, ◌==◌, [], map, IfOk, OnOk};
 ghost use Rattle.std.specs.Option.{option_copied};
 ghost use Rattle.std.specs.List.{find, filter_map};
 ghost use Rattle.collections.specs.ById.{put_all};
 ghost use Rattle.intent_set.specs.Intents.{guild_members, guild_presences};
-ghost use Rattle.guild_model.specs.Record.{member_id, presence_id};
+ghost use Rattle.guild_model.specs.Record.{role_id, member_id, channel_id, voice_id, presence_id};
 ghost use Rattle.guild_model.specs.declared.member.Member.{Member};
 ghost use Rattle.dispatch_types.specs.Objects.{channel_of, member_of, voice_of, presence_of};
 ghost use Rattle.dispatch_types.specs.Projection.{told, listed};
-ghost use Rattle.dispatch_types.specs.Fold.{own_member, joined_thread, created_view, if_unavailable};
+ghost use Rattle.dispatch_types.specs.Fold.{thread_view_id, own_member, joined_thread, created_view, if_unavailable};
 
 use crate::members::members_of;
 use crate::objects::{channel_of, presence_of, voice_of};
@@ -23,6 +23,7 @@ use guild_model::{Channel, Member, Presence, Voice};
 use intent_set::Intents;
 use snowflake_id::Snowflake;
 use std::alloc::{AllocError, Global};
+use std::mem::replace;
 
 /// The name and the owner are set (Gateway Events, Guild Update).
 pub(crate) fn update(view: &mut OpenView, name: Text, owner: Snowflake)
@@ -158,6 +159,70 @@ fn told_members(
     Ok((members, me))
 }
 
+// Sets the lists but that of the members, by those of GUILD_CREATE.
+fn fill(
+    alloc: Global,
+    intents: Intents,
+    bot: Snowflake,
+    view: &mut OpenView,
+    create: &mut GuildCreate,
+) -> Result<(), AllocError>
+    ensures { OnOk result (view.new ≡ record view.old {
+      roles = put_all role_id [] create.old.roles;
+      channels = put_all channel_id [] (map channel_of create.old.channels);
+      threads = put_all thread_view_id [] (map (joined_thread intents bot) create.old.threads);
+      voices = put_all voice_id [] (filter_map voice_of create.old.voices);
+      presences = listed intents guild_presences (put_all presence_id [] (filter_map presence_of create.old.presences));
+    }) }
+{
+    let roles = replace(&mut create.roles, Seq::new(alloc));
+    view.roles = ById::of(alloc, roles.into_vec())?;
+    let channels = replace(&mut create.channels, Seq::new(alloc));
+    view.channels = ById::of(alloc, channels_of(alloc, channels.into_vec())?)?;
+    let threads = replace(&mut create.threads, Seq::new(alloc));
+    view.threads = ById::of(alloc, threads_of(alloc, intents, bot, threads.into_vec())?)?;
+    view.voices = ById::of(alloc, voices_of(alloc, create.voices.as_slice())?)?;
+    view.presences = listed_presences(alloc, intents, create.presences.as_slice())?;
+    Ok(())
+}
+
+// The view that GUILD_CREATE gives, which takes over its parts.
+fn opened_view(
+    alloc: Global,
+    intents: Intents,
+    bot: Snowflake,
+    create: &mut GuildCreate,
+) -> Result<Option<GuildView>, AllocError>
+    ensures { IfOk result (λ view. view ≡ created_view intents bot create.old) }
+{
+    if !intents.has(Intents::GUILDS) {
+        return Ok(None);
+    }
+    let objects = replace(&mut create.members, Seq::new(alloc));
+    let (members, me) = told_members(alloc, bot, objects)?;
+    let Some(me) = me else {
+        return Ok(None);
+    };
+    let members = listed_members(alloc, intents, members)?;
+    let mut view = OpenView {
+        name: replace(&mut create.name, Text::empty(alloc)),
+        owner: create.owner,
+        me,
+        roles: ById::new(alloc),
+        channels: ById::new(alloc),
+        members,
+        member_count: member_count(intents, create.member_count),
+        threads: ById::new(alloc),
+        voices: ById::new(alloc),
+        presences: ById::new(alloc),
+    };
+    let Ok(()) = fill(alloc, intents, bot, &mut view, create) else {
+        drop(view);
+        return Err(AllocError);
+    };
+    Ok(Some(GuildView::Open(view)))
+}
+
 /// The view that GUILD_CREATE gives: none without GUILDS, or where the own member is not told
 /// (Gateway Events, Guild Create).
 pub(crate) fn created_view(
@@ -168,26 +233,8 @@ pub(crate) fn created_view(
 ) -> Result<Option<GuildView>, AllocError>
     ensures { IfOk result (λ view. view ≡ created_view intents bot create) }
 {
-    if !intents.has(Intents::GUILDS) {
-        return Ok(None);
-    }
-    let (members, me) = told_members(alloc, bot, create.members)?;
-    let Some(me) = me else {
-        return Ok(None);
-    };
-    Ok(Some(GuildView::Open(OpenView {
-        name: create.name,
-        owner: create.owner,
-        me,
-        roles: ById::of(alloc, create.roles.into_vec())?,
-        channels: ById::of(alloc, channels_of(alloc, create.channels.into_vec())?)?,
-        members: listed_members(alloc, intents, members)?,
-        member_count: member_count(intents, create.member_count),
-        threads: ById::of(
-            alloc,
-            threads_of(alloc, intents, bot, create.threads.into_vec())?,
-        )?,
-        voices: ById::of(alloc, voices_of(alloc, create.voices.as_slice())?)?,
-        presences: listed_presences(alloc, intents, create.presences.as_slice())?,
-    })))
+    let mut create = create;
+    let view = opened_view(alloc, intents, bot, &mut create);
+    drop(create);
+    view
 }

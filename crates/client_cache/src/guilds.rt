@@ -81,7 +81,10 @@ fn add(
     ensures err { OnErr result (entries.new ≡ entries.old) }
 {
     let mut entry = HeldGuild::empty(alloc, guild);
-    fold_entry(alloc, intents, bot, &mut entry, dispatch)?;
+    let Ok(()) = fold_entry(alloc, intents, bot, &mut entry, dispatch) else {
+        drop(entry);
+        return Err(AllocError);
+    };
     entries.put(entry)
 }
 
@@ -246,8 +249,14 @@ impl Guilds {
             (entry_after intents bot dispatch (entry_of guild self.old)) self.old) }
         ensures err { OnErr result (self.new ≡ self.old) }
     {
-        unsettle(&mut self.unsettled, guild, may_hide(&dispatch))?;
-        self.viewed.put(guild)?;
+        let Ok(()) = unsettle(&mut self.unsettled, guild, may_hide(&dispatch)) else {
+            drop(dispatch);
+            return Err(AllocError);
+        };
+        let Ok(()) = self.viewed.put(guild) else {
+            drop(dispatch);
+            return Err(AllocError);
+        };
         let changed = change_entry(alloc, intents, bot, &mut self.entries, guild, dispatch);
         relist(&mut self.viewed, guild, has_view(&self.entries, guild));
         changed

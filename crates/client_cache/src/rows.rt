@@ -20,6 +20,7 @@ use dispatch_types::{Dispatch, GuildView, OpenView, Ready};
 use intent_set::Intents;
 use snowflake_id::Snowflake;
 use std::alloc::{AllocError, Global};
+use std::mem::replace;
 
 /// The guild that a dispatch is of.
 pub(crate) fn guild_of(dispatch: &Dispatch) -> Option<Snowflake>
@@ -150,7 +151,10 @@ fn fold_open(
         }
         Dispatch::VoiceStateUpdate { voice, .. } => set_voice(view, &voice),
         Dispatch::PresenceUpdate(presence) => set_presence(view, &presence),
-        _ => Ok(()),
+        rest => {
+            drop(rest);
+            Ok(())
+        }
     }
 }
 
@@ -167,8 +171,14 @@ fn fold_held(
 {
     match view {
         Some(GuildView::Open(view)) => fold_open(alloc, intents, bot, view, dispatch),
-        Some(GuildView::Unavailable) => Ok(()),
-        None => Ok(()),
+        Some(GuildView::Unavailable) => {
+            drop(dispatch);
+            Ok(())
+        }
+        None => {
+            drop(dispatch);
+            Ok(())
+        }
     }
 }
 
@@ -185,11 +195,12 @@ fn fold_view(
 {
     match dispatch {
         Dispatch::GuildCreate(create) => {
-            *view = created_view(alloc, intents, bot, create)?;
+            let created = created_view(alloc, intents, bot, create)?;
+            drop(replace(view, created));
             Ok(())
         }
         Dispatch::GuildDelete { unavailable, .. } => {
-            *view = unavailable_view(intents, unavailable);
+            drop(replace(view, unavailable_view(intents, unavailable)));
             Ok(())
         }
         dispatch => fold_held(alloc, intents, bot, view, dispatch),
@@ -208,7 +219,10 @@ pub(crate) fn fold_entry(
     ensures id { held.new.id ≡ held.old.id }
     ensures err { OnErr result (held.new ≡ held.old) }
 {
-    let known = known_after(alloc, &held.known, &dispatch)?;
+    let Ok(known) = known_after(alloc, &held.known, &dispatch) else {
+        drop(dispatch);
+        return Err(AllocError);
+    };
     fold_view(alloc, intents, bot, &mut held.view, dispatch)?;
     if let Some(known) = known {
         held.known = known;

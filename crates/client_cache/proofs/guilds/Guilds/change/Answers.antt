@@ -9,13 +9,13 @@ use Rattle.client_cache.proofs.Settled.{unsettled-after, more-unsettled}
 use Rattle.client_cache.proofs.guilds.Guilds.change.Goals as goal
 
 pub invariant_of-self : goal.invariant_of-self
-invariant_of-self c = rw c.in_err-unsettle.ensures.err c.self.invariant
+invariant_of-self c = rw c.in_default.ensures.err c.self.invariant
 
-pub invariant_of-self-in_err-put : goal.invariant_of-self-in_err-put
-invariant_of-self-in_err-put c =
+pub invariant_of-self-in_default-put : goal.invariant_of-self-in_default-put
+invariant_of-self-in_default-put c =
     let marked : c.unsettle.new.unsettled ≡ (if may_hide c.args.dispatch then put_id own_id c.args.guild c.self.inside.unsettled else c.self.inside.unsettled) =
-    c.in_ok-unsettle.ensures.ok ∙ ap (λ (b : Bool). if b then put_id own_id c.args.guild c.self.inside.unsettled else c.self.inside.unsettled) c.may_hide.ensures in (
-      rw c.in_err-put.ensures.err c.self.invariant.0,
+    c.in-Ok.ensures.ok ∙ ap (λ (b : Bool). if b then put_id own_id c.args.guild c.self.inside.unsettled else c.self.inside.unsettled) c.may_hide.ensures in (
+      rw c.in_default-put.ensures.err c.self.invariant.0,
       more-unsettled c.args.guild (may_hide c.args.dispatch) c.self.inside.unsettled c.unsettle.new.unsettled c.self.inside.entries c.self.invariant.1 marked,
     )
 
@@ -25,11 +25,11 @@ invariant_of-self-2 c =
     let old : List HeldGuild = c.self.inside.entries in
     let now : List HeldGuild = c.change_entry-changed.new.entries in
     let marked : c.unsettle.new.unsettled ≡ (if may_hide c.args.dispatch then put_id own_id c.args.guild c.self.inside.unsettled else c.self.inside.unsettled) =
-    c.in_ok-unsettle.ensures.ok ∙ ap (λ (b : Bool). if b then put_id own_id c.args.guild c.self.inside.unsettled else c.self.inside.unsettled) c.may_hide.ensures in
+    c.in-Ok.ensures.ok ∙ ap (λ (b : Bool). if b then put_id own_id c.args.guild c.self.inside.unsettled else c.self.inside.unsettled) c.may_hide.ensures in
     let list : c.relist.new.viewed ≡ (if is_some (held_in 0 now c.args.guild).view then put_id own_id c.args.guild c.self.inside.viewed else without_id own_id c.args.guild (put_id own_id c.args.guild c.self.inside.viewed)) =
     c.relist.ensures
     ∙ (ap (λ (b : Bool). if b then c.put.new.self else without_id own_id c.args.guild c.put.new.self) c.has_view.ensures
-    ∙ ap (λ (v : List ℕ). if is_some (held_in 0 now c.args.guild).view then v else without_id own_id c.args.guild v) c.in_ok-put.ensures.ok) in (
+    ∙ ap (λ (v : List ℕ). if is_some (held_in 0 now c.args.guild).view then v else without_id own_id c.args.guild v) c.in-Ok-put.ensures.ok) in (
       subst (λ (v : List ℕ). AreViewed v now) (sym list)
           (relisted c.args.guild c.self.inside.viewed old now c.self.invariant.0
           (others-either c.args.guild (entry_after c.args.intents c.args.bot c.args.dispatch (entry_of c.args.guild old)) old now (entry-id c.args.guild old) c.change_entry-changed.result c.change_entry-changed.ensures.ok c.change_entry-changed.ensures.err)),
