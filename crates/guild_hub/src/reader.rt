@@ -154,7 +154,10 @@ impl HubReader {
             basis,
             entries,
         } = replace_with(&mut self.reader, with, ruled::rebase)?;
-        let entries = copies(self.alloc, &entries)?;
+        let Ok(entries) = copies(self.alloc, &entries) else {
+            drop(basis);
+            return Err(AllocError);
+        };
         let base = note.base();
         let sealed = note.is_sealed();
         self.base = base;

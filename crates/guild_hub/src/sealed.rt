@@ -36,10 +36,11 @@ impl<R: Wait + Drop> Drop for SealedLog<R> {
         let Self {
             rt,
             note: _note,
-            front: _front,
+            front,
             accepted: _,
             writer,
         } = self;
+        drop(front);
         drop(writer.take(&rt));
     }
 }

@@ -198,12 +198,13 @@ impl<R: Wait + Drop> HubWriter<R> {
             alloc: _,
             head: _head,
             note: _note,
-            front: _front,
+            front,
             accepted: _,
             writer,
             mark,
             spent: _,
         } = self;
+        drop(front);
         mark.store();
         leave_to_readers(rt, writer);
     }
