@@ -209,7 +209,10 @@ impl Client {
     fn on_dispatch(&mut self, dispatch: Dispatch, number: u64) -> Result<Vec<Act>, ClientFault>
         ensures { (now : ℕ) → MatchResult result (λ acts. Steps self.old (Receives (payload.Dispatch dispatch number) now) self.new acts.items) (Keeps self.old self.new) }
     {
-        let begun = begun(self.alloc, &dispatch, number)?;
+        let Ok(begun) = begun(self.alloc, &dispatch, number) else {
+            drop(dispatch);
+            return Err(ClientFault::Memory);
+        };
         self.cache.fold(dispatch)?;
         hold(&mut self.session, begun, number);
         Ok(Vec::new(self.alloc))

@@ -72,8 +72,9 @@ fn lines_of(alloc: Global, text: &str) -> Result<Vec<String>, AllocError> {
 // The dispatch that a text is, as it is written.
 fn written(alloc: Global, line: &str) -> Result<String, DispatchFault> {
     let (dispatch, number) = read(alloc, line)?;
-    let text = write(alloc, &dispatch, number)?;
-    Ok(text)
+    let text = write(alloc, &dispatch, number);
+    drop(dispatch);
+    Ok(text?)
 }
 
 fn show(rt: &HostRuntime, line: &str) -> anyhow::Result<()> {

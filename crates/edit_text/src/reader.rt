@@ -174,7 +174,10 @@ impl StepReader {
                 Ok(None)
             }
             Ok(Some(line)) => {
-                self.note(&line)?;
+                let Ok(()) = self.note(&line) else {
+                    drop(line);
+                    return Err(LineFault::Memory);
+                };
                 self.count();
                 Ok(Some(line))
             }

@@ -102,9 +102,14 @@ pub fn read(alloc: Global, text: &str) -> Result<(Dispatch, u64), DispatchFault>
         return Err(DispatchFault::NotJson);
     };
     let (dispatch, number) = candidate(alloc, &value)?;
-    if is_of(alloc, &value, &dispatch, number)? {
+    let Ok(is_exact) = is_of(alloc, &value, &dispatch, number) else {
+        drop(dispatch);
+        return Err(DispatchFault::Memory);
+    };
+    if is_exact {
         Ok((dispatch, number))
     } else {
+        drop(dispatch);
         Err(DispatchFault::BadField)
     }
 }

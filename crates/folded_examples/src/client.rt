@@ -59,6 +59,7 @@ impl Client {
     /// number of the last (Gateway, Resuming). Says whether none is missing before it.
     pub fn take(&mut self, dispatch: Dispatch, number: u64) -> Result<bool, AllocError> {
         if number <= self.last {
+            drop(dispatch);
             return Ok(true);
         }
         self.cache.fold(dispatch)?;
@@ -76,13 +77,17 @@ impl Client {
     /// at.
     pub fn agrees(&self, alloc: Global, log: &GuildLog) -> Result<bool, AllocError> {
         let record = log.record(alloc, self.worker)?;
-        self.agrees_with(alloc, &record)
+        let agrees = self.agrees_with(alloc, &record);
+        drop(record);
+        agrees
     }
 
     fn agrees_with(&self, alloc: Global, guild: &Guild) -> Result<bool, AllocError> {
         let known = self.cache.known(guild.id);
         let wanted = project(alloc, guild, &self.viewer, known)?;
-        Ok(self.holds(guild.id, wanted.as_ref()))
+        let holds = self.holds(guild.id, wanted.as_ref());
+        drop(wanted);
+        Ok(holds)
     }
 
     // Whether the client holds this view of a guild, and lists the guild where there is one.

@@ -52,7 +52,10 @@ impl Clients {
     ) -> Result<bool, AllocError> {
         match self.clients.get_mut(place) {
             Some(client) => client.take(dispatch, number),
-            None => Ok(false),
+            None => {
+                drop(dispatch);
+                Ok(false)
+            }
         }
     }
 }

@@ -19,13 +19,22 @@ fn add(alloc: Global, guild: &mut Guild, edit: &Edit) -> Result<(), AllocError> 
     Ok(())
 }
 
+fn add_all(
+    alloc: Global,
+    guild: &mut Guild,
+    edits: &[Edit],
+    count: usize,
+) -> Result<(), AllocError> {
+    for edit in edits.iter().take(count) {
+        add(alloc, guild, edit)?;
+    }
+    Ok(())
+}
+
 // A guild after some edits.
 fn after(alloc: Global, id: Snowflake, edits: &[Edit], count: usize) -> Result<Guild, AllocError> {
     let mut guild = Guild::closed(alloc, id);
-    for edit in edits.iter().take(count) {
-        add(alloc, &mut guild, edit)?;
-    }
-    Ok(guild)
+    add_all(alloc, &mut guild, edits, count).and(Ok(guild))
 }
 
 impl GuildLog {

@@ -76,7 +76,10 @@ impl Script {
                 Ok(())
             }
             Ok(Frame::Resume(resume)) => self.connections.resume(number, resume.session),
-            _ => Ok(()),
+            other => {
+                drop(other);
+                Ok(())
+            }
         }
     }
 }

@@ -69,10 +69,13 @@ impl Transcript {
         dispatch: Dispatch,
         count: u64,
     ) -> Result<bool, AllocError> {
-        self.begin_by(number, &dispatch)?;
+        let dispatch = self.begin_by(number, &dispatch).and(Ok(dispatch))?;
         match self.place_of(number) {
             Some(place) => self.clients.fold(place, dispatch, count),
-            None => Ok(false),
+            None => {
+                drop(dispatch);
+                Ok(false)
+            }
         }
     }
 

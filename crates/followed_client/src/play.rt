@@ -199,11 +199,12 @@ fn followers_of(alloc: Global) -> anyhow::Result<Vec<Follower>> {
 }
 
 fn stage_of(alloc: Global, heads: Heads) -> anyhow::Result<Stage> {
+    let followers = followers_of(alloc)?;
     let gateway = Gateway::new(alloc, heads.bots, heads.guilds.as_slice())?;
     Ok(Stage {
         alloc,
         gateway,
-        followers: followers_of(alloc)?,
+        followers,
         clock: 0,
     })
 }
@@ -218,17 +219,31 @@ fn play_all(rt: &HostRuntime, stage: &mut Stage, lines: Vec<Line>) -> anyhow::Re
     stage.carry_all(&report, ENOUGH)
 }
 
-/// Plays a step file, of which the bot `t1` is the one that the first and the last client are.
-pub fn play(rt: &HostRuntime, path: &str) -> anyhow::Result<()> {
-    let alloc = rt.alloc();
-    let text = fs::read_to_string(rt, path)?;
-    let lines = lines_of(alloc, text.as_str())?;
-    let heads = heads_of(alloc, lines.as_slice())?;
-    let guilds = heads.guilds.clone()?;
-    let mut stage = stage_of(alloc, heads)?;
-    play_all(rt, &mut stage, lines)?;
-    for guild in &guilds {
+fn play_and_compare(
+    rt: &HostRuntime,
+    stage: &mut Stage,
+    lines: Vec<Line>,
+    guilds: &[Snowflake],
+) -> anyhow::Result<()> {
+    play_all(rt, stage, lines)?;
+    for guild in guilds {
         stage.compare(rt, *guild)?;
     }
     Ok(())
+}
+
+fn play_lines(rt: &HostRuntime, lines: Vec<Line>) -> anyhow::Result<()> {
+    let alloc = rt.alloc();
+    let heads = heads_of(alloc, lines.as_slice())?;
+    let guilds = heads.guilds.clone()?;
+    let mut stage = stage_of(alloc, heads)?;
+    let played = play_and_compare(rt, &mut stage, lines, guilds.as_slice());
+    drop(stage);
+    played
+}
+
+/// Plays a step file, of which the bot `t1` is the one that the first and the last client are.
+pub fn play(rt: &HostRuntime, path: &str) -> anyhow::Result<()> {
+    let text = fs::read_to_string(rt, path)?;
+    play_lines(rt, lines_of(rt.alloc(), text.as_str())?)
 }

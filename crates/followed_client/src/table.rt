@@ -8,6 +8,7 @@ use collections::Text;
 use intent_set::Intents;
 use snowflake_id::Snowflake;
 use std::fs;
+use std::mem::replace;
 
 /// A line of a table.
 enum Row<'a> {
@@ -113,7 +114,7 @@ fn show_row(rt: &HostRuntime, client: &mut Client, row: Row<'_>) -> anyhow::Resu
             Ok(())
         }
         Row::Client(token, intents) => {
-            *client = new_client(rt, token, intents)?;
+            drop(replace(client, new_client(rt, token, intents)?));
             Ok(())
         }
         Row::Text(now, text) => match client.on_text(text, now) {
@@ -130,12 +131,18 @@ fn show_row(rt: &HostRuntime, client: &mut Client, row: Row<'_>) -> anyhow::Resu
     }
 }
 
+fn show_rows(rt: &HostRuntime, client: &mut Client, text: &str) -> anyhow::Result<()> {
+    for line in text.lines() {
+        show_row(rt, client, row_of(line)?)?;
+    }
+    Ok(())
+}
+
 /// Prints each line of a table with what the client does.
 pub fn show(rt: &HostRuntime, path: &str) -> anyhow::Result<()> {
     let text = fs::read_to_string(rt, path)?;
     let mut client = new_client(rt, "", 0)?;
-    for line in text.as_str().lines() {
-        show_row(rt, &mut client, row_of(line)?)?;
-    }
-    Ok(())
+    let shown = show_rows(rt, &mut client, text.as_str());
+    drop(client);
+    shown
 }

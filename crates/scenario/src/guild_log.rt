@@ -40,8 +40,14 @@ impl GuildLog {
         ensures answer { IfOk result (λ answer. answer ≡ verdict self.old.guild edit) }
         ensures log { OnOk result (self.new ≡ record { guild = after self.old.guild edit; entries = self.old.entries ++ edit ∷ [] }) }
     {
-        let copy = edit.copy(alloc)?;
-        let answer = apply(alloc, &mut self.guild, copy)?;
+        let Ok(copy) = edit.copy(alloc) else {
+            drop(edit);
+            return Err(AllocError);
+        };
+        let Ok(answer) = apply(alloc, &mut self.guild, copy) else {
+            drop(edit);
+            return Err(AllocError);
+        };
         self.entries.push(edit)?;
         Ok(answer.err())
     }

@@ -106,16 +106,23 @@ impl Stage {
         ensures plays { OnOk result ((p : Player) → Stands self.old p → Plays p (line.Edit guild edit) self.new []) }
     {
         if let Some(verdict) = self.turned_away(guild) {
+            drop(edit);
             return Ok(Some(verdict));
         }
-        start(
+        let Ok(()) = start(
             self.alloc,
             &mut self.seats,
             self.bots.as_slice(),
             self.guilds.as_slice(),
-        )?;
+        ) else {
+            drop(edit);
+            return Err(AllocError);
+        };
         let mut log = self.logs.exchange(GuildLog::new(self.alloc, guild));
-        let answer = log.add(self.alloc, edit)?;
+        let Ok(answer) = log.add(self.alloc, edit) else {
+            drop(log);
+            return Err(AllocError);
+        };
         self.logs.put(log)?;
         Ok(answer)
     }

@@ -24,8 +24,8 @@ returns-in_err-dispatch-clause-each c = λ d n h.
       | inr e ↦ absurd (let both = e ∙ found in cc)
     ]
 
-pub returns-then-branch-clause-each : goal.returns-then-branch-clause-each
-returns-then-branch-clause-each c = λ d n h.
+pub returns-then-is_exact-clause-each : goal.returns-then-is_exact-clause-each
+returns-then-is_exact-clause-each c = λ d n h.
     let is : reading c.args.text.now ≡ Some (view c.in-Some.value) = sym (ap reading c.as_bytes.ensures.value) ∙ sym c.in_ok-value.ensures.value ∙ ap (option_map view) c.in-Some.is in
     let found = is_candidate c.args.text.now (view c.in-Some.value) d n is h in
     elim c.in_ok-dispatch.ensures [
@@ -41,7 +41,7 @@ returns-clause-each c = λ d n h.
     elim c.in_ok-dispatch.ensures [
       | inl e ↦ absurd cc
       | inr e ↦ absurd (let both : (c.in_ok-dispatch.dispatch, c.in_ok-dispatch.number) ≡ (d, n) = same_pair (c.in_ok-dispatch.dispatch, c.in_ok-dispatch.number) (d, n) _ e found in
-          c.in_ok-is_of.ensures.no c.if-branch.false (same ∙ sym (ap (λ p. data_of p.0 p.1) both)))
+          c.in-Ok.ensures.no c.if-is_exact.false (same ∙ sym (ap (λ p. data_of p.0 p.1) both)))
     ]
 
 pub returns-clause-fault : goal.returns-clause-fault
