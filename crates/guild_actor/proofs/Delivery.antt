@@ -1,11 +1,11 @@
 -- What the actor holds when one request more was delivered.
-use Rattle.std.proofs.Common.{◌≡◌, ℕ, zero, suc, ◌+◌, ◌-◌, ◌^◌, ◌<◌, ◌==◌, ◌||◌, min, Bool, true, false, not, cond, List, [], ◌∷◌, ◌++◌, map, length, get_or, set, eqb, not-suc-le-zero, sym, refl, ap, ap₂, ◌∙◌, subst, arith}
+use Rattle.std.proofs.Common.{◌≡◌, ℕ, zero, suc, ◌+◌, ◌-◌, ◌^◌, ◌<◌, ◌==◌, ◌||◌, min, Bool, true, false, cond, List, [], ◌∷◌, ◌++◌, map, length, get_or, set, not-suc-le-zero, sym, refl, ap, ◌∙◌, subst, arith}
 use Rattle.std.proofs.lemmas.Bool.Decides.{Decides-eqb}
 use Rattle.edit_post.specs.declared.request.Request.{Request}
-use Rattle.guild_hub.specs.Logs.{Published, published, with_entry}
-use Rattle.guild_hub.specs.Writes.{Publishing, publishing}
+use Rattle.guild_hub.specs.Logs.{published, with_entry}
+use Rattle.guild_hub.specs.Writes.{publishing}
 use Rattle.guild_actor.specs.Acts.{entries_of, refused_of, most, has_guild, strays_of, full_of, counted, guilds_of, AreDistinct, new_writer}
-use Rattle.guild_actor.specs.Desks.{Holding, holding, writer_after, held_after, logs_of, edited, Publishes}
+use Rattle.guild_actor.specs.Desks.{Holding, holding, writer_after, held_after, edited, Publishes}
 use Rattle.guild_actor.proofs.Edits.{entries_room, refused_room, entries_full, refused_full}
 use Rattle.guild_actor.proofs.Counts.{strays_none, strays_one, full_stays, full_more}
 use Rattle.guild_actor.proofs.Writers.{Writer, stays, one_more, many, guilds_after, new_after, guild_of_place}
