@@ -1,0 +1,40 @@
+//! Dials in memory.
+
+use crate::words::{content, heard};
+use gate_outside::dials::Dial;
+use gate_outside::links::Link;
+use std::alloc::{AllocError, Global};
+use std::collections::VecDeque;
+use thread_outside::mem_dial::MemDial;
+use thread_outside::script::Script;
+
+// What a dial of a URL gives. A link is heard once and goes back.
+fn dialled<D: Dial>(alloc: Global, dial: &mut D, url: &str) -> Result<String, AllocError> {
+    match dial.dial(url) {
+        Ok(mut link) => {
+            let heard = heard(alloc, link.recv());
+            dial.back(link);
+            heard
+        }
+        Err(fault) => format!(in alloc; "{fault:?}"),
+    }
+}
+
+// A dial to two ends, of which the second fails at once. Its first call fails.
+fn planned(alloc: Global) -> Result<MemDial<Script>, AllocError> {
+    let mut ends = VecDeque::new(alloc);
+    ends.push_back(content(alloc, "one", &[])?)?;
+    ends.push_back(content(alloc, "two", &[1])?)?;
+    Ok(MemDial::new(alloc, ends, [1].to_vec(alloc)?))
+}
+
+/// Shows a dial and its dry run.
+pub fn show(rt: &HostRuntime) -> anyhow::Result<()> {
+    let mut dial = planned(rt.alloc())?;
+    for url in ["ws://a/", "ws://b/", "ws://c/", "ws://d/"] {
+        let answer = dialled(rt.alloc(), &mut dial, url)?;
+        let (urls, dry_run) = (dial.urls().len(), dial.dry_run());
+        println!(rt; "dial: {answer}, {urls} URLs, a dry run of {dry_run}")?;
+    }
+    Ok(())
+}

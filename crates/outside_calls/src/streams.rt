@@ -1,0 +1,59 @@
+//! Sources and sinks in memory.
+
+use gate_outside::faults::Fault;
+use gate_outside::mem_streams::{MemSink, MemSource, SureSink, SureSource};
+use gate_outside::piece::Piece;
+use gate_outside::streams::{Sink, Source, write_all};
+use std::alloc::AllocError;
+use std::str;
+
+/// Moves one piece from the source to the sink, and says how many bytes it had.
+pub fn move_piece<S: Source, K: Sink>(
+    source: &mut S,
+    sink: &mut K,
+    piece: &mut Piece,
+) -> Result<usize, Fault> {
+    piece.fill(source)?;
+    write_all(sink, piece.bytes())?;
+    Ok(piece.bytes().len())
+}
+
+// A source that gives at most four bytes at once, and a sink that takes at most three.
+fn planned(rt: &HostRuntime) -> Result<(MemSource, MemSink), AllocError> {
+    let alloc = rt.alloc();
+    let source = MemSource::with_most(b"abcdef".to_vec(alloc)?, 4, [2, 5].to_vec(alloc)?);
+    let sink = MemSink::new(alloc, 3, [2].to_vec(alloc)?);
+    Ok((source, sink))
+}
+
+// The second and fifth read and the second write fail, but no read after the end.
+fn show_planned(rt: &HostRuntime) -> anyhow::Result<()> {
+    let (mut source, mut sink) = planned(rt)?;
+    let mut piece = Piece::new(rt.alloc())?;
+    for _ in 0..5 {
+        let moved = move_piece(&mut source, &mut sink, &mut piece);
+        let got = str::from_utf8(sink.bytes())?;
+        println!(rt; "stream: {moved:?}, the sink has {got}")?;
+    }
+    let (reads, writes) = (source.faults(), sink.faults());
+    println!(rt; "stream: {reads} and {writes} faults")?;
+    Ok(())
+}
+
+fn show_sure(rt: &HostRuntime) -> anyhow::Result<()> {
+    let mut source = SureSource::new(b"abcdef".to_vec(rt.alloc())?);
+    let mut sink = SureSink::new(rt.alloc());
+    let mut piece = Piece::new(rt.alloc())?;
+    for _ in 0..2 {
+        let moved = move_piece(&mut source, &mut sink, &mut piece);
+        let got = str::from_utf8(sink.bytes())?;
+        println!(rt; "sure stream: {moved:?}, the sink has {got}")?;
+    }
+    Ok(())
+}
+
+/// Shows both forms.
+pub fn show(rt: &HostRuntime) -> anyhow::Result<()> {
+    show_planned(rt)?;
+    show_sure(rt)
+}
