@@ -1,12 +1,11 @@
 -- How the counts of strays and of full logs go on with a request.
-use Rattle.std.proofs.Common.{◌≡◌, ◌≢◌, ◌⊎◌, ℕ, zero, suc, ◌+◌, ◌-◌, ◌<◌, ◌==◌, ◌||◌, Bool, true, false, not, List, [], ◌∷◌, ◌++◌, map, length, cond, eqb, get_or, true≢false, not-suc-le-zero, add-zero, sym, refl, ap, ap₂, ◌∙◌, subst, ⊎_elim, arith, length-append}
-use Rattle.std.specs.List.{filter, list_any}
+use Rattle.std.proofs.Common.{◌≡◌, ◌≢◌, ℕ, zero, suc, ◌+◌, ◌-◌, ◌<◌, ◌==◌, ◌||◌, Bool, true, false, not, List, [], ◌∷◌, ◌++◌, length, cond, eqb, get_or, true≢false, not-suc-le-zero, add-zero, sym, refl, ap, ap₂, ◌∙◌, subst, ⊎_elim, arith, length-append}
+use Rattle.std.specs.List.{filter}
 use Rattle.std.proofs.lemmas.List.Elements.{filter-append}
-use Rattle.std.proofs.lemmas.Bool.{cases_Bool}
-use Rattle.std.proofs.lemmas.Bool.Decides.{Decides-eqb, eqb_tells}
+use Rattle.std.proofs.lemmas.Bool.Decides.{eqb_tells}
 use Rattle.edit_post.specs.declared.request.Request.{Request}
-use Rattle.guild_actor.specs.Acts.{edits_of, entries_of, refused_of, most, has_guild, strays_of, full_of, counted, AreDistinct}
-use Rattle.guild_actor.proofs.Edits.{edits_other, refused_room, refused_full}
+use Rattle.guild_actor.specs.Acts.{refused_of, most, has_guild, strays_of, full_of, AreDistinct}
+use Rattle.guild_actor.proofs.Edits.{edits_other}
 
 is_stray : List ℕ → Request → Bool
 is_stray guilds r = not (has_guild r.guild guilds)

@@ -1,11 +1,11 @@
 -- What the actor holds when one request more was delivered.
-use Rattle.std.proofs.Common.{◌≡◌, ℕ, zero, suc, ◌+◌, ◌-◌, ◌^◌, ◌<◌, ◌==◌, ◌||◌, min, Bool, true, false, not, cond, List, [], ◌∷◌, ◌++◌, map, length, get_or, set, eqb, not-suc-le-zero, sym, refl, ap, ap₂, ◌∙◌, subst, arith}
+use Rattle.std.proofs.Common.{◌≡◌, ℕ, zero, suc, ◌+◌, ◌-◌, ◌^◌, ◌<◌, ◌==◌, ◌||◌, min, Bool, true, false, cond, List, [], ◌∷◌, ◌++◌, map, length, get_or, set, not-suc-le-zero, sym, refl, ap, ◌∙◌, subst, arith}
 use Rattle.std.proofs.lemmas.Bool.Decides.{Decides-eqb}
 use Rattle.edit_post.specs.declared.request.Request.{Request}
-use Rattle.guild_hub.specs.Logs.{Published, published, with_entry}
-use Rattle.guild_hub.specs.Writes.{Publishing, publishing}
+use Rattle.guild_hub.specs.Logs.{published, with_entry}
+use Rattle.guild_hub.specs.Writes.{publishing}
 use Rattle.guild_actor.specs.Acts.{entries_of, refused_of, most, has_guild, strays_of, full_of, counted, guilds_of, AreDistinct, new_writer}
-use Rattle.guild_actor.specs.Desks.{Holding, holding, writer_after, held_after, logs_of, edited, Publishes}
+use Rattle.guild_actor.specs.Desks.{Holding, holding, writer_after, held_after, edited, Publishes}
 use Rattle.guild_actor.proofs.Edits.{entries_room, refused_room, entries_full, refused_full}
 use Rattle.guild_actor.proofs.Counts.{strays_none, strays_one, full_stays, full_more}
 use Rattle.guild_actor.proofs.Writers.{Writer, stays, one_more, many, guilds_after, new_after, guild_of_place}
@@ -46,9 +46,9 @@ module _ (ws : List Writer) (rs : List Request) (r : Request) where
   stray none =
       let no : has_guild r.guild (guilds_of ws) ≡ false = subst (λ gs. has_guild r.guild gs ≡ false) (guilds_after rs ws) none in
       held ws now (map (writer_after rs) ws) (min (counted (strays_of (guilds_of ws) rs) + 1) (2 ^ 64 - 1)) (counted (full_of (guilds_of ws) rs))
-          (stays rs r ws no)
-          (counted_more (strays_of (guilds_of ws) rs) ∙ ap counted (sym (strays_one (guilds_of ws) rs r no)))
-          (ap counted (sym (full_stays (guilds_of ws) rs r no)))
+      (stays rs r ws no)
+      (counted_more (strays_of (guilds_of ws) rs) ∙ ap counted (sym (strays_one (guilds_of ws) rs r no)))
+      (ap counted (sym (full_stays (guilds_of ws) rs r no)))
 
   module _ (place d : ℕ) (y : Writer) (distinct : AreDistinct (guilds_of ws)) (lt : place < length ws) (at : get_or (guilds_of ws) place d ≡ r.guild) where
     own : (get_or ws place y).0 ≡ r.guild
@@ -69,9 +69,9 @@ module _ (ws : List Writer) (rs : List Request) (r : Request) where
     room is low =
         let w : Writer = get_or ws place y in
         held ws now (set (map (writer_after rs) ws) place y) (counted (strays_of (guilds_of ws) rs)) (counted (full_of (guilds_of ws) rs))
-            (one_more rs r ws place d y distinct lt at (is ∙ ap (λ l. (w.0, publishing (published w.1.log.hub l false) w.1.mark false)) (sym (entries_room w.0 rs r own low))))
-            no_stray
-            (ap counted (sym (more 0 (refused_room w.0 rs r own low ∙ omega arith) ∙ omega arith)))
+        (one_more rs r ws place d y distinct lt at (is ∙ ap (λ l. (w.0, publishing (published w.1.log.hub l false) w.1.mark false)) (sym (entries_room w.0 rs r own low))))
+        no_stray
+        (ap counted (sym (more 0 (refused_room w.0 rs r own low ∙ omega arith) ∙ omega arith)))
 
     -- a request whose log is full
     pub full : y ≡ writer_after rs (get_or ws place y) → length (entries_of (get_or ws place y).0 rs) ≡ most
@@ -79,9 +79,9 @@ module _ (ws : List Writer) (rs : List Request) (r : Request) where
     full is high =
         let w : Writer = get_or ws place y in
         held ws now (set (map (writer_after rs) ws) place y) (counted (strays_of (guilds_of ws) rs)) (min (counted (full_of (guilds_of ws) rs) + 1) (2 ^ 64 - 1))
-            (one_more rs r ws place d y distinct lt at (is ∙ ap (λ l. (w.0, publishing (published w.1.log.hub l false) w.1.mark false)) (sym (entries_full w.0 rs r own high))))
-            no_stray
-            (counted_more (full_of (guilds_of ws) rs) ∙ ap counted (sym (more 1 (refused_full w.0 rs r own high))))
+        (one_more rs r ws place d y distinct lt at (is ∙ ap (λ l. (w.0, publishing (published w.1.log.hub l false) w.1.mark false)) (sym (entries_full w.0 rs r own high))))
+        no_stray
+        (counted_more (full_of (guilds_of ws) rs) ∙ ap counted (sym (more 1 (refused_full w.0 rs r own high))))
 
 full_none : (gs : List ℕ) → full_of gs [] ≡ 0
 full_none [] = refl
@@ -119,7 +119,7 @@ pub edit_of : (ws : List Writer) (rs : List Request) (r : Request) (h : Holding)
     → (added : Bool) (new : List Writer) → Publishes h.writers place r.edit added new → (n : ℕ) → n ≡ cond added h.full (min (h.full + 1) last) → holding new h.strays n ≡ held_after ws (rs ++ r ∷ [])
 edit_of ws rs r h e =
     subst (λ (k : Holding). AreDistinct (guilds_of k.writers) → (place : ℕ) → place < length k.writers → ((d : ℕ) → get_or (guilds_of k.writers) place d ≡ r.guild)
-        → (added : Bool) (new : List Writer) → Publishes k.writers place r.edit added new → (n : ℕ) → n ≡ cond added k.full (min (k.full + 1) last) → holding new k.strays n ≡ held_after ws (rs ++ r ∷ [])) (sym e)
+    → (added : Bool) (new : List Writer) → Publishes k.writers place r.edit added new → (n : ℕ) → n ≡ cond added k.full (min (k.full + 1) last) → holding new k.strays n ≡ held_after ws (rs ++ r ∷ [])) (sym e)
     (of_these ws)
   where
     of_these : (vs : List Writer) → AreDistinct (guilds_of (map (writer_after rs) vs)) → (place : ℕ) → place < length (map (writer_after rs) vs) → ((d : ℕ) → get_or (guilds_of (map (writer_after rs) vs)) place d ≡ r.guild)

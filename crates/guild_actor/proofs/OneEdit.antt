@@ -1,5 +1,5 @@
 -- What the writers are after one of them published, or refused.
-use Rattle.std.proofs.Common.{◌≡◌, ℕ, zero, suc, ◌<◌, Bool, true, false, Result, Ok, Err, IfOk, IfErr, OnErr, List, [], ◌∷◌, map, length, get_or, set, true≢false, not-suc-le-zero, sym, refl, ap, ap₂, ◌∙◌, subst, arith}
+use Rattle.std.proofs.Common.{◌≡◌, ℕ, zero, suc, ◌<◌, Bool, true, false, Result, Ok, Err, IfOk, IfErr, OnErr, List, [], ◌∷◌, map, length, get_or, set, true≢false, not-suc-le-zero, sym, ap, ◌∙◌, subst, arith}
 use Rattle.std.proofs.lemmas.List.{get_or_default}
 use Rattle.edit_apply.specs.declared.Edit.{Edit}
 use Rattle.guild_hub.specs.declared.writer.HubRefused.{HubRefused}
@@ -7,7 +7,7 @@ use Rattle.guild_hub.specs.declared.writer.HubRefused.TheVariants.{Full, Memory}
 use Rattle.guild_hub.specs.Logs.{with_entry}
 use Rattle.guild_hub.specs.Writes.{Publishing, publishing, Refuses}
 use Rattle.guild_actor.specs.Acts.{most, guilds_of}
-use Rattle.guild_actor.specs.Desks.{Publishes, HasRoom, Tells, edited, logs_of}
+use Rattle.guild_actor.specs.Desks.{Publishes, Tells, edited, logs_of}
 use Rattle.guild_actor.proofs.Writers.{Writer}
 
 -- a field of each writer that the new one keeps

@@ -1,6 +1,6 @@
 -- Guilds by their places.
-use Rattle.std.proofs.Common.{◌≡◌, ◌≢◌, ℕ, zero, suc, ◌+◌, ◌<◌, ◌==◌, ◌||◌, Bool, true, false, Option, Some, None, is_some, MatchOption, List, [], ◌∷◌, ◌++◌, map, take, length, cond, get_or, eqb, not-suc-le-zero, true≢false, sym, refl, ap, ap₂, ◌∙◌, ⊎_elim, arith}
-use Rattle.std.specs.List.{position, list_any}
+use Rattle.std.proofs.Common.{◌≡◌, ◌≢◌, ℕ, zero, suc, ◌+◌, ◌<◌, ◌==◌, ◌||◌, true, false, Option, Some, None, is_some, MatchOption, List, [], ◌∷◌, ◌++◌, take, length, cond, get_or, eqb, not-suc-le-zero, true≢false, sym, refl, ap, ap₂, ◌∙◌, ⊎_elim, arith}
+use Rattle.std.specs.List.{position}
 use Rattle.std.proofs.lemmas.List.Quantifiers.{position-Some}
 use Rattle.std.proofs.lemmas.List.{take_more}
 use Rattle.std.proofs.lemmas.Bool.Decides.{eqb_tells}

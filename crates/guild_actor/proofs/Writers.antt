@@ -1,5 +1,5 @@
 -- The writers when one request more was delivered.
-use Rattle.std.proofs.Common.{◌≡◌, ◌≢◌, ℕ, zero, suc, ◌<◌, ◌==◌, ◌||◌, Bool, true, false, List, [], ◌∷◌, ◌++◌, map, take, length, get_or, set, reverse, append_assoc, not-suc-le-zero, sym, refl, ap, ap₂, ◌∙◌, subst, arith}
+use Rattle.std.proofs.Common.{◌≡◌, ◌≢◌, ℕ, zero, suc, ◌<◌, ◌==◌, false, List, [], ◌∷◌, ◌++◌, map, take, length, get_or, set, reverse, append_assoc, not-suc-le-zero, sym, refl, ap, ap₂, ◌∙◌, subst, arith}
 use Rattle.std.specs.List.{All, filter}
 use Rattle.std.proofs.lemmas.List.{map-append, reverse-append}
 use Rattle.edit_post.specs.declared.request.Request.{Request}
@@ -9,7 +9,7 @@ use Rattle.edit_apply.specs.declared.Edit.{Edit}
 use Rattle.guild_hub.specs.Logs.{Published, published}
 use Rattle.guild_hub.specs.Writes.{Publishing, publishing}
 use Rattle.guild_actor.specs.Acts.{edits_of, most, has_guild, guilds_of, AreDistinct, new_writer, sealed_log}
-use Rattle.guild_actor.specs.Desks.{writer_after, log_sealed, logs_of}
+use Rattle.guild_actor.specs.Desks.{writer_after, log_sealed}
 use Rattle.guild_actor.proofs.Edits.{edits_other}
 use Rattle.guild_actor.proofs.Counts.{apart, first_of, rest_of, unlike}
 

@@ -39,10 +39,7 @@ impl<R: Wait + Drop> Model for Desk<R> {
 
 impl<R: Wait + Drop> Desk<R> {
     /// The writers, before the first request.
-    pub fn of(
-        alloc: Global,
-        writers: Vec<(Snowflake, HubWriter<R>)>,
-    ) -> Result<Desk<R>, AllocError>
+    pub fn of(alloc: Global, writers: Vec<(Snowflake, HubWriter<R>)>) -> Result<Desk<R>, AllocError>
         requires { AreDistinct (guilds_of writers.items) × AreNew writers.items }
         ensures { IfOk result (λ desk. desk ≡ held_after writers.items []) }
     {

@@ -1,4 +1,4 @@
-use Rattle.std.proofs.Common.{rules, ◌≡◌, ◌<◌, ◌∙◌, length, sym, ap, arith}
+use Rattle.std.proofs.Common.{rules, ◌<◌, ◌∙◌, length, sym, ap, arith}
 use Rattle.guild_actor.specs.Acts.{guilds_of}
 use Rattle.guild_actor.proofs.Places.{appended}
 use Rattle.guild_actor.proofs.Writers.{many, guild_of_place}

@@ -21,17 +21,17 @@ returns-then-not-branch-clause-ok g c rs ws e =
     let items = c.self.inside.writers.items in
     let place = c.in-Some.place in
     edit_of ws rs c.args.request _ (c.self.view_is ∙ e) c.self.invariant.1 place
-        (subst (λ n. place < n) (ap length c.self.invariant.0 ∙ many items) c.in-Some.ensures.0)
-        (λ d. ap (λ gs. get_or gs place d) (sym c.self.invariant.0) ∙ c.in-Some.ensures.1 d)
-        c.in_ok-publish_at.field-0 c.publish_at.new.writers.items c.in_ok-publish_at.ensures.ok
-        _ (c.saturating_add-self-inside-then-not-branch.ensures ∙ sym (ap (λ b. cond b c.self.inside.full (min (c.self.inside.full + 1) last)) c.if-not-branch.true))
+    (subst (λ n. place < n) (ap length c.self.invariant.0 ∙ many items) c.in-Some.ensures.0)
+    (λ d. ap (λ gs. get_or gs place d) (sym c.self.invariant.0) ∙ c.in-Some.ensures.1 d)
+    c.in_ok-publish_at.field-0 c.publish_at.new.writers.items c.in_ok-publish_at.ensures.ok
+    _ (c.saturating_add-self-inside-then-not-branch.ensures ∙ sym (ap (λ b. cond b c.self.inside.full (min (c.self.inside.full + 1) last)) c.if-not-branch.true))
 
 pub returns-else-not-branch-clause-ok : goal.returns-else-not-branch-clause-ok
 returns-else-not-branch-clause-ok g c rs ws e =
     let items = c.self.inside.writers.items in
     let place = c.in-Some.place in
     edit_of ws rs c.args.request _ (c.self.view_is ∙ e) c.self.invariant.1 place
-        (subst (λ n. place < n) (ap length c.self.invariant.0 ∙ many items) c.in-Some.ensures.0)
-        (λ d. ap (λ gs. get_or gs place d) (sym c.self.invariant.0) ∙ c.in-Some.ensures.1 d)
-        c.in_ok-publish_at.field-0 c.publish_at.new.writers.items c.in_ok-publish_at.ensures.ok
-        _ (sym (ap (λ b. cond b c.self.inside.full (min (c.self.inside.full + 1) last)) c.if-not-branch.false))
+    (subst (λ n. place < n) (ap length c.self.invariant.0 ∙ many items) c.in-Some.ensures.0)
+    (λ d. ap (λ gs. get_or gs place d) (sym c.self.invariant.0) ∙ c.in-Some.ensures.1 d)
+    c.in_ok-publish_at.field-0 c.publish_at.new.writers.items c.in_ok-publish_at.ensures.ok
+    _ (sym (ap (λ b. cond b c.self.inside.full (min (c.self.inside.full + 1) last)) c.if-not-branch.false))
