@@ -14,6 +14,7 @@ use std::thread::{self, Threads};
 use std::time::Clock;
 
 /// What is sent of a load: the edits of its guilds up to one.
+#[derive(Clone, Copy)]
 pub struct Load {
     pub seed: u64,
     pub last: Snowflake,
