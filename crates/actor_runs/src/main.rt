@@ -42,7 +42,13 @@ fn load(seed: u64, last: u64) -> Load {
 fn main(rt: HostRuntime) -> anyhow::Result<()> {
     let seed = seed_of(&rt)?;
     println!(rt; "eight guilds")?;
-    summary::print(&rt, &run::run(rt, rt.alloc(), &load(seed, GUILDS[7]), &GUILDS)?)?;
+    summary::print(
+        &rt,
+        &run::run(rt, rt.alloc(), &load(seed, GUILDS[7]), &GUILDS)?,
+    )?;
     println!(rt; "one guild of three")?;
-    summary::print(&rt, &run::run(rt, rt.alloc(), &load(seed, GUILDS[2]), &GUILDS[..1])?)
+    summary::print(
+        &rt,
+        &run::run(rt, rt.alloc(), &load(seed, GUILDS[2]), &GUILDS[..1])?,
+    )
 }

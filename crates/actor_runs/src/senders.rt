@@ -84,7 +84,13 @@ pub fn send_all<R: Threads + Wait + Send + Sync + Drop>(
             requires { (sender.now.pass.post ≡ post.now) × (sender.now.pass.mark ≡ 0) }
         {
             let last = sender.last;
-            send_script(alloc, post, &mut sender.pass, sender.script.as_slice(), last)
+            send_script(
+                alloc,
+                post,
+                &mut sender.pass,
+                sender.script.as_slice(),
+                last,
+            )
         },
     );
     senders

@@ -22,7 +22,12 @@ fn print_log<R: Wait + Drop>(
     let (active, archived) = threads_of(record);
     println!(rt;
         "guild {} entries {} accepted {} members {} roles {} channels {} active {active} archived {archived}",
-        guild.0, log.len(), log.accepted(), record.members.len(), record.roles.len(), record.channels.len()
+        guild.0,
+        log.len(),
+        log.accepted(),
+        record.members.len(),
+        record.roles.len(),
+        record.channels.len()
     )?;
     Ok(())
 }
