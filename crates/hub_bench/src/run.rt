@@ -3,7 +3,6 @@ ghost use Rattle.std.specs.Prelude.{◌≡◌, false, IfOk};
 
 use crate::edits::{self, GUILD};
 use crate::follow::{Followed, follow};
-use edit_apply::Edit;
 use guild_hub::{HubReader, HubWriter, SealedLog, hub};
 use std::alloc::{AllocError, Global};
 use std::sync::Wait;
@@ -19,17 +18,6 @@ fn open<R: Wait + Drop>(rt: R, alloc: Global) -> Result<(HubWriter<R>, Vec<HubRe
     Ok((writer, readers))
 }
 
-// Publishes one entry. On an `Err` the writer may only quit.
-fn publish<R: Wait + Drop>(writer: &mut HubWriter<R>, edit: Edit) -> Result<(), AllocError>
-    requires { writer.old.spent ≡ false }
-    ensures { IfOk result (λ _. writer.new.spent ≡ false) }
-{
-    match writer.publish(edit) {
-        Ok(()) => Ok(()),
-        Err(_) => Err(AllocError),
-    }
-}
-
 // Publishes so many entries and seals the log. On an `Err` the writer has quit.
 fn write<R: Wait + Drop>(
     mut writer: HubWriter<R>,
@@ -38,10 +26,7 @@ fn write<R: Wait + Drop>(
 ) -> Result<SealedLog<R>, AllocError>
     requires { writer.spent ≡ false }
 {
-    publish(&mut writer, edits::open(alloc)?)?;
-    for place in 1..count {
-        publish(&mut writer, edits::at(place))?;
-    }
+    edits::publish_all(&mut writer, alloc, count)?;
     match writer.seal() {
         Ok(sealed) => Ok(sealed),
         Err((_, error)) => Err(error),
@@ -60,6 +45,19 @@ fn line<R: Wait + Drop>(
     format!(in alloc; "followed {len} entries to the seal: {whole}, to the log's record: {same}")
 }
 
+// A line a reader.
+fn lines_of<R: Wait + Drop>(
+    alloc: Global,
+    sealed: &SealedLog<R>,
+    followed: Vec<Result<Followed, AllocError>>,
+) -> Result<Vec<String>, AllocError> {
+    let mut lines = Vec::new(alloc);
+    for followed in followed {
+        lines.push(line(alloc, sealed, &followed?)?)?;
+    }
+    Ok(lines)
+}
+
 /// What a writer of so many entries and its readers come to, a line a reader.
 pub fn run<R: Threads + Wait + Send + Sync + Drop + Copy>(
     rt: R,
@@ -74,10 +72,5 @@ pub fn run<R: Threads + Wait + Send + Sync + Drop + Copy>(
             requires { writer.spent ≡ false }
         { write(writer, alloc, count) },
     );
-    let sealed = sealed?;
-    let mut lines = Vec::new(alloc);
-    for followed in followed? {
-        lines.push(line(alloc, &sealed, &followed?)?)?;
-    }
-    Ok(lines)
+    lines_of(alloc, &sealed?, followed?)
 }
