@@ -1,5 +1,5 @@
 -- The entries of a client after one of them has changed, after all are purged, and after READY.
-use Rattle.std.proofs.Common.{◌≡◌, ℕ, Bool, true, false, ◌||◌, ◌&&◌, not, List, [], ◌∷◌, map, Option, Some, None, Result, Ok, Err, OnOk, OnErr, IsSome, if◌then◌else◌, refl, sym, ap, ◌∙◌, eqb-true, eq-eqb}
+use Rattle.std.proofs.Common.{◌≡◌, ℕ, Bool, true, false, ◌||◌, ◌&&◌, not, List, [], ◌∷◌, map, Option, Some, None, Result, Ok, Err, OnOk, OnErr, if◌then◌else◌, refl, sym, ap, ◌∙◌, eqb-true, eq-eqb}
 use Rattle.std.specs.Prelude.{◌==◌, is_some, unwrap_or}
 use Rattle.collections.specs.ById.{IsById, find_id, has_id, put_id, put_all, without_id}
 use Rattle.collections.proofs.Finds.{find-put, find-map, key-found}
@@ -10,51 +10,66 @@ use Rattle.intent_set.specs.Intents.{guilds}
 use Rattle.guild_model.specs.Record.{own_id}
 use Rattle.dispatch_types.specs.declared.view.GuildView.{GuildView}
 use Rattle.dispatch_types.specs.declared.view.GuildView.TheVariants.{Unavailable, Open}
-use Rattle.dispatch_types.specs.declared.dispatch.Ready.{Ready as ReadyOf}
+use Rattle.dispatch_types.specs.declared.ready.Ready.{Ready as ReadyOf}
 use Rattle.dispatch_types.specs.declared.dispatch.Dispatch.{Dispatch}
 use Rattle.dispatch_types.specs.declared.dispatch.Dispatch.TheVariants.{Ready}
 use Rattle.dispatch_types.specs.Projection.{listed}
-use Rattle.dispatch_types.specs.Fold.{Held, contains, if_unavailable, changed, purge}
+use Rattle.dispatch_types.specs.GuildOf.{guild_of}
+use Rattle.dispatch_types.specs.Fold.{Held, after, contains, if_unavailable, changed, purge}
+use Rattle.dispatch_types.proofs.Folds.{changed-of}
 use Rattle.client_cache.specs.declared.held.HeldGuild.{HeldGuild}
-use Rattle.client_cache.specs.Told.{guild_of}
-use Rattle.client_cache.specs.Cached.{held_id, held_by, held_in, entry_of, entry_after, entry_purged, unavailable_entry, AreViewed}
-use Rattle.client_cache.proofs.Changes.{after, changed-at, purge-held}
+use Rattle.client_cache.specs.Cached.{held_id, held_by, held_in, empty_entry, entry_of, taken_out, entry_after, entry_purged, unavailable_entry, AreViewed}
+use Rattle.client_cache.proofs.Changes.{purge-held}
 use Rattle.client_cache.proofs.Lists.{has-all, has-contains}
 
 pub entry-id : (g : ℕ) (es : List HeldGuild) → (entry_of g es).id ≡ g
 entry-id g es = either (find_id held_id g es) (λ e is. key-found held_id g es e is)
   where
-    either : (o : Option HeldGuild) → ((e : HeldGuild) → o ≡ Some e → e.id ≡ g) → (unwrap_or o (record { id = g; view = None; known = [] })).id ≡ g
+    either : (o : Option HeldGuild) → ((e : HeldGuild) → o ≡ Some e → e.id ≡ g) → (unwrap_or o (empty_entry g)).id ≡ g
     either None is = refl
     either (Some e) is = is e refl
 
--- an entry that is taken out for a while is put back
-pub put-back : (e out : HeldGuild) (es now : List HeldGuild) → IsById held_id es → e.id ≡ out.id → now ≡ put_id held_id out es → put_id held_id e now ≡ put_id held_id e es
-put-back e out es now h same is = ap (put_id held_id e) is ∙ put-put held_id e out es h same
-
-pub put-found : (e out : HeldGuild) (es now : List HeldGuild) → IsById held_id es → find_id held_id out.id es ≡ Some e → now ≡ put_id held_id out es → put_id held_id e now ≡ es
-put-found e out es now h found is =
-    let same : e.id ≡ out.id = key-found held_id out.id es e found in
-    put-back e out es now h same is ∙ put-same held_id e es h (ap (λ (n : ℕ). find_id held_id n es) same ∙ found)
-
 -- an entry that is found is that of the guild
 pub entry-found : (g : ℕ) (e : HeldGuild) (es : List HeldGuild) → find_id held_id g es ≡ Some e → entry_of g es ≡ e
-entry-found g e es found = ap (λ (o : Option HeldGuild). unwrap_or o (record { id = g; view = None; known = [] })) found
+entry-found g e es found = ap (λ (o : Option HeldGuild). unwrap_or o (empty_entry g)) found
 
 -- a guild without an entry has an empty one
-pub entry-none : (g : ℕ) (es : List HeldGuild) → has_id held_id g es ≡ false → entry_of g es ≡ record { id = g; view = None; known = [] }
+pub entry-none : (g : ℕ) (es : List HeldGuild) → has_id held_id g es ≡ false → entry_of g es ≡ empty_entry g
 entry-none g es not = either (find_id held_id g es) not
   where
-    either : (o : Option HeldGuild) → is_some o ≡ false → unwrap_or o (record { id = g; view = None; known = [] }) ≡ record { id = g; view = None; known = [] }
+    either : (o : Option HeldGuild) → is_some o ≡ false → unwrap_or o (empty_entry g) ≡ empty_entry g
     either None not = refl
     either (Some e) not = absurd (cc)
 
--- where an entry of the guild was put, another can stand
-pub put-is-there : (e out : HeldGuild) (es now : List HeldGuild) → e.id ≡ out.id → now ≡ put_id held_id out es → IsSome (find_id held_id e.id now)
-put-is-there e out es now same is =
-    ap (λ (l : List HeldGuild). has_id held_id e.id l) is
-    ∙ (ap is_some (find-put held_id out e.id es)
-    ∙ ap (λ (b : Bool). is_some (if b then Some out else find_id held_id e.id es)) (eq-eqb out.id e.id (sym same)))
+module _ (g : ℕ) (es : List HeldGuild) where
+  -- while an entry is taken out, the same guilds have one
+  has_taken : has_id held_id g (taken_out g es) ≡ has_id held_id g es
+  has_taken = at (has_id held_id g es) refl
+    where
+      at : (b : Bool) → has_id held_id g es ≡ b → has_id held_id g (if b then put_id held_id (empty_entry g) es else es) ≡ b
+      at true is = has-put held_id (empty_entry g) g es ∙ ap (λ (b : Bool). b || has_id held_id g es) (eq-eqb g g refl)
+      at false is = is
+
+  -- an entry that is taken out is put back
+  pub put-taken : (e : HeldGuild) → IsById held_id es → e.id ≡ g → put_id held_id e (taken_out g es) ≡ put_id held_id e es
+  put-taken e h same = at (has_id held_id g es)
+    where
+      at : (b : Bool) → put_id held_id e (if b then put_id held_id (empty_entry g) es else es) ≡ put_id held_id e es
+      at true = put-put held_id e (empty_entry g) es h same
+      at false = refl
+
+  -- as it was, or in no place
+  pub put-same-taken : IsById held_id es → has_id held_id g (taken_out g es) ≡ true → put_id held_id (entry_of g es) (taken_out g es) ≡ es
+  put-same-taken h there = put-taken (entry_of g es) h (entry-id g es) ∙ at (find_id held_id g es) refl (sym has_taken ∙ there)
+    where
+      at : (o : Option HeldGuild) → find_id held_id g es ≡ o → is_some o ≡ true → put_id held_id (entry_of g es) es ≡ es
+      at None found there = absurd (cc)
+      at (Some e) found there =
+          ap (λ (x : HeldGuild). put_id held_id x es) (entry-found g e es found)
+          ∙ put-same held_id e es h (ap (λ (n : ℕ). find_id held_id n es) (key-found held_id g es e found) ∙ found)
+
+  pub none-taken : has_id held_id g (taken_out g es) ≡ false → taken_out g es ≡ es
+  none-taken not = ap (λ (b : Bool). if b then put_id held_id (empty_entry g) es else es) (sym has_taken ∙ not)
 
 -- the view and the known users are those of any bot
 pub view-any : (a b g : ℕ) (es : List HeldGuild) → (held_in a es g).view ≡ (held_in b es g).view
@@ -81,7 +96,7 @@ module _ (bot : ℕ) where
       either false = refl
 
   -- what is held of a guild stands in its entry
-  in_entry : (g : ℕ) (o : Option HeldGuild) → held_by bot (Some (unwrap_or o (record { id = g; view = None; known = [] }))) ≡ held_by bot o
+  in_entry : (g : ℕ) (o : Option HeldGuild) → held_by bot (Some (unwrap_or o (empty_entry g))) ≡ held_by bot o
   in_entry g None = refl
   in_entry g (Some e) = refl
 
@@ -89,11 +104,11 @@ module _ (bot : ℕ) where
   pub changed-put : (intents : ℕ) (d : Dispatch) (a : ℕ) → guild_of d ≡ Some a → (es : List HeldGuild) (g : ℕ) → held_in bot (put_id held_id (entry_after intents bot d (entry_of a es)) es) g ≡ changed intents g (held_in bot es g) d
   changed-put intents d a of es g =
       entry-put (entry_after intents bot d (entry_of a es)) es g
-      ∙ (ap (λ (n : ℕ). if n == g then after intents g d (held_by bot (Some (entry_of a es))) else held_in bot es g) (entry-id a es)
-      ∙ (at (a == g) refl ∙ sym (changed-at intents g a (held_in bot es g) d of)))
+      ∙ (ap (λ (n : ℕ). if n == g then after intents d (held_by bot (Some (entry_of a es))) else held_in bot es g) (entry-id a es)
+      ∙ (at (a == g) refl ∙ sym (changed-of intents g (held_in bot es g) a d of)))
     where
-      at : (b : Bool) → (a == g) ≡ b → (if b then after intents g d (held_by bot (Some (entry_of a es))) else held_in bot es g) ≡ (if b then after intents g d (held_in bot es g) else held_in bot es g)
-      at true is = ap (after intents g d) (in_entry a (find_id held_id a es) ∙ ap (held_in bot es) (eqb-true a g is))
+      at : (b : Bool) → (a == g) ≡ b → (if b then after intents d (held_by bot (Some (entry_of a es))) else held_in bot es g) ≡ (if b then after intents d (held_in bot es g) else held_in bot es g)
+      at true is = ap (after intents d) (in_entry a (find_id held_id a es) ∙ ap (held_in bot es) (eqb-true a g is))
       at false is = refl
 
   -- all entries are purged

@@ -17,10 +17,9 @@ use Rattle.dispatch_types.specs.declared.view.GuildView.TheVariants.{Unavailable
 use Rattle.dispatch_types.specs.declared.view.OpenView.{OpenView}
 use Rattle.dispatch_types.specs.declared.view.ThreadView.{ThreadView}
 use Rattle.dispatch_types.specs.Objects.{member_of, voice_of, presence_of}
-use Rattle.dispatch_types.specs.Fold.{Held, contains, on_open, add_member, remove_member, set_members, set_voice, set_presence, view_sees, purged}
+use Rattle.dispatch_types.specs.Fold.{Held, contains, on_open, view_after, add_member, remove_member, set_members, set_voice, set_presence, view_sees, purged}
 use Rattle.client_cache.specs.declared.held.HeldGuild.{HeldGuild}
-use Rattle.client_cache.specs.Told.{view_after}
-use Rattle.client_cache.specs.Cached.{held_id, held_by, held_in, entry_of, entry_after, entry_purged, unavailable_entry}
+use Rattle.client_cache.specs.Cached.{held_id, held_by, held_in, empty_entry, entry_of, entry_after, entry_purged, unavailable_entry}
 use Rattle.client_cache.specs.Settled.{may_hide, purged_at, AreSettled}
 use Rattle.client_cache.proofs.Entries.{all-purged, entry-put, entry-id, unavailable-held, others-either}
 
@@ -59,17 +58,17 @@ module _ (g : ℕ) where
   module _ (intents bot : ℕ) where
     -- such a dispatch leaves what the bot sees
     pub view-stays : (d : Dispatch) → may_hide d ≡ false → (view : Option GuildView) → on_open (purged 0 g) view ≡ view → on_open (purged 0 g) (view_after intents bot d view) ≡ view_after intents bot d view
-    view-stays (GuildMemberAdd guild member) shows view stays = opened (add_member intents (member_of member)) (λ v e. ap (λ (threads : List ThreadView). record (add_member intents (member_of member) v) { threads = threads }) (threads_stay v e)) view stays
-    view-stays (GuildMemberRemove guild user) shows view stays = opened (remove_member user.id) (λ v e. ap (λ (threads : List ThreadView). record (remove_member user.id v) { threads = threads }) (threads_stay v e)) view stays
+    view-stays (GuildMemberAdd add) shows view stays = opened (add_member intents (member_of add.member)) (λ v e. ap (λ (threads : List ThreadView). record (add_member intents (member_of add.member) v) { threads = threads }) (threads_stay v e)) view stays
+    view-stays (GuildMemberRemove remove) shows view stays = opened (remove_member remove.user.id) (λ v e. ap (λ (threads : List ThreadView). record (remove_member remove.user.id v) { threads = threads }) (threads_stay v e)) view stays
     view-stays (GuildMembersChunk chunk) shows view stays = opened (set_members intents (map member_of chunk.members)) (λ v e. ap (λ (threads : List ThreadView). record (set_members intents (map member_of chunk.members) v) { threads = threads }) (threads_stay v e)) view stays
-    view-stays (VoiceStateUpdate guild voice) shows view stays = opened (set_voice voice.user (voice_of voice)) (voice_stays voice.user (voice_of voice)) view stays
+    view-stays (VoiceStateUpdate update) shows view stays = opened (set_voice update.voice.user (voice_of update.voice)) (voice_stays update.voice.user (voice_of update.voice)) view stays
     view-stays (PresenceUpdate presence) shows view stays = opened (set_presence presence.user (presence_of presence)) (presence_stays presence.user (presence_of presence)) view stays
     view-stays (MessageCreate message) shows view stays = opened (λ v. v) (λ v e. e) view stays
     view-stays (MessageUpdate message) shows view stays = opened (λ v. v) (λ v e. e) view stays
-    view-stays (MessageDelete guild channel id) shows view stays = opened (λ v. v) (λ v e. e) view stays
+    view-stays (MessageDelete delete) shows view stays = opened (λ v. v) (λ v e. e) view stays
     view-stays (MessageReactionAdd reaction) shows view stays = opened (λ v. v) (λ v e. e) view stays
     view-stays (MessageReactionRemove reaction) shows view stays = opened (λ v. v) (λ v e. e) view stays
-    view-stays (TypingStart guild channel user seconds) shows view stays = opened (λ v. v) (λ v e. e) view stays
+    view-stays (TypingStart typing) shows view stays = opened (λ v. v) (λ v e. e) view stays
     view-stays _ shows view stays = absurd (cc)
 
 purge_again : (h : HeldGuild) → entry_purged (entry_purged h) ≡ entry_purged h
@@ -134,7 +133,7 @@ still-settled guild ids old new are same g is =
 entry_view : (a g : ℕ) (es : List HeldGuild) → (a == g) ≡ true → (entry_of a es).view ≡ (held_in 0 es g).view
 entry_view a g es is = either (find_id held_id a es) ∙ ap (λ (n : ℕ). (held_in 0 es n).view) (eqb-true a g is)
   where
-    either : (o : Option HeldGuild) → (unwrap_or o (record { id = a; view = None; known = [] })).view ≡ (held_by 0 o).view
+    either : (o : Option HeldGuild) → (unwrap_or o (empty_entry a)).view ≡ (held_by 0 o).view
     either None = refl
     either (Some e) = refl
 

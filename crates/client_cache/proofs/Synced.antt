@@ -12,7 +12,7 @@ use Rattle.dispatch_types.specs.declared.threads.ThreadMemberObject.{ThreadMembe
 use Rattle.dispatch_types.specs.declared.view.ThreadView.{ThreadView}
 use Rattle.dispatch_types.specs.Objects.{member_of}
 use Rattle.dispatch_types.specs.Fold.{thread_view_id, contains, user_id, own_member, synced_thread}
-use Rattle.client_cache.specs.Told.{object_id}
+use Rattle.client_cache.specs.Sent.{object_id}
 use Rattle.client_cache.proofs.Lists.{has-all, has-made, has-contains, find-made}
 
 -- the listed ids are those of the threads that come

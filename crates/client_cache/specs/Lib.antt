@@ -1,3 +1,3 @@
-pub mod Told
+pub mod Sent
 pub mod Cached
 pub mod Settled

@@ -8,20 +8,20 @@ use Rattle.dispatch_types.specs.Fold.{on_open, purged}
 use Rattle.client_cache.specs.declared.held.HeldGuild.{HeldGuild}
 use Rattle.client_cache.specs.Cached.{held_id, held_in, entry_purged}
 
--- the bot may see less of the threads after the dispatch: all but those of messages, voice states, presences
--- and other members
+-- the bot may see less of the threads after the dispatch: true of all but those of messages, voice
+-- states, presences and other members
 abbrev pub may_hide : Dispatch → Bool
-may_hide (GuildMemberAdd guild member) = false
-may_hide (GuildMemberRemove guild user) = false
+may_hide (GuildMemberAdd add) = false
+may_hide (GuildMemberRemove remove) = false
 may_hide (GuildMembersChunk chunk) = false
-may_hide (VoiceStateUpdate guild voice) = false
+may_hide (VoiceStateUpdate update) = false
 may_hide (PresenceUpdate presence) = false
 may_hide (MessageCreate message) = false
 may_hide (MessageUpdate message) = false
-may_hide (MessageDelete guild channel id) = false
+may_hide (MessageDelete delete) = false
 may_hide (MessageReactionAdd reaction) = false
 may_hide (MessageReactionRemove reaction) = false
-may_hide (TypingStart guild channel user seconds) = false
+may_hide (TypingStart typing) = false
 may_hide _ = true
 
 -- these guilds without the threads that the bot does not see
@@ -31,4 +31,5 @@ purged_at (g ∷ gs) guilds = purged_at gs (changed_id held_id g entry_purged gu
 
 -- the bot sees each thread that is held of any guild but these
 abbrev pub AreSettled : List ℕ → List HeldGuild → Type 0
-AreSettled others guilds = (g : ℕ) → has_id own_id g others ≡ false → on_open (purged 0 g) (held_in 0 guilds g).view ≡ (held_in 0 guilds g).view
+AreSettled others guilds = (g : ℕ) → has_id own_id g others ≡ false
+    → on_open (purged 0 g) (held_in 0 guilds g).view ≡ (held_in 0 guilds g).view

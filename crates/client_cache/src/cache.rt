@@ -5,12 +5,14 @@ ghost use Rattle.std.specs.Option.{option_copied};
 ghost use Rattle.collections.specs.ById.{IsById};
 ghost use Rattle.guild_model.specs.Record.{own_id};
 ghost use Rattle.dispatch_types.specs.declared.dispatch.Dispatch.TheVariants.{Ready as ReadyDispatch};
+ghost use Rattle.dispatch_types.specs.GuildOf.{guild_of};
 ghost use Rattle.dispatch_types.specs.Fold.{changed, folded};
-ghost use Rattle.client_cache.specs.Told.{guild_of};
+ghost use Rattle.client_cache.specs.Sent.{ready_of};
 ghost use Rattle.client_cache.specs.Cached.{held_of, AreViewed};
 
+use crate::fold::Fold;
 use crate::guilds::Guilds;
-use crate::rows::{guild_of, leaves_over, ready_of};
+use crate::purge::leaves_over;
 use dispatch_types::{Dispatch, GuildView, Ready};
 use intent_set::Intents;
 use snowflake_id::Snowflake;
@@ -21,10 +23,7 @@ use std::marker::Model;
 /// Events).
 #[derive(Drop)]
 pub struct Cache {
-    alloc: Global,
-    intents: Intents,
-    /// The bot of the last READY; the id 0 before the first.
-    bot: Snowflake,
+    fold: Fold,
     guilds: Guilds,
 }
 
@@ -33,7 +32,17 @@ impl Model for Cache {
 
     ghost Value = { Cached };
 
-    ghost view = { λ c. record { intents = c.intents; bot = c.bot; guilds = c.guilds } };
+    ghost view = { λ c. record { intents = c.fold.intents; bot = c.fold.bot; guilds = c.guilds } };
+}
+
+// What READY says, if the dispatch is READY.
+fn ready_of(dispatch: &Dispatch) -> Option<&Ready>
+    ensures { option_copied result ≡ ready_of dispatch.now }
+{
+    match dispatch {
+        Dispatch::Ready(ready) => Some(ready),
+        _ => None,
+    }
 }
 
 impl Cache {
@@ -42,14 +51,16 @@ impl Cache {
         ensures { result ≡ record { intents = intents; bot = 0; guilds = [] } }
     {
         Cache {
-            alloc,
-            intents,
-            bot: Snowflake(0),
+            fold: Fold {
+                alloc,
+                intents,
+                bot: Snowflake(0),
+            },
             guilds: Guilds::new(alloc),
         }
     }
 
-    /// The view of a guild, and nothing exactly where the client holds none.
+    /// The view of a guild; `None` exactly if the client holds none.
     pub fn view(&self, guild: Snowflake) -> Option<&GuildView>
         ensures { option_copied result ≡ (held_of self.now guild).view }
     {
@@ -63,7 +74,7 @@ impl Cache {
         self.guilds.known(guild)
     }
 
-    /// The guilds that have a view, ascending.
+    /// The guilds that have a view, ascending. `Guilds` keeps this list for this call alone.
     pub fn guilds(&self) -> &[Snowflake]
         ensures ascending { IsById own_id result.now }
         ensures exact { AreViewed result.now self.now.guilds }
@@ -71,8 +82,9 @@ impl Cache {
         self.guilds.viewed()
     }
 
-    /// Folds the next dispatch: its row, and then, after all but THREAD_UPDATE, each thread goes that
-    /// the bot does not see (Gateway Events, Receive Events). An `Err` changes nothing.
+    /// Folds the next dispatch: changes what is held of its guild, and then, after all but
+    /// THREAD_UPDATE, drops each thread that the bot does not see (Gateway Events, Receive Events).
+    /// An `Err` changes nothing.
     pub fn fold(&mut self, dispatch: Dispatch) -> Result<(), AllocError>
         ensures ok { OnOk result ((g : ℕ) → held_of self.new g
             ≡ folded self.old.intents g (held_of self.old g) dispatch) }
@@ -87,18 +99,15 @@ impl Cache {
         Ok(())
     }
 
-    // The row of a dispatch.
+    // Changes what is held of the dispatch's guild; READY changes what is held of every guild.
     fn change(&mut self, dispatch: Dispatch) -> Result<(), AllocError>
         ensures ok { OnOk result ((g : ℕ) → held_of self.new g
             ≡ changed self.old.intents g (held_of self.old g) dispatch) }
         ensures intents { self.new.intents ≡ self.old.intents }
         ensures err { OnErr result (self.new ≡ self.old) }
     {
-        match guild_of(&dispatch) {
-            Some(guild) => {
-                self.guilds
-                    .change(self.alloc, self.intents, self.bot, guild, dispatch)
-            }
+        match dispatch.guild() {
+            Some(guild) => self.guilds.change(&self.fold, guild, dispatch),
             None => {
                 let begun = self.begin_by(&dispatch);
                 drop(dispatch);
@@ -121,16 +130,15 @@ impl Cache {
         }
     }
 
-    // READY: the guilds that it names, each unavailable so far.
+    // READY: holds the guilds that it names, each unavailable so far, and no other.
     fn begin(&mut self, ready: &Ready) -> Result<(), AllocError>
         ensures ok { OnOk result ((g : ℕ) → held_of self.new g
             ≡ changed self.old.intents g (held_of self.old g) (ReadyDispatch ready.now)) }
         ensures intents { self.new.intents ≡ self.old.intents }
         ensures err { OnErr result (self.new ≡ self.old) }
     {
-        self.guilds
-            .begin(self.alloc, self.intents, ready.guilds.as_slice())?;
-        self.bot = ready.user.id;
+        self.guilds.begin(&self.fold, ready.guilds.as_slice())?;
+        self.fold.bot = ready.user.id;
         Ok(())
     }
 }

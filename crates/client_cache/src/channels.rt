@@ -4,22 +4,23 @@ ghost use Rattle.std.specs.Prelude.{◌≡◌, ◌==◌, not, filter, OnOk, OnEr
 ghost use Rattle.dispatch_types.specs.declared.view.ThreadView.{ThreadView};
 ghost use Rattle.dispatch_types.specs.Fold.{set_channel, drop_channel};
 
+use crate::fold::Fold;
 use crate::objects::channel_of;
 use collections::ById;
 use dispatch_types::{ChannelObject, OpenView, ThreadView};
 use snowflake_id::Snowflake;
-use std::alloc::{AllocError, Global};
+use std::alloc::AllocError;
 
-/// A channel is set (Gateway Events, Channel Create and Channel Update).
+/// Adds or replaces a channel (Gateway Events, Channel Create and Channel Update).
 pub(crate) fn set_channel(
-    alloc: Global,
+    fold: &Fold,
     view: &mut OpenView,
     object: ChannelObject,
 ) -> Result<(), AllocError>
     ensures ok { OnOk result (view.new ≡ set_channel object view.old) }
     ensures err { OnErr result (view.new ≡ view.old) }
 {
-    let channel = channel_of(alloc, object)?;
+    let channel = channel_of(fold.alloc, object)?;
     view.channels.put(channel)
 }
 
@@ -29,7 +30,7 @@ fn drop_threads(threads: &mut ById<ThreadView>, channel: Snowflake)
     threads.retain(|thread| thread.parent != channel);
 }
 
-/// A channel goes, with its threads (Gateway Events, Channel Delete).
+/// Removes a channel and its threads (Gateway Events, Channel Delete).
 pub(crate) fn drop_channel(view: &mut OpenView, channel: Snowflake)
     ensures { view.new ≡ drop_channel channel view.old }
 {

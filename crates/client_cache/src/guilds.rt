@@ -1,18 +1,17 @@
 //! The entries of all guilds, and which of them have a view.
 
-ghost use Rattle.std.specs.Prelude.{◌≡◌, [], None, map, is_some, if◌then◌else◌, OnOk, OnErr, IfOk, IsSome};
+ghost use Rattle.std.specs.Prelude.{◌≡◌, [], None, map, is_some, if◌then◌else◌, OnOk, OnErr, IfOk};
 ghost use Rattle.std.specs.Option.{option_copied};
-ghost use Rattle.collections.specs.ById.{IsById, find_id, put_id, put_all, without_id};
+ghost use Rattle.collections.specs.ById.{IsById, put_id, put_all, without_id};
 ghost use Rattle.intent_set.specs.Intents.{guilds};
 ghost use Rattle.guild_model.specs.Record.{own_id};
 ghost use Rattle.dispatch_types.specs.Projection.{listed};
-ghost use Rattle.client_cache.specs.Cached.{held_id, held_in, entry_of, entry_after, entry_purged, unavailable_entry, AreViewed};
+ghost use Rattle.client_cache.specs.Cached.{held_id, held_in, entry_of, taken_out, entry_after, entry_purged, unavailable_entry, AreViewed};
 ghost use Rattle.client_cache.specs.Settled.{may_hide, purged_at};
 
-use crate::guild::unavailable_view;
+use crate::fold::Fold;
 use crate::held::HeldGuild;
 use crate::purge::{Purge, may_hide};
-use crate::rows::fold_entry;
 use collections::ById;
 use dispatch_types::{Dispatch, GuildView};
 use intent_set::Intents;
@@ -24,9 +23,9 @@ use std::marker::Model;
 #[derive(Drop)]
 pub(crate) struct Guilds {
     entries: ById<HeldGuild>,
-    /// The guilds that have a view.
+    /// The guilds that have a view, kept for `Cache::guilds` alone.
     viewed: ById<Snowflake>,
-    /// Of other guilds no thread is held that the bot does not see.
+    /// Guilds that may hold threads the bot does not see; all others are purged.
     unsettled: ById<Snowflake>,
 }
 
@@ -67,70 +66,48 @@ fn has_view(entries: &ById<HeldGuild>, guild: Snowflake) -> bool
     view_in(entries, guild).is_some()
 }
 
-// The entry of a guild that has none so far.
-fn add(
-    alloc: Global,
-    intents: Intents,
-    bot: Snowflake,
+// Takes out the entry of a guild, so that it changes without a copy, and leaves an empty one in its
+// place. A guild that has none gets an empty entry, which is not in the list.
+fn entry_or_empty(alloc: Global, entries: &mut ById<HeldGuild>, guild: Snowflake) -> HeldGuild
+    ensures entry { result ≡ entry_of guild entries.old }
+    ensures left { entries.new ≡ taken_out guild entries.old }
+{
+    let empty = HeldGuild::empty(alloc, guild);
+    if entries.contains(guild.0) {
+        entries.exchange(empty)
+    } else {
+        empty
+    }
+}
+
+// Folds a dispatch of a guild into its entry.
+fn change_entry(
+    fold: &Fold,
     entries: &mut ById<HeldGuild>,
     guild: Snowflake,
     dispatch: Dispatch,
 ) -> Result<(), AllocError>
     ensures ok { OnOk result (entries.new ≡ put_id held_id
-        (entry_after intents bot dispatch (record { id = guild; view = None; known = [] })) entries.old) }
+        (entry_after fold.now.intents fold.now.bot dispatch (entry_of guild entries.old))
+        entries.old) }
     ensures err { OnErr result (entries.new ≡ entries.old) }
 {
-    let mut entry = HeldGuild::empty(alloc, guild);
-    let Ok(()) = fold_entry(alloc, intents, bot, &mut entry, dispatch) else {
+    // Brings the list's invariant into the proof.
+    let _entries = entries.as_slice();
+    let mut entry = entry_or_empty(fold.alloc, entries, guild);
+    let changed = fold.change(&mut entry, dispatch);
+    if entries.contains(guild.0) {
+        entries.replace(entry);
+        return changed;
+    }
+    let Ok(()) = changed else {
         drop(entry);
         return Err(AllocError);
     };
     entries.put(entry)
 }
 
-// An entry is taken out while it changes, so that nothing is copied.
-fn change(
-    alloc: Global,
-    intents: Intents,
-    bot: Snowflake,
-    entries: &mut ById<HeldGuild>,
-    guild: Snowflake,
-    dispatch: Dispatch,
-) -> Result<(), AllocError>
-    requires { IsSome (find_id held_id guild entries.old) }
-    ensures ok { OnOk result (entries.new ≡ put_id held_id
-        (entry_after intents bot dispatch (entry_of guild entries.old)) entries.old) }
-    ensures err { OnErr result (entries.new ≡ entries.old) }
-{
-    // The list ascends.
-    let _entries = entries.as_slice();
-    let mut entry = entries.exchange(HeldGuild::empty(alloc, guild));
-    let changed = fold_entry(alloc, intents, bot, &mut entry, dispatch);
-    entries.replace(entry);
-    changed
-}
-
-// The entry of a guild after a dispatch of it.
-fn change_entry(
-    alloc: Global,
-    intents: Intents,
-    bot: Snowflake,
-    entries: &mut ById<HeldGuild>,
-    guild: Snowflake,
-    dispatch: Dispatch,
-) -> Result<(), AllocError>
-    ensures ok { OnOk result (entries.new ≡ put_id held_id
-        (entry_after intents bot dispatch (entry_of guild entries.old)) entries.old) }
-    ensures err { OnErr result (entries.new ≡ entries.old) }
-{
-    if entries.contains(guild.0) {
-        change(alloc, intents, bot, entries, guild, dispatch)
-    } else {
-        add(alloc, intents, bot, entries, guild, dispatch)
-    }
-}
-
-// A guild is marked where the bot may see less of its threads.
+// Marks a guild if the bot may see less of its threads.
 fn unsettle(
     unsettled: &mut ById<Snowflake>,
     guild: Snowflake,
@@ -147,7 +124,7 @@ fn unsettle(
     }
 }
 
-// Of these guilds the threads go that the bot does not see.
+// Drops the threads of these guilds that the bot does not see.
 fn purge_at(entries: &mut ById<HeldGuild>, guilds: &[Snowflake])
     ensures { entries.new ≡ purged_at guilds.now entries.old }
 {
@@ -156,14 +133,14 @@ fn purge_at(entries: &mut ById<HeldGuild>, guilds: &[Snowflake])
     }
 }
 
-// The list keeps its room.
+// Empties the list, which keeps its room.
 fn settle(unsettled: &mut ById<Snowflake>)
     ensures { unsettled.new ≡ [] }
 {
     unsettled.retain(|_| false);
 }
 
-// A guild that was listed stays so where it has a view.
+// A guild that was listed stays so if it has a view.
 fn relist(viewed: &mut ById<Snowflake>, guild: Snowflake, has_view: bool)
     ensures { viewed.new ≡ (if has_view then viewed.old else without_id own_id guild viewed.old) }
 {
@@ -172,32 +149,26 @@ fn relist(viewed: &mut ById<Snowflake>, guild: Snowflake, has_view: bool)
     }
 }
 
-fn unavailable_entries(
-    alloc: Global,
-    intents: Intents,
-    ids: &[Snowflake],
-) -> Result<Vec<HeldGuild>, AllocError>
-    ensures { IfOk result (λ entries. entries.items ≡ map (unavailable_entry intents) ids.now) }
+fn unavailable_entries(fold: &Fold, ids: &[Snowflake]) -> Result<Vec<HeldGuild>, AllocError>
+    ensures { IfOk result (λ entries. entries.items
+        ≡ map (unavailable_entry fold.now.intents) ids.now) }
 {
-    let mut entries = Vec::with_capacity(alloc, ids.len())?;
+    let mut entries = Vec::with_capacity(fold.alloc, ids.len())?;
     for id in ids {
-        entries.push(HeldGuild::unavailable(alloc, intents, *id))?;
+        entries.push(HeldGuild::unavailable(fold, *id))?;
     }
     Ok(entries)
 }
 
-// The guilds that READY names have a view, where GUILDS tells of them.
-fn unavailable_viewed(
-    alloc: Global,
-    intents: Intents,
-    ids: &[Snowflake],
-) -> Result<ById<Snowflake>, AllocError>
-    ensures { IfOk result (λ viewed. viewed ≡ listed intents guilds (put_all own_id [] ids.now)) }
+// The guilds that READY names have a view, if GUILDS tells of them.
+fn unavailable_viewed(fold: &Fold, ids: &[Snowflake]) -> Result<ById<Snowflake>, AllocError>
+    ensures { IfOk result (λ viewed. viewed
+        ≡ listed fold.now.intents guilds (put_all own_id [] ids.now)) }
 {
-    if intents.has(Intents::GUILDS) {
-        ById::of(alloc, Vec::from_slice(alloc, ids)?)
+    if fold.intents.has(Intents::GUILDS) {
+        ById::of(fold.alloc, Vec::from_slice(fold.alloc, ids)?)
     } else {
-        Ok(ById::new(alloc))
+        Ok(ById::new(fold.alloc))
     }
 }
 
@@ -213,14 +184,14 @@ impl Guilds {
         }
     }
 
-    /// The view of a guild, and nothing exactly where there is none.
+    /// The view of a guild; `None` exactly if there is none.
     pub(crate) fn view(&self, guild: Snowflake) -> Option<&GuildView>
         ensures { option_copied result ≡ (held_in 0 self.now guild).view }
     {
         view_in(&self.entries, guild)
     }
 
-    /// The users that were told of in a guild, ascending.
+    /// The users that the client was told of in a guild, ascending.
     pub(crate) fn known(&self, guild: Snowflake) -> &[Snowflake]
         ensures { result.now ≡ (held_in 0 self.now guild).known }
     {
@@ -235,18 +206,18 @@ impl Guilds {
         self.viewed.as_slice()
     }
 
-    /// The row of a dispatch of a guild. The guild is listed first, so that want of memory leaves all. A
-    /// guild that is marked and did not change does no harm.
+    /// Folds a dispatch of a guild into what is held of it. The guild is marked and listed first,
+    /// so that out of memory changes nothing. A guild that is marked and did not change does no
+    /// harm.
     pub(crate) fn change(
         &mut self,
-        alloc: Global,
-        intents: Intents,
-        bot: Snowflake,
+        fold: &Fold,
         guild: Snowflake,
         dispatch: Dispatch,
     ) -> Result<(), AllocError>
         ensures ok { OnOk result (self.new ≡ put_id held_id
-            (entry_after intents bot dispatch (entry_of guild self.old)) self.old) }
+            (entry_after fold.now.intents fold.now.bot dispatch (entry_of guild self.old))
+            self.old) }
         ensures err { OnErr result (self.new ≡ self.old) }
     {
         let Ok(()) = unsettle(&mut self.unsettled, guild, may_hide(&dispatch)) else {
@@ -257,34 +228,29 @@ impl Guilds {
             drop(dispatch);
             return Err(AllocError);
         };
-        let changed = change_entry(alloc, intents, bot, &mut self.entries, guild, dispatch);
+        let changed = change_entry(fold, &mut self.entries, guild, dispatch);
         relist(&mut self.viewed, guild, has_view(&self.entries, guild));
         changed
     }
 
-    /// The threads that the bot does not see go, at the cost of the guilds that may have such.
+    /// Drops the threads that the bot does not see, at the cost of the guilds that may have such.
     pub(crate) fn purge(&mut self)
         ensures { self.new ≡ map entry_purged self.old }
     {
-        // The list ascends.
+        // Brings the list's invariant into the proof.
         let _entries = self.entries.as_slice();
         purge_at(&mut self.entries, self.unsettled.as_slice());
         settle(&mut self.unsettled);
     }
 
-    /// The guilds that READY names, each unavailable so far, and no other.
-    pub(crate) fn begin(
-        &mut self,
-        alloc: Global,
-        intents: Intents,
-        ids: &[Snowflake],
-    ) -> Result<(), AllocError>
+    /// Holds the guilds that READY names, each unavailable so far, and no other.
+    pub(crate) fn begin(&mut self, fold: &Fold, ids: &[Snowflake]) -> Result<(), AllocError>
         ensures ok { OnOk result (self.new
-            ≡ put_all held_id [] (map (unavailable_entry intents) ids.now)) }
+            ≡ put_all held_id [] (map (unavailable_entry fold.now.intents) ids.now)) }
         ensures err { OnErr result (self.new ≡ self.old) }
     {
-        let viewed = unavailable_viewed(alloc, intents, ids)?;
-        let entries = ById::of(alloc, unavailable_entries(alloc, intents, ids)?)?;
+        let viewed = unavailable_viewed(fold, ids)?;
+        let entries = ById::of(fold.alloc, unavailable_entries(fold, ids)?)?;
         self.entries = entries;
         self.viewed = viewed;
         Ok(())

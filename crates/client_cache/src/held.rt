@@ -1,14 +1,15 @@
-ghost use Rattle.std.specs.Prelude.{◌≡◌, [], None};
-ghost use Rattle.client_cache.specs.Cached.{unavailable_entry};
+//! What is held of one guild.
 
-use crate::guild::unavailable_view;
+ghost use Rattle.std.specs.Prelude.{◌≡◌, []};
+ghost use Rattle.client_cache.specs.Cached.{empty_entry, unavailable_entry};
+
+use crate::fold::Fold;
 use collections::{ById, Keyed};
 use dispatch_types::GuildView;
-use intent_set::Intents;
 use snowflake_id::Snowflake;
 use std::alloc::Global;
 
-/// What is held of one guild: its view, if there is one, and the users that were told of.
+/// What is held of one guild: its view, if there is one, and the users that the client was told of.
 #[derive(Drop)]
 pub struct HeldGuild {
     pub id: Snowflake,
@@ -27,7 +28,7 @@ impl Keyed for HeldGuild {
 impl HeldGuild {
     /// A guild of which nothing is held.
     pub(crate) fn empty(alloc: Global, id: Snowflake) -> HeldGuild
-        ensures { result ≡ record { id = id; view = None; known = [] } }
+        ensures { result ≡ empty_entry id }
     {
         HeldGuild {
             id,
@@ -37,13 +38,13 @@ impl HeldGuild {
     }
 
     /// A guild that READY names.
-    pub(crate) fn unavailable(alloc: Global, intents: Intents, id: Snowflake) -> HeldGuild
-        ensures { result ≡ unavailable_entry intents id }
+    pub(crate) fn unavailable(fold: &Fold, id: Snowflake) -> HeldGuild
+        ensures { result ≡ unavailable_entry fold.now.intents id }
     {
         HeldGuild {
             id,
-            view: unavailable_view(intents, true),
-            known: ById::new(alloc),
+            view: fold.unavailable_view(true),
+            known: ById::new(fold.alloc),
         }
     }
 }

@@ -1,5 +1,5 @@
-//! The users that a client was told of, in a list that is made anew where it changes, so that want of
-//! memory leaves the old one.
+//! The users that a client was told of. A change makes a new list, so that out of memory leaves the
+//! old one.
 
 ghost use Rattle.std.specs.Prelude.{◌≡◌, [], Some, map, unwrap_or, IfOk};
 ghost use Rattle.collections.specs.ById.{has_id, put_id, put_all, without_id};
@@ -40,7 +40,7 @@ fn is_known(known: &ById<Snowflake>, user: Snowflake) -> bool
     known.contains(user.0)
 }
 
-/// The users with one more; none where it is among them already.
+/// The users and this one; `None` if it is among them already.
 pub(crate) fn with_user(
     alloc: Global,
     known: &ById<Snowflake>,
@@ -48,7 +48,7 @@ pub(crate) fn with_user(
 ) -> Result<Option<ById<Snowflake>>, AllocError>
     ensures { IfOk result (λ after. unwrap_or after known.now ≡ put_id own_id user known.now) }
 {
-    // The list ascends.
+    // Brings the list's invariant into the proof.
     let _known = known.as_slice();
     if is_known(known, user) {
         return Ok(None);
@@ -58,7 +58,7 @@ pub(crate) fn with_user(
     Ok(Some(after))
 }
 
-/// The users with these among them.
+/// The users and those of these members.
 pub(crate) fn with_users(
     alloc: Global,
     known: &ById<Snowflake>,

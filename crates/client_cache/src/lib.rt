@@ -3,6 +3,7 @@
 
 mod cache;
 mod channels;
+mod fold;
 mod guild;
 mod guilds;
 mod held;
@@ -13,6 +14,8 @@ mod presences;
 mod purge;
 mod roles;
 mod rows;
+mod thread_list;
+mod thread_members;
 mod threads;
 mod voices;
 

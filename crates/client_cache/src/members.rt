@@ -9,12 +9,12 @@ ghost use Rattle.dispatch_types.specs.Objects.{member_of};
 ghost use Rattle.dispatch_types.specs.Projection.{listed};
 ghost use Rattle.dispatch_types.specs.Fold.{one_more, one_less, add_member, update_member, remove_member, set_members};
 
+use crate::fold::Fold;
 use crate::objects::member_of;
-use collections::{ById, Duplicate};
-use dispatch_types::{MemberObject, OpenView};
+use collections::{ById, Duplicate, Seq};
+use dispatch_types::{GuildMember, GuildMemberRemove, MemberObject, OpenView};
 use guild_model::Member;
 use intent_set::Intents;
-use snowflake_id::Snowflake;
 use std::alloc::{AllocError, Global};
 
 fn one_more(count: u32) -> u32
@@ -29,71 +29,65 @@ fn one_less(count: u32) -> u32
     count.saturating_sub(1)
 }
 
-// A member is set, where GUILD_MEMBERS tells of members; else there are none.
-fn set_listed(
-    alloc: Global,
-    intents: Intents,
-    members: &mut ById<Member>,
-    member: Member,
-) -> Result<(), AllocError>
+// Adds or replaces a member, if GUILD_MEMBERS tells of members; else there are none.
+fn set_listed(fold: &Fold, members: &mut ById<Member>, member: Member) -> Result<(), AllocError>
     ensures ok { OnOk result (members.new
-        ≡ listed intents guild_members (put_id member_id member members.old)) }
+        ≡ listed fold.now.intents guild_members (put_id member_id member members.old)) }
     ensures err { OnErr result (members.new ≡ members.old) }
 {
-    if intents.has(Intents::GUILD_MEMBERS) {
+    if fold.intents.has(Intents::GUILD_MEMBERS) {
         members.put(member)
     } else {
-        *members = ById::new(alloc);
+        *members = ById::new(fold.alloc);
         Ok(())
     }
 }
 
-/// A member is set, and there is one more (Gateway Events, Guild Member Add).
+/// Adds a member, and counts one more (Gateway Events, Guild Member Add).
 pub(crate) fn add_member(
-    alloc: Global,
-    intents: Intents,
+    fold: &Fold,
     view: &mut OpenView,
-    object: MemberObject,
+    add: GuildMember,
 ) -> Result<(), AllocError>
-    ensures ok { OnOk result (view.new ≡ add_member intents (member_of object) view.old) }
+    ensures ok { OnOk result (view.new
+        ≡ add_member fold.now.intents (member_of add.member) view.old) }
     ensures err { OnErr result (view.new ≡ view.old) }
 {
-    let member = member_of(alloc, object)?;
-    set_listed(alloc, intents, &mut view.members, member)?;
+    let member = member_of(fold.alloc, add.member)?;
+    set_listed(fold, &mut view.members, member)?;
     view.member_count = view.member_count.map(one_more);
     Ok(())
 }
 
-/// A member is set, and the own member where it is that (Gateway Events, Guild Member Update).
+/// Replaces a member, and the own member if it is that (Gateway Events, Guild Member Update).
 pub(crate) fn update_member(
-    alloc: Global,
-    intents: Intents,
-    bot: Snowflake,
+    fold: &Fold,
     view: &mut OpenView,
-    object: MemberObject,
+    update: GuildMember,
 ) -> Result<(), AllocError>
-    ensures ok { OnOk result (view.new ≡ update_member intents bot (member_of object) view.old) }
+    ensures ok { OnOk result (view.new
+        ≡ update_member fold.now.intents fold.now.bot (member_of update.member) view.old) }
     ensures err { OnErr result (view.new ≡ view.old) }
 {
-    let member = member_of(alloc, object)?;
-    if member.user.id != bot {
-        return set_listed(alloc, intents, &mut view.members, member);
+    let member = member_of(fold.alloc, update.member)?;
+    if member.user.id != fold.bot {
+        return set_listed(fold, &mut view.members, member);
     }
-    let me = member.duplicate(alloc)?;
-    set_listed(alloc, intents, &mut view.members, member)?;
+    let me = member.duplicate(fold.alloc)?;
+    set_listed(fold, &mut view.members, member)?;
     view.me = me;
     Ok(())
 }
 
-/// A member goes, and there is one less (Gateway Events, Guild Member Remove).
-pub(crate) fn remove_member(view: &mut OpenView, user: Snowflake)
-    ensures { view.new ≡ remove_member user view.old }
+/// Removes a member, and counts one less (Gateway Events, Guild Member Remove).
+pub(crate) fn remove_member(view: &mut OpenView, remove: &GuildMemberRemove)
+    ensures { view.new ≡ remove_member remove.now.user.id view.old }
 {
-    view.members.remove(user.0);
+    view.members.remove(remove.user.id.0);
     view.member_count = view.member_count.map(one_less);
 }
 
-/// The members by what is sent of them.
+/// The members of these member objects.
 pub(crate) fn members_of(
     alloc: Global,
     objects: Vec<MemberObject>,
@@ -107,21 +101,21 @@ pub(crate) fn members_of(
     Ok(members)
 }
 
-/// Each of these members is set (Gateway Events, Guild Members Chunk).
+/// Adds or replaces each of these members (Gateway Events, Guild Members Chunk).
 pub(crate) fn set_members(
-    alloc: Global,
-    intents: Intents,
+    fold: &Fold,
     view: &mut OpenView,
-    objects: Vec<MemberObject>,
+    objects: Seq<MemberObject>,
 ) -> Result<(), AllocError>
-    ensures ok { OnOk result (view.new ≡ set_members intents (map member_of objects.items) view.old) }
+    ensures ok { OnOk result (view.new
+        ≡ set_members fold.now.intents (map member_of objects) view.old) }
     ensures err { OnErr result (view.new ≡ view.old) }
 {
-    if intents.has(Intents::GUILD_MEMBERS) {
-        let members = members_of(alloc, objects)?;
+    if fold.intents.has(Intents::GUILD_MEMBERS) {
+        let members = members_of(fold.alloc, objects.into_vec())?;
         view.members.put_all(members)
     } else {
-        view.members = ById::new(alloc);
+        view.members = ById::new(fold.alloc);
         Ok(())
     }
 }

@@ -1,4 +1,4 @@
-//! The parts of a guild that a client makes of what it is sent.
+//! The parts of a guild, made of their wire form.
 
 ghost use Rattle.std.specs.Prelude.{◌≡◌, IfOk};
 ghost use Rattle.std.specs.List.{filter_map};
@@ -14,7 +14,8 @@ use guild_model::{
 use std::alloc::{AllocError, Global};
 
 fn overwrite(object: &OverwriteObject) -> Overwrite
-    ensures { result ≡ record { id = object.now.id; allow = object.now.allow; deny = object.now.deny } }
+    ensures { result
+        ≡ record { id = object.now.id; allow = object.now.allow; deny = object.now.deny } }
 {
     Overwrite {
         id: object.id,
@@ -65,7 +66,7 @@ fn overwrites_of(alloc: Global, objects: &[OverwriteObject]) -> Result<Overwrite
     })
 }
 
-/// A channel by what is sent of it.
+/// The channel of a channel object.
 pub(crate) fn channel_of(alloc: Global, object: ChannelObject) -> Result<Channel, AllocError>
     ensures { IfOk result (λ channel. channel ≡ channel_of object) }
 {
@@ -80,7 +81,7 @@ pub(crate) fn channel_of(alloc: Global, object: ChannelObject) -> Result<Channel
     })
 }
 
-/// A member by what is sent of it.
+/// The member of a member object.
 pub(crate) fn member_of(alloc: Global, object: MemberObject) -> Result<Member, AllocError>
     ensures { IfOk result (λ member. member ≡ member_of object) }
 {
@@ -93,7 +94,7 @@ pub(crate) fn member_of(alloc: Global, object: MemberObject) -> Result<Member, A
     })
 }
 
-/// A user's membership in a thread by what is sent of it.
+/// The membership of a thread member object.
 pub(crate) fn thread_member_of(object: &ThreadMemberObject) -> ThreadMember
     ensures { result ≡ thread_member_of object.now }
 {
@@ -103,7 +104,7 @@ pub(crate) fn thread_member_of(object: &ThreadMemberObject) -> ThreadMember
     }
 }
 
-/// A voice state by what is sent of it, and none for a user that is in voice no longer.
+/// The voice state of a voice state object; `None` if the user is no longer in voice.
 pub(crate) fn voice_of(object: &VoiceObject) -> Option<Voice>
     ensures { result ≡ voice_of object.now }
 {
@@ -118,7 +119,7 @@ pub(crate) fn voice_of(object: &VoiceObject) -> Option<Voice>
     }
 }
 
-/// A presence by what is sent of it, and none for a user that is offline.
+/// The presence of a presence object; `None` if the user is offline.
 pub(crate) fn presence_of(object: &PresenceObject) -> Option<Presence>
     ensures { result ≡ presence_of object.now }
 {

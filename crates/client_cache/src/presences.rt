@@ -8,7 +8,8 @@ use crate::objects::presence_of;
 use dispatch_types::{OpenView, PresenceObject};
 use std::alloc::AllocError;
 
-/// A presence is set, or goes where its user is offline (Gateway Events, Presence Update).
+/// Adds or replaces a presence, or removes that of a user who is offline (Gateway Events, Presence
+/// Update).
 pub(crate) fn set_presence(view: &mut OpenView, object: &PresenceObject) -> Result<(), AllocError>
     ensures ok { OnOk result (view.new
         ≡ set_presence object.now.user (presence_of object.now) view.old) }

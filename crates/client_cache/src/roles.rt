@@ -10,7 +10,7 @@ use guild_model::changes::WithoutRole;
 use snowflake_id::Snowflake;
 use std::alloc::AllocError;
 
-/// A role is set (Gateway Events, Guild Role Create and Guild Role Update).
+/// Adds or replaces a role (Gateway Events, Guild Role Create and Guild Role Update).
 pub(crate) fn set_role(view: &mut OpenView, role: Role) -> Result<(), AllocError>
     ensures ok { OnOk result (view.new ≡ set_role role view.old) }
     ensures err { OnErr result (view.new ≡ view.old) }
@@ -18,7 +18,8 @@ pub(crate) fn set_role(view: &mut OpenView, role: Role) -> Result<(), AllocError
     view.roles.put(role)
 }
 
-/// A role goes, also from the members, with its overwrites (Gateway Events, Guild Role Delete).
+/// Removes a role, also from the members who hold it, and its overwrites (Gateway Events, Guild
+/// Role Delete).
 pub(crate) fn drop_role(view: &mut OpenView, role: Snowflake)
     ensures { view.new ≡ drop_role role view.old }
 {

@@ -8,7 +8,8 @@ use crate::objects::voice_of;
 use dispatch_types::{OpenView, VoiceObject};
 use std::alloc::AllocError;
 
-/// A voice state is set, or goes where it has no channel (Gateway Events, Voice State Update).
+/// Adds or replaces a voice state, or removes one that has no channel (Gateway Events, Voice State
+/// Update).
 pub(crate) fn set_voice(view: &mut OpenView, object: &VoiceObject) -> Result<(), AllocError>
     ensures ok { OnOk result (view.new ≡ set_voice object.now.user (voice_of object.now) view.old) }
     ensures err { OnErr result (view.new ≡ view.old) }

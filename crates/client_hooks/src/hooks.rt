@@ -66,8 +66,8 @@ impl<R: HookRule> Hooks<R> {
     ghost use Rattle.dispatch_types.specs.Kinds.{kind_of};
     ghost use Rattle.client_hooks.specs.Calls.{called, IsNoteOf};
 
-    /// Calls each hook that is for the dispatch's kind once, in the order in which they were kept, and
-    /// notes its answer.
+    /// Calls each hook that is for the dispatch's kind once, in the order in which they were kept,
+    /// and notes its answer.
     ///
     /// # Errors
     /// Out of memory.

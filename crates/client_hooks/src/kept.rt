@@ -10,8 +10,8 @@ use std::marker::PhantomData;
 /// A function from a dispatch to a number.
 pub type Hook = Box<dyn Fn(&Dispatch) -> u64>;
 
-/// A hook that may be called at every dispatch. It can be made only of a hook whose answers meet the
-/// rule `R`.
+/// A hook that may be called at every dispatch. It can be made only of a hook whose answers meet
+/// the rule `R`.
 #[derive(Drop)]
 pub struct Kept<R> {
     hook: Hook,

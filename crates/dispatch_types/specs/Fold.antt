@@ -1,6 +1,6 @@
 -- What a client that asked for these intents makes of each dispatch, guild by guild (Gateway Events,
 -- Receive Events).
-use Rattle.std.specs.Prelude.{ℕ, ◌+◌, ◌-◌, ◌^◌, min, List, [], ◌∷◌, map, filter, Bool, not, ◌==◌, Option, Some, None, is_some, if◌then◌else◌, option_map, option_and_then}
+use Rattle.std.specs.Prelude.{ℕ, ◌+◌, ◌-◌, ◌^◌, min, List, [], ◌∷◌, map, filter, Bool, true, false, not, ◌==◌, Option, Some, None, is_some, if◌then◌else◌, option_map, option_and_then}
 use Rattle.std.specs.Option.{option_or}
 use Rattle.std.specs.List.{find, filter_map, list_any}
 use Rattle.collections.specs.ById.{find_id, put_id, put_all, without_id}
@@ -18,7 +18,10 @@ use Rattle.dispatch_types.specs.declared.members.MemberObject.{MemberObject}
 use Rattle.dispatch_types.specs.declared.threads.ThreadObject.{ThreadObject}
 use Rattle.dispatch_types.specs.declared.threads.JoinedThread.{JoinedThread}
 use Rattle.dispatch_types.specs.declared.threads.ThreadMemberObject.{ThreadMemberObject}
-use Rattle.dispatch_types.specs.declared.dispatch.GuildCreate.{GuildCreate as Create}
+use Rattle.dispatch_types.specs.declared.guilds.GuildCreate.{GuildCreate as Create}
+use Rattle.dispatch_types.specs.declared.ready.Ready.{Ready as ReadyOf}
+use Rattle.dispatch_types.specs.declared.threads.ThreadListSync.{ThreadListSync as Sync}
+use Rattle.dispatch_types.specs.declared.threads.ThreadMembersUpdate.{ThreadMembersUpdate as MembersUpdate}
 use Rattle.dispatch_types.specs.declared.dispatch.Dispatch.{Dispatch}
 use Rattle.dispatch_types.specs.declared.dispatch.Dispatch.TheVariants.{Ready, Resumed, GuildCreate, GuildUpdate, GuildDelete, GuildRoleCreate, GuildRoleUpdate, GuildRoleDelete, ChannelCreate, ChannelUpdate, ChannelDelete, ThreadCreate, ThreadUpdate, ThreadDelete, ThreadListSync, ThreadMembersUpdate, GuildMemberAdd, GuildMemberUpdate, GuildMemberRemove, GuildMembersChunk, VoiceStateUpdate, PresenceUpdate, MessageCreate, MessageUpdate, MessageDelete, MessageReactionAdd, MessageReactionRemove, TypingStart}
 use Rattle.dispatch_types.specs.declared.view.GuildView.{GuildView}
@@ -27,6 +30,7 @@ use Rattle.dispatch_types.specs.declared.view.OpenView.{OpenView}
 use Rattle.dispatch_types.specs.declared.view.ThreadView.{ThreadView}
 use Rattle.dispatch_types.specs.Objects.{channel_of, member_of, thread_member_of, voice_of, presence_of}
 use Rattle.dispatch_types.specs.Projection.{told, listed}
+use Rattle.dispatch_types.specs.GuildOf.{guild_of}
 
 -- what a client holds of one guild: the bot of the last READY, the view, and the users that it was told of
 pub record Held : Type 0 where
@@ -111,18 +115,18 @@ abbrev pub synced_thread : ℕ → List ThreadMemberObject → ThreadObject → 
 synced_thread intents ms t = thread_of intents (option_map thread_member_of (find (λ (m : ThreadMemberObject). m.thread == t.id) ms)) t
 
 -- all threads of the listed parents go, and those listed come
-abbrev pub sync_threads : ℕ → List ℕ → List ThreadObject → List ThreadMemberObject → OpenView → OpenView
-sync_threads intents parents ts ms v = record v { threads = put_all thread_view_id (filter (λ (t : ThreadView). not (contains t.parent parents)) v.threads) (map (synced_thread intents ms) ts) }
+abbrev pub sync_threads : ℕ → Sync → OpenView → OpenView
+sync_threads intents sync v = record v { threads = put_all thread_view_id (filter (λ (t : ThreadView). not (contains t.parent sync.channels)) v.threads) (map (synced_thread intents sync.members) sync.threads) }
 
 -- the own membership, where one of the lists names the bot
 abbrev pub mine_after : ℕ → List ThreadMemberObject → List ℕ → Option ThreadMember → Option ThreadMember
 mine_after bot added removed mine = option_or (option_map thread_member_of (find (λ (m : ThreadMemberObject). m.user == bot) added)) (if contains bot removed then None else mine)
 
-abbrev pub members_updated : ℕ → ℕ → ℕ → List ThreadMemberObject → List ℕ → ThreadView → ThreadView
-members_updated intents bot count added removed t = record t { mine = mine_after bot added removed t.mine; count = told intents guild_members count }
+abbrev pub members_updated : ℕ → ℕ → MembersUpdate → ThreadView → ThreadView
+members_updated intents bot update t = record t { mine = mine_after bot update.added update.removed t.mine; count = told intents guild_members update.count }
 
-abbrev pub update_members : ℕ → ℕ → ℕ → ℕ → List ThreadMemberObject → List ℕ → OpenView → OpenView
-update_members intents bot id count added removed v = record v { threads = map (λ (t : ThreadView). if t.id == id then members_updated intents bot count added removed t else t) v.threads }
+abbrev pub update_members : ℕ → ℕ → MembersUpdate → OpenView → OpenView
+update_members intents bot update v = record v { threads = map (λ (t : ThreadView). if t.id == update.id then members_updated intents bot update t else t) v.threads }
 
 abbrev pub one_more : ℕ → ℕ
 one_more n = min (n + 1) (2 ^ 32 - 1)
@@ -153,53 +157,74 @@ abbrev pub set_presence : ℕ → Option Presence → OpenView → OpenView
 set_presence user None v = record v { presences = without_id presence_id user v.presences }
 set_presence user (Some p) v = record v { presences = put_id presence_id p v.presences }
 
--- a guild without an open view is changed by READY, GUILD_CREATE and GUILD_DELETE alone
+-- a change of an open view
 abbrev pub on_open : (OpenView → OpenView) → Option GuildView → Option GuildView
 on_open f None = None
 on_open f (Some Unavailable) = Some Unavailable
 on_open f (Some (Open v)) = Some (Open (f v))
 
--- a dispatch of this guild changes its view
-abbrev pub seen_by : Bool → (OpenView → OpenView) → Held → Held
-seen_by here f h = if here then record h { view = on_open f h.view } else h
+-- of dispatches about users, the users that a client was told of
+abbrev pub known_after : Dispatch → List ℕ → List ℕ
+known_after (GuildCreate create) known = put_all own_id [] (map user_id create.members)
+known_after (GuildDelete delete) known = []
+known_after (GuildMemberAdd member) known = put_id own_id member.member.user.id known
+known_after (GuildMemberUpdate member) known = put_id own_id member.member.user.id known
+known_after (GuildMemberRemove remove) known = without_id own_id remove.user.id known
+known_after (GuildMembersChunk chunk) known = put_all own_id known (map user_id chunk.members)
+known_after _ known = known
 
-abbrev pub knows : Bool → (List ℕ → List ℕ) → Held → Held
-knows here f h = if here then record h { known = f h.known } else h
+module _ (intents bot : ℕ) where
+  -- the row of each kind: what it makes of the open view of its guild; dispatches about messages change none
+  abbrev pub open_after : Dispatch → OpenView → OpenView
+  open_after (GuildUpdate update) v = record v { name = update.name; owner = update.owner }
+  open_after (GuildRoleCreate role) v = set_role role.role v
+  open_after (GuildRoleUpdate role) v = set_role role.role v
+  open_after (GuildRoleDelete delete) v = drop_role delete.role v
+  open_after (ChannelCreate channel) v = set_channel channel v
+  open_after (ChannelUpdate channel) v = set_channel channel v
+  open_after (ChannelDelete channel) v = drop_channel channel.id v
+  open_after (ThreadCreate create) v = set_thread (thread_of intents (option_map thread_member_of create.member) create.thread) v
+  open_after (ThreadUpdate thread) v = update_thread intents thread v
+  open_after (ThreadDelete delete) v = drop_thread delete.id v
+  open_after (ThreadListSync sync) v = sync_threads intents sync v
+  open_after (ThreadMembersUpdate update) v = update_members intents bot update v
+  open_after (GuildMemberAdd member) v = add_member intents (member_of member.member) v
+  open_after (GuildMemberUpdate member) v = update_member intents bot (member_of member.member) v
+  open_after (GuildMemberRemove remove) v = remove_member remove.user.id v
+  open_after (GuildMembersChunk chunk) v = set_members intents (map member_of chunk.members) v
+  open_after (VoiceStateUpdate update) v = set_voice update.voice.user (voice_of update.voice) v
+  open_after (PresenceUpdate presence) v = set_presence presence.user (presence_of presence) v
+  open_after _ v = v
 
-abbrev pub begun : Bool → Option GuildView → List ℕ → Held → Held
-begun here view known h = if here then record h { view = view; known = known } else h
+  -- a guild without an open view is changed by READY, GUILD_CREATE and GUILD_DELETE alone
+  abbrev pub view_after : Dispatch → Option GuildView → Option GuildView
+  view_after (GuildCreate create) view = created_view intents bot create
+  view_after (GuildDelete delete) view = if_unavailable intents delete.unavailable
+  view_after d view = on_open (open_after d) view
+
+-- what is held of a guild after a dispatch of it
+abbrev pub after : ℕ → Dispatch → Held → Held
+after intents d h = record h { view = view_after intents h.bot d h.view; known = known_after d h.known }
+
+-- the own membership of an unarchived private thread comes with the dispatch after THREAD_UPDATE, so
+-- that a thread which is not seen yet may stay until then
+abbrev pub leaves_over : Dispatch → Bool
+leaves_over (ThreadUpdate thread) = true
+leaves_over _ = false
+
+abbrev pub is_of : ℕ → Option ℕ → Bool
+is_of g None = false
+is_of g (Some a) = a == g
 
 module _ (intents g : ℕ) where
-  -- the row of each kind
+  -- READY begins anew, with the guilds that it lists
+  abbrev pub readied : ReadyOf → Held
+  readied ready = record { bot = ready.user.id; view = if_unavailable intents (contains g ready.guilds); known = [] }
+
+  -- any other dispatch changes what is held of its own guild alone
   abbrev pub changed : Held → Dispatch → Held
-  changed h (Ready r) = record { bot = r.user.id; view = if_unavailable intents (contains g r.guilds); known = [] }
-  changed h Resumed = h
-  changed h (GuildCreate c) = begun (c.id == g) (created_view intents h.bot c) (put_all own_id [] (map user_id c.members)) h
-  changed h (GuildUpdate id name owner) = seen_by (id == g) (λ v. record v { name = name; owner = owner }) h
-  changed h (GuildDelete id unavailable) = begun (id == g) (if_unavailable intents unavailable) [] h
-  changed h (GuildRoleCreate guild role) = seen_by (guild == g) (set_role role) h
-  changed h (GuildRoleUpdate guild role) = seen_by (guild == g) (set_role role) h
-  changed h (GuildRoleDelete guild role) = seen_by (guild == g) (drop_role role) h
-  changed h (ChannelCreate channel) = seen_by (channel.guild == g) (set_channel channel) h
-  changed h (ChannelUpdate channel) = seen_by (channel.guild == g) (set_channel channel) h
-  changed h (ChannelDelete channel) = seen_by (channel.guild == g) (drop_channel channel.id) h
-  changed h (ThreadCreate thread newly member) = seen_by (thread.guild == g) (set_thread (thread_of intents (option_map thread_member_of member) thread)) h
-  changed h (ThreadUpdate thread) = seen_by (thread.guild == g) (update_thread intents thread) h
-  changed h (ThreadDelete guild id parent kind) = seen_by (guild == g) (drop_thread id) h
-  changed h (ThreadListSync guild channels threads members) = seen_by (guild == g) (sync_threads intents channels threads members) h
-  changed h (ThreadMembersUpdate guild id count added removed) = seen_by (guild == g) (update_members intents h.bot id count added removed) h
-  changed h (GuildMemberAdd guild member) = knows (guild == g) (put_id own_id member.user.id) (seen_by (guild == g) (add_member intents (member_of member)) h)
-  changed h (GuildMemberUpdate guild member) = knows (guild == g) (put_id own_id member.user.id) (seen_by (guild == g) (update_member intents h.bot (member_of member)) h)
-  changed h (GuildMemberRemove guild user) = knows (guild == g) (without_id own_id user.id) (seen_by (guild == g) (remove_member user.id) h)
-  changed h (GuildMembersChunk chunk) = knows (chunk.guild == g) (λ known. put_all own_id known (map user_id chunk.members)) (seen_by (chunk.guild == g) (set_members intents (map member_of chunk.members)) h)
-  changed h (VoiceStateUpdate guild voice) = seen_by (guild == g) (set_voice voice.user (voice_of voice)) h
-  changed h (PresenceUpdate presence) = seen_by (presence.guild == g) (set_presence presence.user (presence_of presence)) h
-  changed h (MessageCreate message) = h
-  changed h (MessageUpdate message) = h
-  changed h (MessageDelete guild channel id) = h
-  changed h (MessageReactionAdd reaction) = h
-  changed h (MessageReactionRemove reaction) = h
-  changed h (TypingStart guild channel user seconds) = h
+  changed h (Ready ready) = readied ready
+  changed h d = if is_of g (guild_of d) then after intents d h else h
 
   -- a client drops each thread that its bot does not see, by its own view alone
   abbrev pub view_standing : OpenView → Standing
@@ -214,13 +239,8 @@ module _ (intents g : ℕ) where
   abbrev pub purge : Held → Held
   purge h = record h { view = on_open purged h.view }
 
-  -- not after THREAD_UPDATE: the own membership of an unarchived private thread comes with the next dispatch
-  abbrev pub purged_after : Dispatch → Held → Held
-  purged_after (ThreadUpdate thread) h = h
-  purged_after _ h = purge h
-
   unfoldable pub folded : Held → Dispatch → Held
-  folded h d = purged_after d (changed h d)
+  folded h d = if leaves_over d then changed h d else purge (changed h d)
 
   abbrev pub fold_from : Held → List Dispatch → Held
   fold_from h [] = h

@@ -1,4 +1,5 @@
 pub mod Kinds
+pub mod GuildOf
 pub mod Serves
 pub mod Objects
 pub mod Projection

@@ -1,56 +1,19 @@
+//! What a session is told: one variant for each kind of dispatch.
+
 ghost use Rattle.std.specs.Prelude.{◌≡◌};
 
 use crate::channels::ChannelObject;
-use crate::members::MemberObject;
-use crate::messages::{MessageObject, Reaction};
-use crate::presences::{PresenceObject, VoiceObject};
-use crate::threads::{JoinedThread, ThreadCount, ThreadMemberObject, ThreadObject};
-use crate::viewer::Shard;
-use collections::{Seq, Text};
-use guild_model::{Role, ThreadKind, User};
+use crate::guilds::{GuildCreate, GuildDelete, GuildUpdate};
+use crate::members::{GuildMember, GuildMemberRemove, MembersChunk};
+use crate::messages::{MessageDelete, MessageObject, Reaction, TypingStart};
+use crate::presences::{PresenceObject, VoiceStateUpdate};
+use crate::ready::Ready;
+use crate::roles::{GuildRole, GuildRoleDelete};
+use crate::threads::{
+    ThreadCreate, ThreadDelete, ThreadListSync, ThreadMembersUpdate, ThreadObject,
+};
 use intent_set::Kind;
 use snowflake_id::Snowflake;
-
-/// The first dispatch of a session (Gateway Events, Ready).
-#[derive(Drop)]
-pub struct Ready {
-    pub user: User,
-    /// The guilds, each unavailable so far.
-    pub guilds: Seq<Snowflake>,
-    pub session: Text,
-    /// The URL for a resume.
-    pub url: Text,
-    pub shard: Option<Shard>,
-}
-
-/// A guild that has become available, or that the bot has joined (Gateway Events, Guild Create).
-#[derive(Drop)]
-pub struct GuildCreate {
-    pub id: Snowflake,
-    pub name: Text,
-    pub owner: Snowflake,
-    pub roles: Seq<Role>,
-    pub channels: Seq<ChannelObject>,
-    pub members: Seq<MemberObject>,
-    pub member_count: u32,
-    pub large: bool,
-    pub threads: Seq<JoinedThread>,
-    pub voices: Seq<VoiceObject>,
-    pub presences: Seq<PresenceObject>,
-}
-
-/// Members that a client asked for (Gateway Events, Guild Members Chunk).
-#[derive(Drop)]
-pub struct MembersChunk {
-    pub guild: Snowflake,
-    pub members: Seq<MemberObject>,
-    pub index: u32,
-    pub count: u32,
-    pub nonce: Option<Text>,
-    /// The ids that are no members'; left out where there are none.
-    pub not_found: Seq<Snowflake>,
-    pub presences: Option<Seq<PresenceObject>>,
-}
 
 /// What a session is told (Gateway Events, Receive Events).
 #[derive(Drop)]
@@ -58,99 +21,36 @@ pub enum Dispatch {
     Ready(Ready),
     Resumed,
     GuildCreate(GuildCreate),
-    GuildUpdate {
-        id: Snowflake,
-        name: Text,
-        owner: Snowflake,
-    },
-    GuildDelete {
-        id: Snowflake,
-        /// An outage, and not the end of the bot's membership.
-        unavailable: bool,
-    },
-    GuildRoleCreate {
-        guild: Snowflake,
-        role: Role,
-    },
-    GuildRoleUpdate {
-        guild: Snowflake,
-        role: Role,
-    },
-    GuildRoleDelete {
-        guild: Snowflake,
-        role: Snowflake,
-    },
+    GuildUpdate(GuildUpdate),
+    GuildDelete(GuildDelete),
+    GuildRoleCreate(GuildRole),
+    GuildRoleUpdate(GuildRole),
+    GuildRoleDelete(GuildRoleDelete),
     ChannelCreate(ChannelObject),
     ChannelUpdate(ChannelObject),
     ChannelDelete(ChannelObject),
-    ThreadCreate {
-        thread: ThreadObject,
-        newly_created: bool,
-        /// The bot's own membership, where it is in the thread.
-        member: Option<ThreadMemberObject>,
-    },
+    ThreadCreate(ThreadCreate),
     ThreadUpdate(ThreadObject),
-    ThreadDelete {
-        guild: Snowflake,
-        id: Snowflake,
-        parent: Snowflake,
-        kind: ThreadKind,
-    },
-    ThreadListSync {
-        guild: Snowflake,
-        /// The parents whose threads are listed.
-        channels: Seq<Snowflake>,
-        threads: Seq<ThreadObject>,
-        /// The bot's own memberships.
-        members: Seq<ThreadMemberObject>,
-    },
-    ThreadMembersUpdate {
-        guild: Snowflake,
-        id: Snowflake,
-        count: ThreadCount,
-        /// Left out where it is empty.
-        added: Seq<ThreadMemberObject>,
-        /// Left out where it is empty.
-        removed: Seq<Snowflake>,
-    },
-    GuildMemberAdd {
-        guild: Snowflake,
-        member: MemberObject,
-    },
-    GuildMemberUpdate {
-        guild: Snowflake,
-        member: MemberObject,
-    },
-    GuildMemberRemove {
-        guild: Snowflake,
-        user: User,
-    },
+    ThreadDelete(ThreadDelete),
+    ThreadListSync(ThreadListSync),
+    ThreadMembersUpdate(ThreadMembersUpdate),
+    GuildMemberAdd(GuildMember),
+    GuildMemberUpdate(GuildMember),
+    GuildMemberRemove(GuildMemberRemove),
     GuildMembersChunk(MembersChunk),
-    VoiceStateUpdate {
-        guild: Snowflake,
-        voice: VoiceObject,
-    },
+    VoiceStateUpdate(VoiceStateUpdate),
     PresenceUpdate(PresenceObject),
     MessageCreate(MessageObject),
     MessageUpdate(MessageObject),
-    MessageDelete {
-        guild: Snowflake,
-        channel: Snowflake,
-        id: Snowflake,
-    },
+    MessageDelete(MessageDelete),
     MessageReactionAdd(Reaction),
     MessageReactionRemove(Reaction),
-    TypingStart {
-        guild: Snowflake,
-        channel: Snowflake,
-        user: Snowflake,
-        /// Whole seconds since 1970.
-        seconds: u64,
-    },
+    TypingStart(TypingStart),
 }
 
 impl Dispatch {
     ghost use Rattle.dispatch_types.specs.Kinds.{kind_of};
+    ghost use Rattle.dispatch_types.specs.GuildOf.{guild_of};
 
     /// The kind of this dispatch.
     pub fn kind(&self) -> Kind
@@ -160,31 +60,66 @@ impl Dispatch {
             Dispatch::Ready(_) => Kind::Ready,
             Dispatch::Resumed => Kind::Resumed,
             Dispatch::GuildCreate(_) => Kind::GuildCreate,
-            Dispatch::GuildUpdate { .. } => Kind::GuildUpdate,
-            Dispatch::GuildDelete { .. } => Kind::GuildDelete,
-            Dispatch::GuildRoleCreate { .. } => Kind::GuildRoleCreate,
-            Dispatch::GuildRoleUpdate { .. } => Kind::GuildRoleUpdate,
-            Dispatch::GuildRoleDelete { .. } => Kind::GuildRoleDelete,
+            Dispatch::GuildUpdate(_) => Kind::GuildUpdate,
+            Dispatch::GuildDelete(_) => Kind::GuildDelete,
+            Dispatch::GuildRoleCreate(_) => Kind::GuildRoleCreate,
+            Dispatch::GuildRoleUpdate(_) => Kind::GuildRoleUpdate,
+            Dispatch::GuildRoleDelete(_) => Kind::GuildRoleDelete,
             Dispatch::ChannelCreate(_) => Kind::ChannelCreate,
             Dispatch::ChannelUpdate(_) => Kind::ChannelUpdate,
             Dispatch::ChannelDelete(_) => Kind::ChannelDelete,
-            Dispatch::ThreadCreate { .. } => Kind::ThreadCreate,
+            Dispatch::ThreadCreate(_) => Kind::ThreadCreate,
             Dispatch::ThreadUpdate(_) => Kind::ThreadUpdate,
-            Dispatch::ThreadDelete { .. } => Kind::ThreadDelete,
-            Dispatch::ThreadListSync { .. } => Kind::ThreadListSync,
-            Dispatch::ThreadMembersUpdate { .. } => Kind::ThreadMembersUpdate,
-            Dispatch::GuildMemberAdd { .. } => Kind::GuildMemberAdd,
-            Dispatch::GuildMemberUpdate { .. } => Kind::GuildMemberUpdate,
-            Dispatch::GuildMemberRemove { .. } => Kind::GuildMemberRemove,
+            Dispatch::ThreadDelete(_) => Kind::ThreadDelete,
+            Dispatch::ThreadListSync(_) => Kind::ThreadListSync,
+            Dispatch::ThreadMembersUpdate(_) => Kind::ThreadMembersUpdate,
+            Dispatch::GuildMemberAdd(_) => Kind::GuildMemberAdd,
+            Dispatch::GuildMemberUpdate(_) => Kind::GuildMemberUpdate,
+            Dispatch::GuildMemberRemove(_) => Kind::GuildMemberRemove,
             Dispatch::GuildMembersChunk(_) => Kind::GuildMembersChunk,
-            Dispatch::VoiceStateUpdate { .. } => Kind::VoiceStateUpdate,
+            Dispatch::VoiceStateUpdate(_) => Kind::VoiceStateUpdate,
             Dispatch::PresenceUpdate(_) => Kind::PresenceUpdate,
             Dispatch::MessageCreate(_) => Kind::MessageCreate,
             Dispatch::MessageUpdate(_) => Kind::MessageUpdate,
-            Dispatch::MessageDelete { .. } => Kind::MessageDelete,
+            Dispatch::MessageDelete(_) => Kind::MessageDelete,
             Dispatch::MessageReactionAdd(_) => Kind::MessageReactionAdd,
             Dispatch::MessageReactionRemove(_) => Kind::MessageReactionRemove,
-            Dispatch::TypingStart { .. } => Kind::TypingStart,
+            Dispatch::TypingStart(_) => Kind::TypingStart,
+        }
+    }
+
+    /// The guild that this dispatch is of; `None` exactly for READY and RESUMED.
+    pub fn guild(&self) -> Option<Snowflake>
+        ensures { result ≡ guild_of self.now }
+    {
+        match self {
+            Dispatch::Ready(_) | Dispatch::Resumed => None,
+            Dispatch::GuildCreate(create) => Some(create.id),
+            Dispatch::GuildUpdate(update) => Some(update.id),
+            Dispatch::GuildDelete(delete) => Some(delete.id),
+            Dispatch::GuildRoleCreate(role) => Some(role.guild),
+            Dispatch::GuildRoleUpdate(role) => Some(role.guild),
+            Dispatch::GuildRoleDelete(delete) => Some(delete.guild),
+            Dispatch::ChannelCreate(channel) => Some(channel.guild),
+            Dispatch::ChannelUpdate(channel) => Some(channel.guild),
+            Dispatch::ChannelDelete(channel) => Some(channel.guild),
+            Dispatch::ThreadCreate(create) => Some(create.thread.guild),
+            Dispatch::ThreadUpdate(thread) => Some(thread.guild),
+            Dispatch::ThreadDelete(delete) => Some(delete.guild),
+            Dispatch::ThreadListSync(sync) => Some(sync.guild),
+            Dispatch::ThreadMembersUpdate(update) => Some(update.guild),
+            Dispatch::GuildMemberAdd(member) => Some(member.guild),
+            Dispatch::GuildMemberUpdate(member) => Some(member.guild),
+            Dispatch::GuildMemberRemove(remove) => Some(remove.guild),
+            Dispatch::GuildMembersChunk(chunk) => Some(chunk.guild),
+            Dispatch::VoiceStateUpdate(update) => Some(update.guild),
+            Dispatch::PresenceUpdate(presence) => Some(presence.guild),
+            Dispatch::MessageCreate(message) => Some(message.guild),
+            Dispatch::MessageUpdate(message) => Some(message.guild),
+            Dispatch::MessageDelete(delete) => Some(delete.guild),
+            Dispatch::MessageReactionAdd(reaction) => Some(reaction.guild),
+            Dispatch::MessageReactionRemove(reaction) => Some(reaction.guild),
+            Dispatch::TypingStart(typing) => Some(typing.guild),
         }
     }
 }

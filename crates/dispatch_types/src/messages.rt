@@ -1,3 +1,5 @@
+//! Messages and reactions, and MESSAGE_DELETE and TYPING_START.
+
 use collections::{Seq, Text};
 use guild_model::{PartCount, User};
 use snowflake_id::Snowflake;
@@ -26,4 +28,22 @@ pub struct Reaction {
     pub user: Snowflake,
     /// The emoji's name.
     pub emoji: Text,
+}
+
+/// A message that is deleted (Gateway Events, Message Delete).
+#[derive(Clone, Copy, PartialEq, Eq, Debug)]
+pub struct MessageDelete {
+    pub guild: Snowflake,
+    pub channel: Snowflake,
+    pub id: Snowflake,
+}
+
+/// A user that types in a channel (Gateway Events, Typing Start).
+#[derive(Clone, Copy, PartialEq, Eq, Debug)]
+pub struct TypingStart {
+    pub guild: Snowflake,
+    pub channel: Snowflake,
+    pub user: Snowflake,
+    /// Whole seconds since 1970.
+    pub seconds: u64,
 }

@@ -1,3 +1,5 @@
+//! Voice states and presences, and VOICE_STATE_UPDATE.
+
 ghost use Rattle.std.specs.Prelude.{◌≡◌};
 ghost use Rattle.dispatch_types.specs.Objects.{voice_object, presence_object};
 
@@ -12,6 +14,13 @@ pub struct VoiceObject {
     pub channel: Option<Snowflake>,
     pub self_mute: bool,
     pub self_deaf: bool,
+}
+
+/// A user's voice state in a guild (Gateway Events, Voice State Update).
+#[derive(Clone, Copy, PartialEq, Eq, Debug)]
+pub struct VoiceStateUpdate {
+    pub guild: Snowflake,
+    pub voice: VoiceObject,
 }
 
 /// A presence as it is sent (Gateway Events, Presence Update). Without an activity the user is

@@ -1,6 +1,9 @@
+//! Threads, and their dispatches: THREAD_CREATE, THREAD_DELETE, THREAD_LIST_SYNC and
+//! THREAD_MEMBERS_UPDATE.
+
 ghost use Rattle.std.specs.Prelude.{◌≡◌, ◌↔◌, ◌≤◌, min, IfOk, IsErr};
 
-use collections::Text;
+use collections::{Seq, Text};
 use guild_model::{Moment, Thread, ThreadKind, ThreadMember};
 use snowflake_id::Snowflake;
 use std::alloc::{AllocError, Global};
@@ -118,4 +121,46 @@ impl ThreadObject {
 pub struct JoinedThread {
     pub thread: ThreadObject,
     pub joined: Option<Moment>,
+}
+
+/// A thread that is created or that the bot is added to (Gateway Events, Thread Create).
+#[derive(Drop)]
+pub struct ThreadCreate {
+    pub thread: ThreadObject,
+    pub newly_created: bool,
+    /// The bot's own membership, where it is in the thread.
+    pub member: Option<ThreadMemberObject>,
+}
+
+/// A thread that is deleted (Gateway Events, Thread Delete).
+#[derive(Clone, Copy, PartialEq, Eq, Debug)]
+pub struct ThreadDelete {
+    pub guild: Snowflake,
+    pub id: Snowflake,
+    pub parent: Snowflake,
+    pub kind: ThreadKind,
+}
+
+/// The active threads of channels that the bot has gained access to (Gateway Events, Thread List
+/// Sync).
+#[derive(Drop)]
+pub struct ThreadListSync {
+    pub guild: Snowflake,
+    /// The parents whose threads are listed.
+    pub channels: Seq<Snowflake>,
+    pub threads: Seq<ThreadObject>,
+    /// The bot's own memberships.
+    pub members: Seq<ThreadMemberObject>,
+}
+
+/// Users that are added to or removed from a thread (Gateway Events, Thread Members Update).
+#[derive(Drop)]
+pub struct ThreadMembersUpdate {
+    pub guild: Snowflake,
+    pub id: Snowflake,
+    pub count: ThreadCount,
+    /// Left out where it is empty.
+    pub added: Seq<ThreadMemberObject>,
+    /// Left out where it is empty.
+    pub removed: Seq<Snowflake>,
 }

@@ -1,17 +1,14 @@
 -- The whole text of a dispatch reads back, and is read as the dispatch.
-use Rattle.std.proofs.Common.{◌≡◌, ℕ, ◌≤◌, Some, None, Ok, Err, Result, Option, List, refl, sym, ap, ◌∙◌, arith}
-use Rattle.serde_json.specs.Data.{Data}
+use Rattle.std.proofs.Common.{◌≡◌, ℕ, Ok, refl, arith}
 use Rattle.serde_json.proofs.OnLiterals.{serde_json_on_literals}
-use Rattle.json_view.specs.Reading.{reading}
 use Rattle.intent_set.proofs.Names.{kind_of-name_of}
 use Rattle.dispatch_types.specs.declared.dispatch.Dispatch.{Dispatch}
 use Rattle.dispatch_types.specs.Kinds.{kind_of}
 use Rattle.object_json.specs.Fits.{IsWhole}
-use Rattle.object_json.proofs.Plain.{IsFlat}
 use Rattle.written_json.specs.Writable.{IsWritable}
-use Rattle.event_json.specs.Body.{body_data, body_from, DispatchFits}
+use Rattle.event_json.specs.Body.{DispatchFits}
 use Rattle.event_json.specs.Text.{data_of}
-use Rattle.event_json.specs.Read.{IsTextOf, candidate}
+use Rattle.event_json.specs.Read.{candidate}
 use Rattle.event_json.proofs.Back.{body_back}
 use Rattle.event_json.proofs.Plain.{body_plain}
 

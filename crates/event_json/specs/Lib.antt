@@ -2,6 +2,7 @@ pub mod Ready
 pub mod Guild
 pub mod Thread
 pub mod Member
+pub mod Voice
 pub mod Message
 pub mod Body
 pub mod Text

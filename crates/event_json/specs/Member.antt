@@ -1,24 +1,26 @@
 -- Gateway Events, Guild Members.
-use Rattle.std.specs.Prelude.{ℕ, codes, None, option_map, Result, Ok, IfSome}
+use Rattle.std.specs.Prelude.{codes, Some, None, option_map, Result, Ok, IfSome}
 use Rattle.serde_json.specs.Data.{Data, string, object, member, no_members}
-use Rattle.guild_model.specs.declared.user.User.{User}
-use Rattle.dispatch_types.specs.declared.dispatch.MembersChunk.{MembersChunk}
+use Rattle.dispatch_types.specs.declared.members.GuildMember.{GuildMember}
+use Rattle.dispatch_types.specs.declared.members.GuildMemberRemove.{GuildMemberRemove}
+use Rattle.dispatch_types.specs.declared.members.MembersChunk.{MembersChunk}
 use Rattle.object_json.specs.Kinds.{digits, count, list, list_if, member_if}
-use Rattle.object_json.specs.User.{user_data, user_from}
+use Rattle.object_json.specs.User.{user_data, user_from, UserFits}
 use Rattle.object_json.specs.Member.{member_data, member_from, MemberFits}
 use Rattle.object_json.specs.Presence.{presence_data, presence_from, PresenceFits}
 use Rattle.json_view.specs.Fields.{and_then}
 use Rattle.object_json.specs.declared.fault.ReadFault.{ReadFault}
-use Rattle.dispatch_types.specs.declared.dispatch.Dispatch.{Dispatch}
-use Rattle.dispatch_types.specs.declared.dispatch.Dispatch.TheVariants.{GuildMemberRemove}
 use Rattle.object_json.specs.Reading.{id_at, small_at, text_from, id_from, list_at, list_if_at, list_from, optional_at, value_at}
 use Rattle.object_json.specs.Fits.{Each, IsId, IsSmall}
-use Rattle.dispatch_types.specs.declared.members.MemberObject.{MemberObject}
 
-abbrev pub guild_member_remove_data : ℕ → User → Data
-guild_member_remove_data guild user =
-    object (member (codes "guild_id") (digits guild)
-    (member (codes "user") (user_data user)
+-- Guild Member Add and Guild Member Update: the member, and with it its guild
+abbrev pub guild_member_data : GuildMember → Data
+guild_member_data m = member_data (Some m.guild) m.member
+
+abbrev pub guild_member_remove_data : GuildMemberRemove → Data
+guild_member_remove_data r =
+    object (member (codes "guild_id") (digits r.guild)
+    (member (codes "user") (user_data r.user)
     no_members))
 
 -- Guild Members Chunk
@@ -35,18 +37,23 @@ members_chunk_data c =
 
 -- ---- reading
 
--- a member with its guild
-abbrev pub guild_member_from : Data → Result (ℕ × MemberObject) ReadFault
+abbrev pub guild_member_from : Data → Result GuildMember ReadFault
 guild_member_from d =
     and_then (id_at (codes "guild_id") d) (λ guild.
     and_then (member_from d) (λ member.
-    Ok (guild, member)))
+    Ok (record { guild = guild; member = member })))
 
-abbrev pub guild_member_remove_from : Data → Result Dispatch ReadFault
+abbrev pub GuildMemberFits : GuildMember → Type 0
+GuildMemberFits m = IsId m.guild × MemberFits m.member
+
+abbrev pub guild_member_remove_from : Data → Result GuildMemberRemove ReadFault
 guild_member_remove_from d =
     and_then (id_at (codes "guild_id") d) (λ guild.
     and_then (value_at user_from (codes "user") d) (λ user.
-    Ok (GuildMemberRemove guild user)))
+    Ok (record { guild = guild; user = user })))
+
+abbrev pub GuildMemberRemoveFits : GuildMemberRemove → Type 0
+GuildMemberRemoveFits r = IsId r.guild × UserFits r.user
 
 abbrev pub members_chunk_from : Data → Result MembersChunk ReadFault
 members_chunk_from d =
@@ -57,7 +64,17 @@ members_chunk_from d =
     and_then (optional_at text_from (codes "nonce") d) (λ nonce.
     and_then (list_if_at id_from (codes "not_found") d) (λ others.
     and_then (optional_at (list_from presence_from) (codes "presences") d) (λ presences.
-    Ok (record { guild = guild; members = members; index = index; count = chunks; nonce = nonce; not_found = others; presences = presences }))))))))
+    Ok (record {
+      guild = guild;
+      members = members;
+      index = index;
+      count = chunks;
+      nonce = nonce;
+      not_found = others;
+      presences = presences;
+    }))))))))
 
 abbrev pub ChunkFits : MembersChunk → Type 0
-ChunkFits c = IsSmall c.count × IsSmall c.index × IsId c.guild × Each MemberFits c.members × Each IsId c.not_found × IfSome c.presences (Each PresenceFits)
+ChunkFits c =
+    IsSmall c.count × IsSmall c.index × IsId c.guild × Each MemberFits c.members × Each IsId c.not_found
+    × IfSome c.presences (Each PresenceFits)

@@ -1,5 +1,5 @@
 -- Dispatches as they are read back from their texts.
-use Rattle.std.specs.Prelude.{◌≡◌, ◌⊎◌, ℕ, List, Bool, true, false, ◌&&◌, ◌==◌, if◌then◌else◌, is_some, codes, Option, Some, None, Result, Ok, Err, option_and_then}
+use Rattle.std.specs.Prelude.{◌≡◌, ◌⊎◌, ℕ, List, Bool, false, ◌&&◌, ◌==◌, if◌then◌else◌, is_some, codes, Option, Some, None, Result, Ok, Err, option_and_then}
 use Rattle.std.specs.Option.{ok_or}
 use Rattle.serde_json.specs.Data.{Data}
 use Rattle.serde_json.specs.Find.{get, as_str}
@@ -49,14 +49,17 @@ fault_of (Some d) = fault_in (kind_in d)
 
 -- ---- how it is found
 
--- this answer, or want of memory
+-- this answer, or out of memory
 abbrev pub UnlessMemory : {A : Type 0} → Result A DispatchFault → Result A DispatchFault → Type 0
 UnlessMemory result answer = (result ≡ Err Memory) ⊎ (result ≡ answer)
 
+abbrev pub dispatch_fault : ReadFault → DispatchFault
+dispatch_fault object.BadField = BadField
+dispatch_fault object.Memory = Memory
+
 abbrev pub faulted : {A : Type 0} → Result A ReadFault → Result A DispatchFault
 faulted (Ok a) = Ok a
-faulted (Err object.BadField) = Err BadField
-faulted (Err object.Memory) = Err Memory
+faulted (Err fault) = Err (dispatch_fault fault)
 
 -- the one dispatch whose data this can be
 abbrev pub candidate : Data → Result (Dispatch × ℕ) DispatchFault

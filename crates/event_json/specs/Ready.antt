@@ -1,7 +1,7 @@
 -- Gateway Events, Ready.
 use Rattle.std.specs.Prelude.{ℕ, ◌≤◌, codes, true, option_map, nat_lt, if◌then◌else◌, Result, Ok, Err, IfSome}
 use Rattle.serde_json.specs.Data.{Data, boolean, string, object, array, item, no_items, member, no_members}
-use Rattle.dispatch_types.specs.declared.dispatch.Ready.{Ready}
+use Rattle.dispatch_types.specs.declared.ready.Ready.{Ready}
 use Rattle.object_json.specs.Kinds.{digits, count, list, member_if}
 use Rattle.object_json.specs.User.{user_data}
 use Rattle.json_view.specs.Fields.{and_then}

@@ -1,8 +1,10 @@
+//! The field `d` of a dispatch, both ways.
+
 ghost use Rattle.std.specs.Prelude.{◌≡◌, IfOk, OnOk, length};
 ghost use Rattle.serde_json.specs.Data.{object, no_members};
 ghost use Rattle.serde_json.specs.Written.{compact_text};
 ghost use Rattle.object_json.specs.Added.{Adds};
-ghost use Rattle.event_json.specs.Body.{body_data, body_from, guild_voice_from, DispatchFits};
+ghost use Rattle.event_json.specs.Body.{body_data, body_from, DispatchFits};
 ghost use Rattle.serde_json.specs.View.{view};
 ghost use Rattle.object_json.specs.Reading.{UnlessMemory};
 
@@ -12,8 +14,8 @@ use crate::guild::{
     write_guild_role_delete, write_guild_update,
 };
 use crate::member::{
-    read_guild_member, read_guild_member_remove, read_members_chunk, write_guild_member_remove,
-    write_members_chunk,
+    read_guild_member, read_guild_member_remove, read_members_chunk, write_guild_member,
+    write_guild_member_remove, write_members_chunk,
 };
 use crate::message::{
     read_message_delete, read_reaction, read_typing_start, write_message_delete, write_reaction,
@@ -22,23 +24,17 @@ use crate::message::{
 use crate::ready::{read_ready, write_ready};
 use crate::thread::{
     read_thread_create, read_thread_delete, read_thread_list_sync, read_thread_members_update,
-    write_thread_delete, write_thread_list_sync, write_thread_members_update,
+    write_thread_create, write_thread_delete, write_thread_list_sync, write_thread_members_update,
 };
-use dispatch_types::{
-    ChannelObject, Dispatch, MessageObject, PresenceObject, ThreadObject, VoiceObject,
-};
+use crate::voice::{read_voice_state_update, write_voice_state_update};
+use dispatch_types::{ChannelObject, Dispatch, MessageObject, PresenceObject, ThreadObject};
 use intent_set::Kind;
 use json::Writer;
 use object_json::fault::ReadFault;
 use object_json::field::{close, open};
-use object_json::member::write_member;
 use object_json::readable::Readable;
-use object_json::reading::id_at;
-use object_json::thread::write_thread;
-use object_json::voice::write_voice;
 use object_json::written::Written;
 use serde_json::Value;
-use snowflake_id::Snowflake;
 use std::alloc::{AllocError, Global};
 use std::marker::Model;
 
@@ -97,76 +93,33 @@ fn write_body(alloc: Global, out: &mut Writer, of: &Dispatch) -> Result<(), Allo
     match of {
         Dispatch::Ready(ready) => write_ready(alloc, out, ready),
         Dispatch::Resumed => empty(out),
-        Dispatch::GuildCreate(guild) => write_guild_create(alloc, out, guild),
-        Dispatch::GuildUpdate { id, name, owner } => write_guild_update(out, *id, name, *owner),
-        Dispatch::GuildDelete { id, unavailable } => write_guild_delete(out, *id, *unavailable),
-        Dispatch::GuildRoleCreate { guild, role } | Dispatch::GuildRoleUpdate { guild, role } =>
-            write_guild_role(alloc, out, *guild, role),
-        Dispatch::GuildRoleDelete { guild, role } => write_guild_role_delete(out, *guild, *role),
-        Dispatch::ChannelCreate(channel)
-        | Dispatch::ChannelUpdate(channel)
-        | Dispatch::ChannelDelete(channel) => channel.write(alloc, out),
-        Dispatch::ThreadCreate {
-            thread,
-            newly_created,
-            member,
-        } => write_thread(alloc, out, member, *newly_created, thread),
+        Dispatch::GuildCreate(create) => write_guild_create(alloc, out, create),
+        Dispatch::GuildUpdate(update) => write_guild_update(out, update),
+        Dispatch::GuildDelete(delete) => write_guild_delete(out, delete),
+        Dispatch::GuildRoleCreate(role) => write_guild_role(alloc, out, role),
+        Dispatch::GuildRoleUpdate(role) => write_guild_role(alloc, out, role),
+        Dispatch::GuildRoleDelete(delete) => write_guild_role_delete(out, delete),
+        Dispatch::ChannelCreate(channel) => channel.write(alloc, out),
+        Dispatch::ChannelUpdate(channel) => channel.write(alloc, out),
+        Dispatch::ChannelDelete(channel) => channel.write(alloc, out),
+        Dispatch::ThreadCreate(create) => write_thread_create(alloc, out, create),
         Dispatch::ThreadUpdate(thread) => thread.write(alloc, out),
-        Dispatch::ThreadDelete {
-            guild,
-            id,
-            parent,
-            kind,
-        } => write_thread_delete(out, *guild, *id, *parent, *kind),
-        Dispatch::ThreadListSync {
-            guild,
-            channels,
-            threads,
-            members,
-        } => write_thread_list_sync(alloc, out, *guild, channels, threads, members),
-        Dispatch::ThreadMembersUpdate {
-            guild,
-            id,
-            count,
-            added,
-            removed,
-        } => write_thread_members_update(alloc, out, *guild, *id, *count, added, removed),
-        Dispatch::GuildMemberAdd { guild, member }
-        | Dispatch::GuildMemberUpdate { guild, member } => write_member(
-            alloc,
-            out,
-            Some(*guild),
-            member,
-        ),
-        Dispatch::GuildMemberRemove { guild, user } => write_guild_member_remove(
-            alloc, out, *guild, user,
-        ),
+        Dispatch::ThreadDelete(delete) => write_thread_delete(out, delete),
+        Dispatch::ThreadListSync(sync) => write_thread_list_sync(alloc, out, sync),
+        Dispatch::ThreadMembersUpdate(update) => write_thread_members_update(alloc, out, update),
+        Dispatch::GuildMemberAdd(member) => write_guild_member(alloc, out, member),
+        Dispatch::GuildMemberUpdate(member) => write_guild_member(alloc, out, member),
+        Dispatch::GuildMemberRemove(remove) => write_guild_member_remove(alloc, out, remove),
         Dispatch::GuildMembersChunk(chunk) => write_members_chunk(alloc, out, chunk),
-        Dispatch::VoiceStateUpdate { guild, voice } => write_voice(out, Some(*guild), voice),
+        Dispatch::VoiceStateUpdate(update) => write_voice_state_update(out, update),
         Dispatch::PresenceUpdate(presence) => presence.write(alloc, out),
-        Dispatch::MessageCreate(message) | Dispatch::MessageUpdate(message) => message.write(
-            alloc, out,
-        ),
-        Dispatch::MessageDelete { guild, channel, id } => write_message_delete(
-            out, *guild, *channel, *id,
-        ),
-        Dispatch::MessageReactionAdd(reaction) | Dispatch::MessageReactionRemove(reaction) =>
-            write_reaction(out, reaction),
-        Dispatch::TypingStart {
-            guild,
-            channel,
-            user,
-            seconds,
-        } => write_typing_start(out, *guild, *channel, *user, *seconds),
+        Dispatch::MessageCreate(message) => message.write(alloc, out),
+        Dispatch::MessageUpdate(message) => message.write(alloc, out),
+        Dispatch::MessageDelete(delete) => write_message_delete(out, delete),
+        Dispatch::MessageReactionAdd(reaction) => write_reaction(out, reaction),
+        Dispatch::MessageReactionRemove(reaction) => write_reaction(out, reaction),
+        Dispatch::TypingStart(typing) => write_typing_start(out, typing),
     }
-}
-
-fn read_guild_voice(alloc: Global, body: &Value) -> Result<(Snowflake, VoiceObject), ReadFault>
-    ensures { UnlessMemory result (guild_voice_from (view body.now)) }
-{
-    let guild = id_at(body, "guild_id")?;
-    let voice = VoiceObject::read(alloc, body)?;
-    Ok((guild, voice))
 }
 
 /// The one dispatch of a kind whose field `d` this can be.
@@ -177,49 +130,40 @@ pub fn read_body(alloc: Global, kind: Kind, body: &Value) -> Result<Dispatch, Re
         Kind::Ready => Ok(Dispatch::Ready(read_ready(alloc, body)?)),
         Kind::Resumed => Ok(Dispatch::Resumed),
         Kind::GuildCreate => Ok(Dispatch::GuildCreate(read_guild_create(alloc, body)?)),
-        Kind::GuildUpdate => read_guild_update(alloc, body),
-        Kind::GuildDelete => read_guild_delete(body),
-        Kind::GuildRoleCreate => {
-            let (guild, role) = read_guild_role(alloc, body)?;
-            Ok(Dispatch::GuildRoleCreate { guild, role })
-        }
-        Kind::GuildRoleUpdate => {
-            let (guild, role) = read_guild_role(alloc, body)?;
-            Ok(Dispatch::GuildRoleUpdate { guild, role })
-        }
-        Kind::GuildRoleDelete => read_guild_role_delete(body),
+        Kind::GuildUpdate => Ok(Dispatch::GuildUpdate(read_guild_update(alloc, body)?)),
+        Kind::GuildDelete => Ok(Dispatch::GuildDelete(read_guild_delete(body)?)),
+        Kind::GuildRoleCreate => Ok(Dispatch::GuildRoleCreate(read_guild_role(alloc, body)?)),
+        Kind::GuildRoleUpdate => Ok(Dispatch::GuildRoleUpdate(read_guild_role(alloc, body)?)),
+        Kind::GuildRoleDelete => Ok(Dispatch::GuildRoleDelete(read_guild_role_delete(body)?)),
         Kind::ChannelCreate => Ok(Dispatch::ChannelCreate(ChannelObject::read(alloc, body)?)),
         Kind::ChannelUpdate => Ok(Dispatch::ChannelUpdate(ChannelObject::read(alloc, body)?)),
         Kind::ChannelDelete => Ok(Dispatch::ChannelDelete(ChannelObject::read(alloc, body)?)),
-        Kind::ThreadCreate => read_thread_create(alloc, body),
+        Kind::ThreadCreate => Ok(Dispatch::ThreadCreate(read_thread_create(alloc, body)?)),
         Kind::ThreadUpdate => Ok(Dispatch::ThreadUpdate(ThreadObject::read(alloc, body)?)),
-        Kind::ThreadDelete => read_thread_delete(body),
-        Kind::ThreadListSync => read_thread_list_sync(alloc, body),
-        Kind::ThreadMembersUpdate => read_thread_members_update(alloc, body),
-        Kind::GuildMemberAdd => {
-            let (guild, member) = read_guild_member(alloc, body)?;
-            Ok(Dispatch::GuildMemberAdd { guild, member })
-        }
-        Kind::GuildMemberUpdate => {
-            let (guild, member) = read_guild_member(alloc, body)?;
-            Ok(Dispatch::GuildMemberUpdate { guild, member })
-        }
-        Kind::GuildMemberRemove => read_guild_member_remove(alloc, body),
+        Kind::ThreadDelete => Ok(Dispatch::ThreadDelete(read_thread_delete(body)?)),
+        Kind::ThreadListSync => Ok(Dispatch::ThreadListSync(read_thread_list_sync(alloc, body)?)),
+        Kind::ThreadMembersUpdate => Ok(Dispatch::ThreadMembersUpdate(read_thread_members_update(
+            alloc, body,
+        )?)),
+        Kind::GuildMemberAdd => Ok(Dispatch::GuildMemberAdd(read_guild_member(alloc, body)?)),
+        Kind::GuildMemberUpdate => Ok(Dispatch::GuildMemberUpdate(read_guild_member(alloc, body)?)),
+        Kind::GuildMemberRemove => Ok(Dispatch::GuildMemberRemove(read_guild_member_remove(
+            alloc, body,
+        )?)),
         Kind::GuildMembersChunk => Ok(Dispatch::GuildMembersChunk(read_members_chunk(
             alloc, body,
         )?)),
-        Kind::VoiceStateUpdate => {
-            let (guild, voice) = read_guild_voice(alloc, body)?;
-            Ok(Dispatch::VoiceStateUpdate { guild, voice })
-        }
+        Kind::VoiceStateUpdate => Ok(Dispatch::VoiceStateUpdate(read_voice_state_update(
+            alloc, body,
+        )?)),
         Kind::PresenceUpdate => Ok(Dispatch::PresenceUpdate(PresenceObject::read(alloc, body)?)),
         Kind::MessageCreate => Ok(Dispatch::MessageCreate(MessageObject::read(alloc, body)?)),
         Kind::MessageUpdate => Ok(Dispatch::MessageUpdate(MessageObject::read(alloc, body)?)),
-        Kind::MessageDelete => read_message_delete(body),
+        Kind::MessageDelete => Ok(Dispatch::MessageDelete(read_message_delete(body)?)),
         Kind::MessageReactionAdd => Ok(Dispatch::MessageReactionAdd(read_reaction(alloc, body)?)),
-        Kind::MessageReactionRemove => {
-            Ok(Dispatch::MessageReactionRemove(read_reaction(alloc, body)?))
-        }
-        Kind::TypingStart => read_typing_start(body),
+        Kind::MessageReactionRemove => Ok(Dispatch::MessageReactionRemove(read_reaction(
+            alloc, body,
+        )?)),
+        Kind::TypingStart => Ok(Dispatch::TypingStart(read_typing_start(body)?)),
     }
 }

@@ -1,3 +1,5 @@
+//! Why a text is not read as a dispatch.
+
 use object_json::fault::ReadFault;
 use std::alloc::AllocError;
 use thiserror::Error;
@@ -15,7 +17,7 @@ pub enum DispatchFault {
     /// No dispatch has the name.
     #[error("no dispatch has this name")]
     UnknownName,
-    /// The text is none that is written for a dispatch of this name.
+    /// The payload does not have this dispatch's format.
     #[error("a field is missing or of another kind")]
     BadField,
     /// Memory ran out.
@@ -31,5 +33,19 @@ impl From<AllocError> for DispatchFault {
 
     fn from(_: AllocError) -> Self {
         DispatchFault::Memory
+    }
+}
+
+impl From<ReadFault> for DispatchFault {
+    ghost use Rattle.event_json.specs.Read.{dispatch_fault};
+    ghost use Rattle.std.specs.Prelude.{◌≡◌};
+
+    ghost from_gives = { λ read fault. fault ≡ dispatch_fault read };
+
+    fn from(read: ReadFault) -> Self {
+        match read {
+            ReadFault::BadField => DispatchFault::BadField,
+            ReadFault::Memory => DispatchFault::Memory,
+        }
     }
 }

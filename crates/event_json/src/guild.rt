@@ -1,14 +1,12 @@
+//! The bodies of GUILD_CREATE, GUILD_UPDATE, GUILD_DELETE, and of those of roles.
+
 ghost use Rattle.std.specs.Prelude.{◌≡◌, OnOk};
 ghost use Rattle.serde_json.specs.View.{view};
 ghost use Rattle.object_json.specs.Reading.{UnlessMemory};
 ghost use Rattle.object_json.specs.Added.{Adds, Ends};
-ghost use Rattle.object_json.specs.Fits.{IsId};
-ghost use Rattle.object_json.specs.Role.{RoleFits};
-ghost use Rattle.event_json.specs.Guild.{guild_create_data, guild_create_rest, guild_update_data, guild_delete_data, guild_role_data, guild_role_delete_data, guild_create_from, guild_update_from, guild_delete_from, guild_role_from, guild_role_delete_from, GuildRestFits, GuildCreateFits};
+ghost use Rattle.event_json.specs.Guild.{guild_create_data, guild_create_rest, guild_update_data, guild_delete_data, guild_role_data, guild_role_delete_data, guild_create_from, guild_update_from, guild_delete_from, guild_role_from, guild_role_delete_from, GuildRestFits, GuildCreateFits, GuildUpdateFits, GuildDeleteFits, GuildRoleFits, GuildRoleDeleteFits};
 
-use collections::Text;
-use dispatch_types::{Dispatch, GuildCreate};
-use guild_model::Role;
+use dispatch_types::{GuildCreate, GuildDelete, GuildRole, GuildRoleDelete, GuildUpdate};
 use json::Writer;
 use object_json::fault::ReadFault;
 use object_json::field::{
@@ -18,7 +16,6 @@ use object_json::readable::{list_at, value_at};
 use object_json::reading::{flag_at, id_at, is_there, small_at, text_at};
 use object_json::written::{list_field, value_field};
 use serde_json::Value;
-use snowflake_id::Snowflake;
 use std::alloc::{AllocError, Global};
 
 fn end_guild_create(alloc: Global, out: &mut Writer, guild: &GuildCreate) -> Result<(), AllocError>
@@ -55,68 +52,50 @@ pub fn write_guild_create(
 }
 
 /// Writes the body of Guild Update.
-pub fn write_guild_update(
-    out: &mut Writer,
-    id: Snowflake,
-    name: &Text,
-    owner: Snowflake,
-) -> Result<(), AllocError>
-    ensures adds { Adds result out.old out.new (guild_update_data id name.now owner) }
-    ensures fits { OnOk result (IsId id × IsId owner) }
+pub fn write_guild_update(out: &mut Writer, update: &GuildUpdate) -> Result<(), AllocError>
+    ensures adds { Adds result out.old out.new (guild_update_data update.now) }
+    ensures fits { OnOk result (GuildUpdateFits update.now) }
 {
     open(out)?;
-    id_field(out, "id", id)?;
-    text_field(out, "name", name)?;
-    id_field(out, "owner_id", owner)?;
+    id_field(out, "id", update.id)?;
+    text_field(out, "name", &update.name)?;
+    id_field(out, "owner_id", update.owner)?;
     close(out)?;
     Ok(())
 }
 
 /// Writes the body of Guild Delete.
-pub fn write_guild_delete(
-    out: &mut Writer,
-    id: Snowflake,
-    unavailable: bool,
-) -> Result<(), AllocError>
-    ensures adds { Adds result out.old out.new (guild_delete_data id unavailable) }
-    ensures fits { OnOk result (IsId id) }
+pub fn write_guild_delete(out: &mut Writer, delete: &GuildDelete) -> Result<(), AllocError>
+    ensures adds { Adds result out.old out.new (guild_delete_data delete.now) }
+    ensures fits { OnOk result (GuildDeleteFits delete.now) }
 {
     open(out)?;
-    id_field(out, "id", id)?;
-    true_field_if(out, "unavailable", unavailable)?;
+    id_field(out, "id", delete.id)?;
+    true_field_if(out, "unavailable", delete.unavailable)?;
     close(out)?;
     Ok(())
 }
 
 /// Writes the body of Guild Role Create and of Guild Role Update.
-pub fn write_guild_role(
-    alloc: Global,
-    out: &mut Writer,
-    guild: Snowflake,
-    role: &Role,
-) -> Result<(), AllocError>
-    ensures adds { Adds result out.old out.new (guild_role_data guild role.now) }
-    ensures fits { OnOk result (IsId guild × RoleFits role.now) }
+pub fn write_guild_role(alloc: Global, out: &mut Writer, role: &GuildRole) -> Result<(), AllocError>
+    ensures adds { Adds result out.old out.new (guild_role_data role.now) }
+    ensures fits { OnOk result (GuildRoleFits role.now) }
 {
     open(out)?;
-    id_field(out, "guild_id", guild)?;
-    value_field(alloc, out, "role", role)?;
+    id_field(out, "guild_id", role.guild)?;
+    value_field(alloc, out, "role", &role.role)?;
     close(out)?;
     Ok(())
 }
 
 /// Writes the body of Guild Role Delete.
-pub fn write_guild_role_delete(
-    out: &mut Writer,
-    guild: Snowflake,
-    role: Snowflake,
-) -> Result<(), AllocError>
-    ensures adds { Adds result out.old out.new (guild_role_delete_data guild role) }
-    ensures fits { OnOk result (IsId guild × IsId role) }
+pub fn write_guild_role_delete(out: &mut Writer, delete: &GuildRoleDelete) -> Result<(), AllocError>
+    ensures adds { Adds result out.old out.new (guild_role_delete_data delete.now) }
+    ensures fits { OnOk result (GuildRoleDeleteFits delete.now) }
 {
     open(out)?;
-    id_field(out, "guild_id", guild)?;
-    id_field(out, "role_id", role)?;
+    id_field(out, "guild_id", delete.guild)?;
+    id_field(out, "role_id", delete.role)?;
     close(out)?;
     Ok(())
 }
@@ -152,38 +131,38 @@ pub fn read_guild_create(alloc: Global, body: &Value) -> Result<GuildCreate, Rea
 }
 
 /// Reads the body of Guild Update.
-pub fn read_guild_update(alloc: Global, body: &Value) -> Result<Dispatch, ReadFault>
+pub fn read_guild_update(alloc: Global, body: &Value) -> Result<GuildUpdate, ReadFault>
     ensures { UnlessMemory result (guild_update_from (view body.now)) }
 {
     let id = id_at(body, "id")?;
     let name = text_at(alloc, body, "name")?;
     let owner = id_at(body, "owner_id")?;
-    Ok(Dispatch::GuildUpdate { id, name, owner })
+    Ok(GuildUpdate { id, name, owner })
 }
 
 /// Reads the body of Guild Delete.
-pub fn read_guild_delete(body: &Value) -> Result<Dispatch, ReadFault>
+pub fn read_guild_delete(body: &Value) -> Result<GuildDelete, ReadFault>
     ensures { result ≡ guild_delete_from (view body.now) }
 {
     let id = id_at(body, "id")?;
     let unavailable = is_there(body, "unavailable");
-    Ok(Dispatch::GuildDelete { id, unavailable })
+    Ok(GuildDelete { id, unavailable })
 }
 
 /// Reads the body of Guild Role Create and of Guild Role Update.
-pub fn read_guild_role(alloc: Global, body: &Value) -> Result<(Snowflake, Role), ReadFault>
+pub fn read_guild_role(alloc: Global, body: &Value) -> Result<GuildRole, ReadFault>
     ensures { UnlessMemory result (guild_role_from (view body.now)) }
 {
     let guild = id_at(body, "guild_id")?;
     let role = value_at(alloc, body, "role")?;
-    Ok((guild, role))
+    Ok(GuildRole { guild, role })
 }
 
 /// Reads the body of Guild Role Delete.
-pub fn read_guild_role_delete(body: &Value) -> Result<Dispatch, ReadFault>
+pub fn read_guild_role_delete(body: &Value) -> Result<GuildRoleDelete, ReadFault>
     ensures { result ≡ guild_role_delete_from (view body.now) }
 {
     let guild = id_at(body, "guild_id")?;
     let role = id_at(body, "role_id")?;
-    Ok(Dispatch::GuildRoleDelete { guild, role })
+    Ok(GuildRoleDelete { guild, role })
 }

@@ -10,6 +10,7 @@ mod reading;
 mod ready;
 mod text;
 mod thread;
+mod voice;
 
 pub use fault::DispatchFault;
 pub use reading::{read, reads_back};

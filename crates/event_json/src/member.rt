@@ -1,3 +1,5 @@
+//! The bodies of GUILD_MEMBER_ADD, GUILD_MEMBER_UPDATE, GUILD_MEMBER_REMOVE and GUILD_MEMBERS_CHUNK.
+
 ghost use Rattle.std.specs.Prelude.{OnOk, IfSome, codes, option_map};
 ghost use Rattle.serde_json.specs.View.{view};
 ghost use Rattle.object_json.specs.Reading.{UnlessMemory};
@@ -5,36 +7,45 @@ ghost use Rattle.object_json.specs.Reading.{optional_at, list_from};
 ghost use Rattle.object_json.specs.Added.{Adds, AddsTokens, member_tokens_if};
 ghost use Rattle.object_json.specs.Kinds.{list};
 ghost use Rattle.object_json.specs.Presence.{presence_data, presence_from, PresenceFits};
-ghost use Rattle.object_json.specs.User.{UserFits};
-ghost use Rattle.object_json.specs.Fits.{Each, IsId};
-ghost use Rattle.event_json.specs.Member.{guild_member_remove_data, members_chunk_data, guild_member_from, guild_member_remove_from, members_chunk_from, ChunkFits};
+ghost use Rattle.object_json.specs.Fits.{Each};
+ghost use Rattle.event_json.specs.Member.{guild_member_data, guild_member_remove_data, members_chunk_data, guild_member_from, guild_member_remove_from, members_chunk_from, GuildMemberFits, GuildMemberRemoveFits, ChunkFits};
 
 use collections::Seq;
-use dispatch_types::{Dispatch, MemberObject, MembersChunk, PresenceObject};
-use guild_model::User;
+use dispatch_types::{GuildMember, GuildMemberRemove, MemberObject, MembersChunk, PresenceObject};
 use json::Writer;
 use object_json::fault::ReadFault;
 use object_json::field::{close, id_field, open, small_field, text_field_if};
-use object_json::readable::{Readable, list_at, list_from, list_if_at, value_at};
-use object_json::reading::{id_at, optional_text_at, small_at};
+use object_json::member::write_member;
+use object_json::readable::{Readable, list_at, list_from, list_if_at, optional_at, value_at};
+use object_json::reading::{id_at, small_at};
 use object_json::written::{list_field, list_field_if, value_field};
 use serde_json::Value;
-use snowflake_id::Snowflake;
 use std::alloc::{AllocError, Global};
+
+/// Writes the body of Guild Member Add and of Guild Member Update.
+pub fn write_guild_member(
+    alloc: Global,
+    out: &mut Writer,
+    member: &GuildMember,
+) -> Result<(), AllocError>
+    ensures adds { Adds result out.old out.new (guild_member_data member.now) }
+    ensures fits { OnOk result (GuildMemberFits member.now) }
+{
+    write_member(alloc, out, Some(member.guild), &member.member)
+}
 
 /// Writes the body of Guild Member Remove.
 pub fn write_guild_member_remove(
     alloc: Global,
     out: &mut Writer,
-    guild: Snowflake,
-    user: &User,
+    remove: &GuildMemberRemove,
 ) -> Result<(), AllocError>
-    ensures adds { Adds result out.old out.new (guild_member_remove_data guild user.now) }
-    ensures fits { OnOk result (IsId guild × UserFits user.now) }
+    ensures adds { Adds result out.old out.new (guild_member_remove_data remove.now) }
+    ensures fits { OnOk result (GuildMemberRemoveFits remove.now) }
 {
     open(out)?;
-    id_field(out, "guild_id", guild)?;
-    value_field(alloc, out, "user", user)?;
+    id_field(out, "guild_id", remove.guild)?;
+    value_field(alloc, out, "user", &remove.user)?;
     close(out)?;
     Ok(())
 }
@@ -77,25 +88,22 @@ pub fn write_members_chunk(
     Ok(())
 }
 
-/// Reads a member with its guild: the body of Guild Member Add and of Guild Member Update.
-pub fn read_guild_member(
-    alloc: Global,
-    body: &Value,
-) -> Result<(Snowflake, MemberObject), ReadFault>
+/// Reads the body of Guild Member Add and of Guild Member Update.
+pub fn read_guild_member(alloc: Global, body: &Value) -> Result<GuildMember, ReadFault>
     ensures { UnlessMemory result (guild_member_from (view body.now)) }
 {
     let guild = id_at(body, "guild_id")?;
     let member = MemberObject::read(alloc, body)?;
-    Ok((guild, member))
+    Ok(GuildMember { guild, member })
 }
 
 /// Reads the body of Guild Member Remove.
-pub fn read_guild_member_remove(alloc: Global, body: &Value) -> Result<Dispatch, ReadFault>
+pub fn read_guild_member_remove(alloc: Global, body: &Value) -> Result<GuildMemberRemove, ReadFault>
     ensures { UnlessMemory result (guild_member_remove_from (view body.now)) }
 {
     let guild = id_at(body, "guild_id")?;
     let user = value_at(alloc, body, "user")?;
-    Ok(Dispatch::GuildMemberRemove { guild, user })
+    Ok(GuildMemberRemove { guild, user })
 }
 
 fn presences_at(alloc: Global, body: &Value) -> Result<Option<Seq<PresenceObject>>, ReadFault>
@@ -103,10 +111,7 @@ fn presences_at(alloc: Global, body: &Value) -> Result<Option<Seq<PresenceObject
 {
     match body.get("presences") {
         None => Ok(None),
-        Some(presences) => {
-            let presences = list_from(alloc, presences)?;
-            Ok(Some(presences))
-        }
+        Some(presences) => Ok(Some(list_from(alloc, presences)?)),
     }
 }
 
@@ -118,7 +123,7 @@ pub fn read_members_chunk(alloc: Global, body: &Value) -> Result<MembersChunk, R
     let index = small_at(body, "chunk_index")?;
     let guild = id_at(body, "guild_id")?;
     let members = list_at(alloc, body, "members")?;
-    let nonce = optional_text_at(alloc, body, "nonce")?;
+    let nonce = optional_at(alloc, body, "nonce")?;
     let not_found = list_if_at(alloc, body, "not_found")?;
     let presences = presences_at(alloc, body)?;
     Ok(MembersChunk {

@@ -1,34 +1,29 @@
+//! The bodies of MESSAGE_DELETE, of the reactions' dispatches and of TYPING_START.
+
 ghost use Rattle.std.specs.Prelude.{◌≡◌, OnOk, codes};
 ghost use Rattle.serde_json.specs.View.{view};
 ghost use Rattle.object_json.specs.Reading.{UnlessMemory};
 ghost use Rattle.object_json.specs.Added.{Adds, AddsTokens, member_tokens};
-ghost use Rattle.event_json.specs.Message.{message_delete_data, emoji_data, reaction_data, typing_start_data, message_delete_from, emoji_at, reaction_from, typing_start_from, ReactionFits};
-ghost use Rattle.object_json.specs.Fits.{IsId, IsWhole};
+ghost use Rattle.event_json.specs.Message.{message_delete_data, emoji_data, reaction_data, typing_start_data, message_delete_from, emoji_at, reaction_from, typing_start_from, MessageDeleteFits, ReactionFits, TypingStartFits};
 
 use collections::Text;
-use dispatch_types::{Dispatch, Reaction};
+use dispatch_types::{MessageDelete, Reaction, TypingStart};
 use json::Writer;
 use object_json::fault::ReadFault;
 use object_json::field::{close, id_field, key, null_field, number_field, open, text_field};
 use object_json::reading::{field_at, id_at, number_at, text_at};
 use serde_json::Value;
-use snowflake_id::Snowflake;
 use std::alloc::{AllocError, Global};
 
 /// Writes the body of Message Delete.
-pub fn write_message_delete(
-    out: &mut Writer,
-    guild: Snowflake,
-    channel: Snowflake,
-    id: Snowflake,
-) -> Result<(), AllocError>
-    ensures adds { Adds result out.old out.new (message_delete_data guild channel id) }
-    ensures fits { OnOk result (IsId channel × IsId guild × IsId id) }
+pub fn write_message_delete(out: &mut Writer, delete: &MessageDelete) -> Result<(), AllocError>
+    ensures adds { Adds result out.old out.new (message_delete_data delete.now) }
+    ensures fits { OnOk result (MessageDeleteFits delete.now) }
 {
     open(out)?;
-    id_field(out, "channel_id", channel)?;
-    id_field(out, "guild_id", guild)?;
-    id_field(out, "id", id)?;
+    id_field(out, "channel_id", delete.channel)?;
+    id_field(out, "guild_id", delete.guild)?;
+    id_field(out, "id", delete.id)?;
     close(out)?;
     Ok(())
 }
@@ -60,33 +55,27 @@ pub fn write_reaction(out: &mut Writer, reaction: &Reaction) -> Result<(), Alloc
 }
 
 /// Writes the body of Typing Start.
-pub fn write_typing_start(
-    out: &mut Writer,
-    guild: Snowflake,
-    channel: Snowflake,
-    user: Snowflake,
-    seconds: u64,
-) -> Result<(), AllocError>
-    ensures adds { Adds result out.old out.new (typing_start_data guild channel user seconds) }
-    ensures fits { OnOk result (IsId channel × IsId guild × IsWhole seconds × IsId user) }
+pub fn write_typing_start(out: &mut Writer, typing: &TypingStart) -> Result<(), AllocError>
+    ensures adds { Adds result out.old out.new (typing_start_data typing.now) }
+    ensures fits { OnOk result (TypingStartFits typing.now) }
 {
     open(out)?;
-    id_field(out, "channel_id", channel)?;
-    id_field(out, "guild_id", guild)?;
-    number_field(out, "timestamp", seconds)?;
-    id_field(out, "user_id", user)?;
+    id_field(out, "channel_id", typing.channel)?;
+    id_field(out, "guild_id", typing.guild)?;
+    number_field(out, "timestamp", typing.seconds)?;
+    id_field(out, "user_id", typing.user)?;
     close(out)?;
     Ok(())
 }
 
 /// Reads the body of Message Delete.
-pub fn read_message_delete(body: &Value) -> Result<Dispatch, ReadFault>
+pub fn read_message_delete(body: &Value) -> Result<MessageDelete, ReadFault>
     ensures { result ≡ message_delete_from (view body.now) }
 {
     let channel = id_at(body, "channel_id")?;
     let guild = id_at(body, "guild_id")?;
     let id = id_at(body, "id")?;
-    Ok(Dispatch::MessageDelete { guild, channel, id })
+    Ok(MessageDelete { guild, channel, id })
 }
 
 fn emoji_at(alloc: Global, body: &Value) -> Result<Text, ReadFault>
@@ -115,14 +104,14 @@ pub fn read_reaction(alloc: Global, body: &Value) -> Result<Reaction, ReadFault>
 }
 
 /// Reads the body of Typing Start.
-pub fn read_typing_start(body: &Value) -> Result<Dispatch, ReadFault>
+pub fn read_typing_start(body: &Value) -> Result<TypingStart, ReadFault>
     ensures { result ≡ typing_start_from (view body.now) }
 {
     let channel = id_at(body, "channel_id")?;
     let guild = id_at(body, "guild_id")?;
     let seconds = number_at(body, "timestamp")?;
     let user = id_at(body, "user_id")?;
-    Ok(Dispatch::TypingStart {
+    Ok(TypingStart {
         guild,
         channel,
         user,

@@ -1,9 +1,11 @@
+//! Reading a dispatch from its text.
+
 ghost use Rattle.std.specs.Prelude.{◌≡◌, ◌≢◌, ◌≤◌, ◌⊎◌, ℕ, true, false, Ok, IfOk, IfErr, OnOk, codes, option_map};
 ghost use Rattle.serde_json.specs.Data.{depth};
 ghost use Rattle.serde_json.specs.Read.{max_depth};
 ghost use Rattle.serde_json.specs.View.{view};
 ghost use Rattle.json_view.specs.Reading.{reading};
-ghost use Rattle.object_json.specs.Reading.{number_at, value_at};
+ghost use Rattle.object_json.specs.Reading.{value_at};
 ghost use Rattle.dispatch_types.specs.declared.dispatch.Dispatch.{Dispatch as ADispatch};
 ghost use Rattle.event_json.specs.declared.fault.DispatchFault.TheVariants.{Memory};
 ghost use Rattle.event_json.specs.Body.{body_from, DispatchFits};
@@ -16,8 +18,7 @@ use crate::text::write;
 use dispatch_types::Dispatch;
 use intent_set::Kind;
 use json_view::value_of;
-use object_json::fault::ReadFault;
-use object_json::reading::field_at;
+use object_json::reading::{field_at, number_at};
 use serde_json::Value;
 use std::alloc::{AllocError, Global};
 use written_json::is_written_as;
@@ -36,35 +37,15 @@ fn name_in(value: &Value) -> Option<&str>
 fn kind_in(value: &Value) -> Result<Kind, DispatchFault>
     ensures { result ≡ kind_in (view value.now) }
 {
-    let Some(name) = name_in(value) else {
-        return Err(DispatchFault::NotDispatch);
-    };
-    match Kind::of_name(name) {
-        None => Err(DispatchFault::UnknownName),
-        Some(kind) => Ok(kind),
-    }
-}
-
-fn number_in(value: &Value) -> Result<u64, DispatchFault>
-    ensures { result ≡ faulted (number_at (codes "s") (view value.now)) }
-{
-    match object_json::reading::number_at(value, "s") {
-        Err(_) => Err(DispatchFault::BadField),
-        Ok(number) => Ok(number),
-    }
+    let name = name_in(value).ok_or(DispatchFault::NotDispatch)?;
+    Kind::of_name(name).ok_or(DispatchFault::UnknownName)
 }
 
 fn body_in(alloc: Global, kind: Kind, value: &Value) -> Result<Dispatch, DispatchFault>
     ensures { UnlessMemory result (faulted (value_at (body_from kind) (codes "d") (view value.now))) }
 {
-    let Ok(body) = field_at(value, "d") else {
-        return Err(DispatchFault::BadField);
-    };
-    match read_body(alloc, kind, body) {
-        Ok(dispatch) => Ok(dispatch),
-        Err(ReadFault::BadField) => Err(DispatchFault::BadField),
-        Err(ReadFault::Memory) => Err(DispatchFault::Memory),
-    }
+    let body = field_at(value, "d")?;
+    Ok(read_body(alloc, kind, body)?)
 }
 
 // The one dispatch that the value can be.
@@ -72,7 +53,7 @@ fn candidate(alloc: Global, value: &Value) -> Result<(Dispatch, u64), DispatchFa
     ensures { UnlessMemory result (candidate (view value.now)) }
 {
     let kind = kind_in(value)?;
-    let number = number_in(value)?;
+    let number = number_at(value, "s")?;
     let dispatch = body_in(alloc, kind, value)?;
     Ok((dispatch, number))
 }
@@ -90,7 +71,7 @@ fn is_of(alloc: Global, value: &Value, dispatch: &Dispatch, number: u64) -> Resu
 
 /// Reads a dispatch and its number from a text, whatever its spaces and the order of its keys.
 ///
-/// The answer is `Ok` exactly where the text's JSON is that which [`write`] gives for the answer.
+/// The answer is `Ok` exactly if the text's JSON is that which [`write`] gives for the answer.
 /// The lists of Thread Members Update, and the ids that are not found in Guild Members Chunk, are
 /// then not empty where they are there, since an empty one is left out.
 pub fn read(alloc: Global, text: &str) -> Result<(Dispatch, u64), DispatchFault>

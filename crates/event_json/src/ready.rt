@@ -1,3 +1,5 @@
+//! The body of READY.
+
 ghost use Rattle.std.specs.Prelude.{◌≡◌, OnOk, IfSome, codes, option_map};
 ghost use Rattle.serde_json.specs.View.{view, items_view};
 ghost use Rattle.object_json.specs.Reading.{UnlessMemory};
@@ -117,28 +119,22 @@ fn guilds_from(alloc: Global, list: &[Value]) -> Result<Seq<Snowflake>, ReadFaul
 fn guilds_at(alloc: Global, body: &Value) -> Result<Seq<Snowflake>, ReadFault>
     ensures { UnlessMemory result (list_at unavailable_from (codes "guilds") (view body.now)) }
 {
-    match field_at(body, "guilds")?.as_array() {
-        None => Err(ReadFault::BadField),
-        Some(list) => guilds_from(alloc, list.as_slice()),
-    }
+    let guilds = field_at(body, "guilds")?
+        .as_array()
+        .ok_or(ReadFault::BadField)?;
+    guilds_from(alloc, guilds.as_slice())
 }
 
 fn whole_from(value: &Value) -> Result<u64, ReadFault>
     ensures { result ≡ whole_from (view value.now) }
 {
-    match value.as_u64() {
-        None => Err(ReadFault::BadField),
-        Some(number) => Ok(number),
-    }
+    value.as_u64().ok_or(ReadFault::BadField)
 }
 
 fn shard_of(id: u64, count: u64) -> Result<Shard, ReadFault>
     ensures { result ≡ shard_of id count }
 {
-    match Shard::new(id, count) {
-        Err(_) => Err(ReadFault::BadField),
-        Ok(shard) => Ok(shard),
-    }
+    Shard::new(id, count).map_err(|_| ReadFault::BadField)
 }
 
 fn pair_from(list: &[Value]) -> Result<Shard, ReadFault>
@@ -155,10 +151,8 @@ fn pair_from(list: &[Value]) -> Result<Shard, ReadFault>
 fn shard_from(value: &Value) -> Result<Shard, ReadFault>
     ensures { result ≡ shard_from (view value.now) }
 {
-    match value.as_array() {
-        None => Err(ReadFault::BadField),
-        Some(list) => pair_from(list.as_slice()),
-    }
+    let pair = value.as_array().ok_or(ReadFault::BadField)?;
+    pair_from(pair.as_slice())
 }
 
 fn shard_at(body: &Value) -> Result<Option<Shard>, ReadFault>
@@ -166,10 +160,7 @@ fn shard_at(body: &Value) -> Result<Option<Shard>, ReadFault>
 {
     match body.get("shard") {
         None => Ok(None),
-        Some(value) => {
-            let shard = shard_from(value)?;
-            Ok(Some(shard))
-        }
+        Some(shard) => Ok(Some(shard_from(shard)?)),
     }
 }
 

@@ -1,3 +1,5 @@
+//! The text of a dispatch.
+
 ghost use Rattle.std.specs.Prelude.{◌≡◌, ◌++◌, codes, IfOk, OnOk, string_bytes};
 ghost use Rattle.serde_json.specs.Written.{compact_text};
 ghost use Rattle.event_json.specs.Body.{DispatchFits};

@@ -1,41 +1,52 @@
-ghost use Rattle.std.specs.Prelude.{◌≡◌, OnOk, ◌≤◌};
+//! The bodies of THREAD_CREATE, THREAD_DELETE, THREAD_LIST_SYNC and THREAD_MEMBERS_UPDATE.
+
+ghost use Rattle.std.specs.Prelude.{◌≡◌, OnOk};
 ghost use Rattle.serde_json.specs.View.{view};
 ghost use Rattle.object_json.specs.Reading.{UnlessMemory};
 ghost use Rattle.object_json.specs.Added.{Adds};
-ghost use Rattle.object_json.specs.Fits.{Each, IsId};
-ghost use Rattle.object_json.specs.Thread.{ThreadFits, ThreadMemberFits};
-ghost use Rattle.event_json.specs.Thread.{thread_delete_data, thread_list_sync_data, thread_members_update_data, thread_create_from, thread_delete_from, thread_list_sync_from, thread_members_update_from};
+ghost use Rattle.event_json.specs.Thread.{thread_create_data, thread_delete_data, thread_list_sync_data, thread_members_update_data, thread_create_from, thread_delete_from, thread_list_sync_from, thread_members_update_from, ThreadCreateFits, ThreadDeleteFits, ThreadListSyncFits, ThreadMembersUpdateFits};
 
-use collections::Seq;
-use dispatch_types::{Dispatch, ThreadCount, ThreadMemberObject, ThreadObject};
-use guild_model::ThreadKind;
+use dispatch_types::{
+    ThreadCreate, ThreadDelete, ThreadListSync, ThreadMembersUpdate, ThreadObject,
+};
 use json::Writer;
 use object_json::fault::ReadFault;
 use object_json::field::{close, id_field, open};
 use object_json::readable::{Readable, list_at, list_if_at, optional_at};
 use object_json::reading::{id_at, is_there, thread_kind_at};
-use object_json::thread::{thread_count_at, thread_count_field, thread_kind_field};
+use object_json::thread::{thread_count_at, thread_count_field, thread_kind_field, write_thread};
 use object_json::written::{list_field, list_field_if};
 use serde_json::Value;
-use snowflake_id::Snowflake;
 use std::alloc::{AllocError, Global};
 
-/// Writes the body of Thread Delete.
-pub fn write_thread_delete(
+/// Writes the body of Thread Create.
+pub fn write_thread_create(
+    alloc: Global,
     out: &mut Writer,
-    guild: Snowflake,
-    id: Snowflake,
-    parent: Snowflake,
-    kind: ThreadKind,
+    create: &ThreadCreate,
 ) -> Result<(), AllocError>
-    ensures adds { Adds result out.old out.new (thread_delete_data guild id parent kind) }
-    ensures fits { OnOk result (IsId guild × IsId id × IsId parent) }
+    ensures adds { Adds result out.old out.new (thread_create_data create.now) }
+    ensures fits { OnOk result (ThreadCreateFits create.now) }
+{
+    write_thread(
+        alloc,
+        out,
+        &create.member,
+        create.newly_created,
+        &create.thread,
+    )
+}
+
+/// Writes the body of Thread Delete.
+pub fn write_thread_delete(out: &mut Writer, delete: &ThreadDelete) -> Result<(), AllocError>
+    ensures adds { Adds result out.old out.new (thread_delete_data delete.now) }
+    ensures fits { OnOk result (ThreadDeleteFits delete.now) }
 {
     open(out)?;
-    id_field(out, "guild_id", guild)?;
-    id_field(out, "id", id)?;
-    id_field(out, "parent_id", parent)?;
-    thread_kind_field(out, kind)?;
+    id_field(out, "guild_id", delete.guild)?;
+    id_field(out, "id", delete.id)?;
+    id_field(out, "parent_id", delete.parent)?;
+    thread_kind_field(out, delete.kind)?;
     close(out)?;
     Ok(())
 }
@@ -44,19 +55,16 @@ pub fn write_thread_delete(
 pub fn write_thread_list_sync(
     alloc: Global,
     out: &mut Writer,
-    guild: Snowflake,
-    channels: &Seq<Snowflake>,
-    threads: &Seq<ThreadObject>,
-    members: &Seq<ThreadMemberObject>,
+    sync: &ThreadListSync,
 ) -> Result<(), AllocError>
-    ensures adds { Adds result out.old out.new (thread_list_sync_data guild channels.now threads.now members.now) }
-    ensures fits { OnOk result (Each IsId channels.now × IsId guild × Each ThreadMemberFits members.now × Each ThreadFits threads.now) }
+    ensures adds { Adds result out.old out.new (thread_list_sync_data sync.now) }
+    ensures fits { OnOk result (ThreadListSyncFits sync.now) }
 {
     open(out)?;
-    list_field(alloc, out, "channel_ids", channels)?;
-    id_field(out, "guild_id", guild)?;
-    list_field(alloc, out, "members", members)?;
-    list_field(alloc, out, "threads", threads)?;
+    list_field(alloc, out, "channel_ids", &sync.channels)?;
+    id_field(out, "guild_id", sync.guild)?;
+    list_field(alloc, out, "members", &sync.members)?;
+    list_field(alloc, out, "threads", &sync.threads)?;
     close(out)?;
     Ok(())
 }
@@ -65,33 +73,29 @@ pub fn write_thread_list_sync(
 pub fn write_thread_members_update(
     alloc: Global,
     out: &mut Writer,
-    guild: Snowflake,
-    id: Snowflake,
-    users: ThreadCount,
-    added: &Seq<ThreadMemberObject>,
-    removed: &Seq<Snowflake>,
+    update: &ThreadMembersUpdate,
 ) -> Result<(), AllocError>
-    ensures adds { Adds result out.old out.new (thread_members_update_data guild id users added.now removed.now) }
-    ensures fits { OnOk result (Each ThreadMemberFits added.now × IsId guild × IsId id × (users ≤ 50) × Each IsId removed.now) }
+    ensures adds { Adds result out.old out.new (thread_members_update_data update.now) }
+    ensures fits { OnOk result (ThreadMembersUpdateFits update.now) }
 {
     open(out)?;
-    list_field_if(alloc, out, "added_members", added)?;
-    id_field(out, "guild_id", guild)?;
-    id_field(out, "id", id)?;
-    thread_count_field(out, users)?;
-    list_field_if(alloc, out, "removed_member_ids", removed)?;
+    list_field_if(alloc, out, "added_members", &update.added)?;
+    id_field(out, "guild_id", update.guild)?;
+    id_field(out, "id", update.id)?;
+    thread_count_field(out, update.count)?;
+    list_field_if(alloc, out, "removed_member_ids", &update.removed)?;
     close(out)?;
     Ok(())
 }
 
 /// Reads the body of Thread Create.
-pub fn read_thread_create(alloc: Global, body: &Value) -> Result<Dispatch, ReadFault>
+pub fn read_thread_create(alloc: Global, body: &Value) -> Result<ThreadCreate, ReadFault>
     ensures { UnlessMemory result (thread_create_from (view body.now)) }
 {
     let thread = ThreadObject::read(alloc, body)?;
     let member = optional_at(alloc, body, "member")?;
     let newly_created = is_there(body, "newly_created");
-    Ok(Dispatch::ThreadCreate {
+    Ok(ThreadCreate {
         thread,
         newly_created,
         member,
@@ -99,14 +103,14 @@ pub fn read_thread_create(alloc: Global, body: &Value) -> Result<Dispatch, ReadF
 }
 
 /// Reads the body of Thread Delete.
-pub fn read_thread_delete(body: &Value) -> Result<Dispatch, ReadFault>
+pub fn read_thread_delete(body: &Value) -> Result<ThreadDelete, ReadFault>
     ensures { result ≡ thread_delete_from (view body.now) }
 {
     let guild = id_at(body, "guild_id")?;
     let id = id_at(body, "id")?;
     let parent = id_at(body, "parent_id")?;
     let kind = thread_kind_at(body, "type")?;
-    Ok(Dispatch::ThreadDelete {
+    Ok(ThreadDelete {
         guild,
         id,
         parent,
@@ -115,14 +119,14 @@ pub fn read_thread_delete(body: &Value) -> Result<Dispatch, ReadFault>
 }
 
 /// Reads the body of Thread List Sync.
-pub fn read_thread_list_sync(alloc: Global, body: &Value) -> Result<Dispatch, ReadFault>
+pub fn read_thread_list_sync(alloc: Global, body: &Value) -> Result<ThreadListSync, ReadFault>
     ensures { UnlessMemory result (thread_list_sync_from (view body.now)) }
 {
     let channels = list_at(alloc, body, "channel_ids")?;
     let guild = id_at(body, "guild_id")?;
     let members = list_at(alloc, body, "members")?;
     let threads = list_at(alloc, body, "threads")?;
-    Ok(Dispatch::ThreadListSync {
+    Ok(ThreadListSync {
         guild,
         channels,
         threads,
@@ -131,7 +135,10 @@ pub fn read_thread_list_sync(alloc: Global, body: &Value) -> Result<Dispatch, Re
 }
 
 /// Reads the body of Thread Members Update.
-pub fn read_thread_members_update(alloc: Global, body: &Value) -> Result<Dispatch, ReadFault>
+pub fn read_thread_members_update(
+    alloc: Global,
+    body: &Value,
+) -> Result<ThreadMembersUpdate, ReadFault>
     ensures { UnlessMemory result (thread_members_update_from (view body.now)) }
 {
     let added = list_if_at(alloc, body, "added_members")?;
@@ -139,7 +146,7 @@ pub fn read_thread_members_update(alloc: Global, body: &Value) -> Result<Dispatc
     let id = id_at(body, "id")?;
     let count = thread_count_at(body)?;
     let removed = list_if_at(alloc, body, "removed_member_ids")?;
-    Ok(Dispatch::ThreadMembersUpdate {
+    Ok(ThreadMembersUpdate {
         guild,
         id,
         count,

@@ -1,5 +1,5 @@
-//! Keeps three hooks, runs them over the dispatches of a session that is shown a guild, a channel and
-//! three messages, and prints what is noted.
+//! Keeps three hooks, runs them over the dispatches of a session that is shown a guild, a channel
+//! and three messages, and prints what is noted.
 #![tactic(auto)]
 
 mod dispatches;
@@ -11,7 +11,7 @@ use intent_set::Kind;
 use rule::{MessageIds, message_id};
 use std::alloc::AllocError;
 
-// Keeps a hook if memory serves, which it is not lost without.
+// Keeps a hook. Out of memory drops it.
 fn keep(
     hooks: &mut Hooks<MessageIds>,
     kinds: KindSet,

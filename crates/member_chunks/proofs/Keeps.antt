@@ -1,5 +1,5 @@
 -- A client that is told an answer still holds the projection.
-use Rattle.std.proofs.Common.{◌≡◌, ℕ, Bool, true, false, not, ◌&&◌, List, [], ◌∷◌, map, Option, Some, None, if◌then◌else◌, refl, sym, ap, subst, ◌∙◌, eq-eqb}
+use Rattle.std.proofs.Common.{◌≡◌, ℕ, Bool, true, false, not, ◌&&◌, List, [], ◌∷◌, map, Option, Some, None, if◌then◌else◌, refl, sym, ap, subst, ◌∙◌}
 use Rattle.std.specs.Prelude.{◌==◌, All, filter, is_some}
 use Rattle.std.specs.List.{range_with_len, slice_index_or}
 use Rattle.std.proofs.lemmas.List.Elements.{All-nil, All-cons, All-head, All-tail, All-map}
@@ -16,16 +16,16 @@ use Rattle.dispatch_types.specs.declared.viewer.Viewer.{Viewer}
 use Rattle.dispatch_types.specs.declared.view.OpenView.{OpenView}
 use Rattle.dispatch_types.specs.declared.view.GuildView.{GuildView}
 use Rattle.dispatch_types.specs.declared.view.GuildView.TheVariants.{Open}
-use Rattle.dispatch_types.specs.declared.dispatch.MembersChunk.{MembersChunk}
 use Rattle.dispatch_types.specs.declared.dispatch.Dispatch.{Dispatch}
 use Rattle.dispatch_types.specs.declared.dispatch.Dispatch.TheVariants.{GuildMembersChunk}
 use Rattle.dispatch_types.specs.Objects.{member_object, member_of}
 use Rattle.dispatch_types.specs.Serves.{served, serves}
 use Rattle.dispatch_types.specs.Projection.{listed, is_known, open_view, projection}
-use Rattle.dispatch_types.specs.Fold.{Held, user_id, seen_by, knows, on_open, set_members, purged, purge, folded, fold_from}
+use Rattle.dispatch_types.specs.GuildOf.{guild_of}
+use Rattle.dispatch_types.specs.Fold.{Held, user_id, on_open, set_members, purged, purge, folded, fold_from}
 use Rattle.dispatch_types.proofs.Objects.{members-back}
 use Rattle.dispatch_types.proofs.Views.{purged-open, projection-blind, projection-open}
-use Rattle.dispatch_types.proofs.Folds.{guild_of, fold-elsewhere}
+use Rattle.dispatch_types.proofs.Folds.{folded-here, fold-elsewhere}
 use Rattle.event_views.proofs.Steps.{turned}
 use Rattle.event_views.proofs.Lists.{known-put, listed-again}
 use Rattle.member_chunks.specs.Answered.{is_answered, may_ask, found, part, chunk_count, chunk, chunks, answered}
@@ -57,13 +57,6 @@ view-more s intents known me ms h there =
     ap (λ (xs : List Member). record (open_view s intents known me) { members = xs })
     (listed-again intents guild_members (λ xs. put_all member_id xs ms) (filter (is_known known) s.members)
     ∙ ap (listed intents guild_members) (known-more known s.members ms h there))
-
--- what a chunk of the guild makes of a client
-told-chunk : (intents g : ℕ) (h : Held) (c : MembersChunk) → c.guild ≡ g
-    → folded intents g h (GuildMembersChunk c) ≡ turned intents g (set_members intents (map member_of c.members)) (λ known. put_all own_id known (map user_id c.members)) h
-unfolding folded
-told-chunk intents g h c here =
-    ap (λ b. purge intents g (knows b (λ known. put_all own_id known (map user_id c.members)) (seen_by b (set_members intents (map member_of c.members)) h))) (eq-eqb c.guild g here)
 
 module _ (s : Record) (v : Viewer) (me : Member) (well : IsWell s) (is_served : served v s ≡ Some me) (available : s.outage ≡ false) (user : ℕ) where
   -- members of the record, where the viewer is served it
@@ -101,7 +94,7 @@ module _ (s : Record) (v : Viewer) (me : Member) (well : IsWell s) (is_served : 
       let back : map member_of (map member_object ps) ≡ ps = members-back ps (λ k d lt. (stand_here k d lt).roles) in
       let ids : map user_id (map member_object ps) ≡ map member_id ps = map-after member_object user_id member_id (λ m. refl) ps in
       let makes : folded v.intents s.id h (GuildMembersChunk (chunk s ask ms index)) ≡ after ps h =
-      told-chunk v.intents s.id h (chunk s ask ms index) refl
+      folded-here v.intents s.id h (GuildMembersChunk (chunk s ask ms index)) refl refl
       ∙ (ap (λ (xs : List Member). turned v.intents s.id (set_members v.intents xs) (λ known. put_all own_id known (map user_id (map member_object ps))) h) back
       ∙ ap (λ (us : List ℕ). turned v.intents s.id (set_members v.intents ps) (λ known. put_all own_id known us) h) ids) in
       subst (λ (held : Held). Holds s v user held) (sym makes) (holds-after ps h stand_here holds)

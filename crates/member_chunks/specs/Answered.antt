@@ -1,5 +1,5 @@
--- What a question for members of a guild is answered with (Gateway Events, Request Guild Members; Guild
--- Members Chunk).
+-- What a request for members of a guild is answered with (Gateway Events, Request Guild Members;
+-- Guild Members Chunk).
 use Rattle.std.specs.Prelude.{ℕ, ◌*◌, min, max, List, [], map, filter, filter_map, length, take, drop, Bool, true, false, not, ◌&&◌, ◌||◌, ◌==◌, nat_lt, Option, Some, None, unwrap_or, option_map, if◌then◌else◌}
 use Rattle.std.specs.List.{starts_with, range_with_len}
 use Rattle.std.specs.Int.{div_ceil}
@@ -13,7 +13,7 @@ use Rattle.gateway_frames.specs.declared.frame.Find.{Find}
 use Rattle.gateway_frames.specs.declared.frame.Find.TheVariants.{Query, Users}
 use Rattle.dispatch_types.specs.declared.viewer.Viewer.{Viewer}
 use Rattle.dispatch_types.specs.declared.presences.PresenceObject.{PresenceObject}
-use Rattle.dispatch_types.specs.declared.dispatch.MembersChunk.{MembersChunk}
+use Rattle.dispatch_types.specs.declared.members.MembersChunk.{MembersChunk}
 use Rattle.dispatch_types.specs.declared.dispatch.Dispatch.{Dispatch}
 use Rattle.dispatch_types.specs.declared.dispatch.Dispatch.TheVariants.{GuildMembersChunk}
 use Rattle.dispatch_types.specs.Objects.{member_object, presence_object}
@@ -31,9 +31,10 @@ may_find v (Users ids) = true
 
 -- presences need GUILD_PRESENCES
 abbrev pub may_ask : Viewer → Ask → Bool
-may_ask v ask = may_find v ask.find && (not (wants_presences ask) || has_bit v.intents guild_presences)
+may_ask v ask =
+    may_find v ask.find && (not (wants_presences ask) || has_bit v.intents guild_presences)
 
--- the guild is the one that is asked, it is served and available, and the viewer has the rights
+-- the guild is the one asked for, it is served and available, and the viewer has the intents
 abbrev pub is_answered : Record → Viewer → Ask → Bool
 is_answered s v ask = ask.guild == s.id && (serves v s && (not s.outage && may_ask v ask))
 
@@ -41,7 +42,8 @@ is_answered s v ask = ask.guild == s.id && (serves v s && (not s.outage && may_a
 
 -- how many a query finds at most: its limit and 100; without a limit 100, and all where it is empty
 abbrev pub most : List ℕ → ℕ → Option ℕ
-most query limit = if limit == 0 then (if length query == 0 then None else Some 100) else Some (min limit 100)
+most query limit =
+    if limit == 0 then (if length query == 0 then None else Some 100) else Some (min limit 100)
 
 abbrev pub at_most : {T : Type 0} → Option ℕ → List T → List T
 at_most None xs = xs
@@ -57,7 +59,8 @@ each_once ids = put_all own_id [] ids
 
 -- the members that are asked for, in order of id
 abbrev pub found : Record → Find → List Member
-found s (Query query limit) = at_most (most query (unwrap_or limit 0)) (filter (is_named query) s.members)
+found s (Query query limit) =
+    at_most (most query (unwrap_or limit 0)) (filter (is_named query) s.members)
 found s (Users ids) = filter_map (λ id. find_id member_id id s.members) (each_once ids)
 
 -- the user ids that are asked for and are no members'
@@ -84,7 +87,8 @@ presence_told s m = option_map (presence_object s.id) (find_id presence_id m.use
 
 -- presences stand in a chunk where they are asked for
 abbrev pub presences_told : Record → Ask → List Member → Option (List PresenceObject)
-presences_told s ask ms = if wants_presences ask then Some (filter_map (presence_told s) ms) else None
+presences_told s ask ms =
+    if wants_presences ask then Some (filter_map (presence_told s) ms) else None
 
 -- the chunk with this number, from 0, of an answer with these members
 abbrev pub chunk : Record → Ask → List Member → ℕ → MembersChunk
@@ -99,7 +103,8 @@ chunk s ask ms index = record {
 }
 
 abbrev pub chunks : Record → Ask → List Member → List Dispatch
-chunks s ask ms = map (λ index. GuildMembersChunk (chunk s ask ms index)) (range_with_len 0 (chunk_count ms))
+chunks s ask ms =
+    map (λ index. GuildMembersChunk (chunk s ask ms index)) (range_with_len 0 (chunk_count ms))
 
 -- nothing where it is not answered
 unfoldable pub answered : Record → Viewer → Ask → List Dispatch

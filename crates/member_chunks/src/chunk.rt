@@ -1,6 +1,7 @@
 //! The chunks of an answer (Gateway Events, Guild Members Chunk).
 
 ghost use Rattle.std.specs.Prelude.{◌≡◌, ◌<◌, ◌≤◌, ◌^◌, IfOk, map, filter_map};
+ghost use Rattle.std.specs.Option.{option_copied};
 ghost use Rattle.dispatch_types.specs.declared.dispatch.Dispatch.TheVariants.{GuildMembersChunk};
 ghost use Rattle.dispatch_types.specs.Objects.{member_object};
 ghost use Rattle.member_chunks.specs.Answered.{chunk_count, part, given_back, presence_told, presences_told, chunk, chunks};
@@ -13,13 +14,13 @@ use gateway_frames::Ask;
 use guild_model::{Guild, Member};
 use std::alloc::{AllocError, Global};
 
-/// The number of members that a chunk has at most.
+/// The most members of a chunk.
 const CHUNK_SIZE: usize = 1000;
 
-/// The number of bytes that a nonce has at most.
+/// The most bytes of a nonce.
 const NONCE_SIZE: usize = 32;
 
-// How many chunks these members make. More than are ever counted want too much memory.
+// How many chunks these members make. More than a `u32` counts is out of memory.
 fn chunk_count(members: &[&Member]) -> Result<u32, AllocError>
     ensures { IfOk result (λ count. count ≡ chunk_count (map (λ member. member.now) members.now)) }
 {
@@ -32,16 +33,17 @@ fn chunk_count(members: &[&Member]) -> Result<u32, AllocError>
 
 // The members of the chunk with this number.
 fn part<'a, 'b>(members: &'a [&'b Member], index: u32) -> &'a [&'b Member]
-    ensures { map (λ member. member.now) result.now ≡ part (map (λ member. member.now) members.now) index }
+    ensures { map (λ member. member.now) result.now
+        ≡ part (map (λ member. member.now) members.now) index }
 {
     let start = (index as usize * CHUNK_SIZE).min(members.len());
     let end = (start + CHUNK_SIZE).min(members.len());
     &members[start..end]
 }
 
-// A nonce that is too long is ignored.
-fn given_back(alloc: Global, nonce: &Option<Text>) -> Result<Option<Text>, AllocError>
-    ensures { IfOk result (λ nonce'. nonce' ≡ given_back nonce.now) }
+// The nonce that the chunks repeat. One that is too long is ignored.
+fn given_back(alloc: Global, nonce: Option<&Text>) -> Result<Option<Text>, AllocError>
+    ensures { IfOk result (λ repeated. repeated ≡ given_back (option_copied nonce.entry)) }
 {
     match nonce {
         Some(nonce) if nonce.len() <= NONCE_SIZE => Ok(Some(nonce.copy(alloc)?)),
@@ -50,7 +52,8 @@ fn given_back(alloc: Global, nonce: &Option<Text>) -> Result<Option<Text>, Alloc
 }
 
 fn member_objects(alloc: Global, members: &[&Member]) -> Result<Seq<MemberObject>, AllocError>
-    ensures { IfOk result (λ objects. objects ≡ map member_object (map (λ member. member.now) members.now)) }
+    ensures { IfOk result (λ objects. objects
+        ≡ map member_object (map (λ member. member.now) members.now)) }
 {
     let mut objects = Seq::new(alloc);
     for member in members {
@@ -73,7 +76,8 @@ fn presence_objects(
     guild: &Guild,
     members: &[&Member],
 ) -> Result<Seq<PresenceObject>, AllocError>
-    ensures { IfOk result (λ objects. objects ≡ filter_map (presence_told guild.now) (map (λ member. member.now) members.now)) }
+    ensures { IfOk result (λ objects. objects
+        ≡ filter_map (presence_told guild.now) (map (λ member. member.now) members.now)) }
 {
     let mut objects = Seq::new(alloc);
     for member in members {
@@ -90,7 +94,8 @@ fn presences_told(
     ask: &Ask,
     members: &[&Member],
 ) -> Result<Option<Seq<PresenceObject>>, AllocError>
-    ensures { IfOk result (λ objects. objects ≡ presences_told guild.now ask.now (map (λ member. member.now) members.now)) }
+    ensures { IfOk result (λ objects. objects
+        ≡ presences_told guild.now ask.now (map (λ member. member.now) members.now)) }
 {
     if !wants_presences(ask) {
         return Ok(None);
@@ -106,7 +111,8 @@ fn chunk(
     members: &[&Member],
     index: u32,
 ) -> Result<MembersChunk, AllocError>
-    ensures { IfOk result (λ told. told ≡ chunk guild.now ask.now (map (λ member. member.now) members.now) index) }
+    ensures { IfOk result (λ told. told
+        ≡ chunk guild.now ask.now (map (λ member. member.now) members.now) index) }
 {
     let part = part(members, index);
     Ok(MembersChunk {
@@ -114,7 +120,7 @@ fn chunk(
         members: member_objects(alloc, part)?,
         index,
         count: chunk_count(members)?,
-        nonce: given_back(alloc, &ask.nonce)?,
+        nonce: given_back(alloc, ask.nonce.as_ref())?,
         not_found: Seq::from_vec(not_found(alloc, guild, &ask.find)?),
         presences: presences_told(alloc, guild, ask, part)?,
     })
@@ -127,7 +133,8 @@ pub(crate) fn chunks(
     ask: &Ask,
     members: &[&Member],
 ) -> Result<Vec<Dispatch>, AllocError>
-    ensures { IfOk result (λ list. list.items ≡ chunks guild.now ask.now (map (λ member. member.now) members.now)) }
+    ensures { IfOk result (λ list. list.items
+        ≡ chunks guild.now ask.now (map (λ member. member.now) members.now)) }
 {
     let mut list = Vec::new(alloc);
     for index in 0..chunk_count(members)? {

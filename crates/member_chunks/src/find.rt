@@ -11,7 +11,7 @@ use guild_model::{Guild, Member};
 use snowflake_id::Snowflake;
 use std::alloc::{AllocError, Global};
 
-// How many members a query finds at most.
+// The most members that a query finds; `None` if it finds all.
 fn most(query: &Text, limit: u64) -> Option<usize>
     ensures { result ≡ most query.now limit }
 {
@@ -33,7 +33,8 @@ fn named<'a>(
     members: &'a [Member],
     query: &Text,
 ) -> Result<Vec<&'a Member>, AllocError>
-    ensures { IfOk result (λ list. map (λ member. member.now) list.items ≡ filter (is_named query.now) members.now) }
+    ensures { IfOk result (λ list. map (λ member. member.now) list.items
+        ≡ filter (is_named query.now) members.now) }
 {
     members
         .iter()
@@ -44,7 +45,8 @@ fn named<'a>(
 // The first of these members, at most so many.
 #[tactic(auto, using(crate::proofs::Steps::take_mapped))]
 fn first<'a>(list: Vec<&'a Member>, most: Option<usize>) -> Vec<&'a Member>
-    ensures { map (λ member. member.now) result.items ≡ at_most most (map (λ member. member.now) list.entry.items) }
+    ensures { map (λ member. member.now) result.items
+        ≡ at_most most (map (λ member. member.now) list.entry.items) }
 {
     let mut list = list;
     if let Some(most) = most {
@@ -60,7 +62,8 @@ fn queried<'a>(
     query: &Text,
     limit: u64,
 ) -> Result<Vec<&'a Member>, AllocError>
-    ensures { IfOk result (λ list. map (λ member. member.now) list.items ≡ at_most (most query.now limit) (filter (is_named query.now) guild.now.members)) }
+    ensures { IfOk result (λ list. map (λ member. member.now) list.items
+        ≡ at_most (most query.now limit) (filter (is_named query.now) guild.now.members)) }
 {
     let list = named(alloc, guild.members.as_slice(), query)?;
     Ok(first(list, most(query, limit)))
@@ -78,7 +81,8 @@ fn members_among<'a>(
     guild: &'a Guild,
     ids: &[Snowflake],
 ) -> Result<Vec<&'a Member>, AllocError>
-    ensures { IfOk result (λ list. map (λ member. member.now) list.items ≡ filter_map (λ id. find_id member_id id guild.now.members) ids.now) }
+    ensures { IfOk result (λ list. map (λ member. member.now) list.items
+        ≡ filter_map (λ id. find_id member_id id guild.now.members) ids.now) }
 {
     let mut list = Vec::new(alloc);
     for id in ids {
@@ -95,7 +99,8 @@ fn others_among(
     guild: &Guild,
     ids: &[Snowflake],
 ) -> Result<Vec<Snowflake>, AllocError>
-    ensures { IfOk result (λ list. list.items ≡ filter (λ id. not (has_id member_id id guild.now.members)) ids.now) }
+    ensures { IfOk result (λ list. list.items
+        ≡ filter (λ id. not (has_id member_id id guild.now.members)) ids.now) }
 {
     let mut list = Vec::new(alloc);
     for id in ids {
@@ -112,7 +117,8 @@ pub(crate) fn found<'a>(
     guild: &'a Guild,
     find: &Find,
 ) -> Result<Vec<&'a Member>, AllocError>
-    ensures { IfOk result (λ list. map (λ member. member.now) list.items ≡ found guild.now find.now) }
+    ensures { IfOk result (λ list. map (λ member. member.now) list.items
+        ≡ found guild.now find.now) }
 {
     match find {
         Find::Query { query, limit } => queried(alloc, guild, query, limit.unwrap_or(0)),

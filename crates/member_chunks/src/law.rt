@@ -1,3 +1,5 @@
+//! Laws of the answers: what they leave a client with, and what their chunks are.
+
 ghost use Rattle.member_chunks.specs.Law.{AnswerKeeps, EachChunkKeeps, EachChunkStays, ChunksAreAll, AnswersSpeak};
 
 /// After an answer, a client that held the projection of a guild's record holds it still.
@@ -5,12 +7,12 @@ pub fn answer_keeps()
     ensures { AnswerKeeps }
 {}
 
-/// After each chunk of an answer it holds it too.
+/// After each chunk of an answer, a client that held the projection holds it still.
 pub fn each_chunk_keeps()
     ensures { EachChunkKeeps }
 {}
 
-/// Of another guild it holds what it held.
+/// After a chunk of another guild, a client holds what it held.
 pub fn each_chunk_stays()
     ensures { EachChunkStays }
 {}
@@ -20,7 +22,7 @@ pub fn chunks_are_all()
     ensures { ChunksAreAll }
 {}
 
-/// A question that is answered gets at least one chunk, and another none.
+/// A request that is answered gets at least one chunk, and another none.
 pub fn answers_speak()
     ensures { AnswersSpeak }
 {}

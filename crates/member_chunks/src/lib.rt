@@ -1,4 +1,5 @@
-//! What a client that asks for members of a guild is answered (Gateway Events, Request Guild Members).
+//! What a client that asks for members of a guild is answered (Gateway Events, Request Guild
+//! Members).
 #![tactic(auto)]
 
 ghost use Rattle.std.specs.Prelude.{◌≡◌, IfOk};
@@ -17,10 +18,10 @@ use guild_model::Guild;
 use rights::is_answered;
 use std::alloc::{AllocError, Global};
 
-/// The answer to a question for members of a guild, as GUILD_MEMBERS_CHUNK in chunks of at most 1,000
-/// members, at least one (Gateway Events, Guild Members Chunk). Nothing exactly where the viewer is not
-/// served the guild, it is in an outage or is not the one that is asked, or where the viewer lacks a
-/// right: GUILD_MEMBERS for an empty query, GUILD_PRESENCES for presences.
+/// The answer to Request Guild Members (op 8): GUILD_MEMBERS_CHUNK in chunks of at most 1,000
+/// members, at least one (Gateway Events, Guild Members Chunk). Empty exactly if the viewer is not
+/// served the guild, the guild is in an outage or is not the one asked for, or the viewer lacks an
+/// intent: GUILD_MEMBERS for an empty query, GUILD_PRESENCES for presences.
 #[tactic(auto, unfolding(crate::specs::Answered::answered))]
 pub fn answer(
     alloc: Global,

@@ -1,4 +1,4 @@
-//! Whether a question for members is answered.
+//! Whether a request for members is answered.
 
 ghost use Rattle.std.specs.Prelude.{◌≡◌};
 ghost use Rattle.member_chunks.specs.Answered.{wants_presences, may_find, may_ask, is_answered};
@@ -32,7 +32,7 @@ fn may_ask(viewer: &Viewer, ask: &Ask) -> bool
         && (!wants_presences(ask) || viewer.intents.has(Intents::GUILD_PRESENCES))
 }
 
-// The guild is the one that is asked, it is served and available, and the viewer has the rights.
+// The guild is the one asked for, it is served and available, and the viewer has the intents.
 pub(crate) fn is_answered(guild: &Guild, viewer: &Viewer, ask: &Ask) -> bool
     ensures { result ≡ is_answered guild.now viewer.now ask.now }
 {

@@ -1,5 +1,5 @@
 -- What is written for an object is read as that object.
-use Rattle.std.proofs.Common.{◌≡◌, ℕ, zero, suc, ap, ◌<◌, ◌≤◌, ◌^◌, List, [], ◌∷◌, map, Bool, true, false, Option, Some, None, Result, Ok, refl, arith, replicate}
+use Rattle.std.proofs.Common.{◌≡◌, ℕ, zero, suc, ap, ◌<◌, ◌^◌, List, [], ◌∷◌, map, Bool, true, false, Option, Some, None, Result, Ok, refl, arith, replicate}
 use Rattle.std.specs.Prelude.{nat_lt}
 use Rattle.serde_json.specs.Data.{Data, object, no_members}
 use Rattle.serde_json.specs.View.{items_of}
@@ -7,7 +7,6 @@ use Rattle.serde_json.proofs.OnLiterals.{serde_json_on_literals}
 use Rattle.guild_model.specs.declared.user.User.{User}
 use Rattle.guild_model.specs.declared.role.Role.{Role}
 use Rattle.guild_model.specs.declared.channel.ChannelKind.{ChannelKind}
-use Rattle.guild_model.specs.declared.thread.ThreadKind.{ThreadKind}
 use Rattle.dispatch_types.specs.declared.channels.OverwriteObject.{OverwriteObject}
 use Rattle.dispatch_types.specs.declared.channels.ChannelObject.{ChannelObject}
 use Rattle.dispatch_types.specs.declared.members.MemberObject.{MemberObject}
@@ -17,17 +16,16 @@ use Rattle.dispatch_types.specs.declared.threads.JoinedThread.{JoinedThread}
 use Rattle.dispatch_types.specs.declared.presences.VoiceObject.{VoiceObject}
 use Rattle.dispatch_types.specs.declared.presences.PresenceObject.{PresenceObject}
 use Rattle.dispatch_types.specs.declared.messages.MessageObject.{MessageObject}
-use Rattle.object_json.specs.Kinds.{digits, list, blanks}
-use Rattle.object_json.specs.Fits.{Each, IsId, IsMoment, IsPartCount}
+use Rattle.object_json.specs.Kinds.{digits}
+use Rattle.object_json.specs.Fits.{Each, IsId, IsMoment}
 use Rattle.object_json.specs.User.{user_data, user_from, UserFits}
 use Rattle.object_json.specs.Role.{role_data, role_from, RoleFits}
 use Rattle.object_json.specs.Channel.{overwrite_data, overwrite_from, OverwriteFits, channel_data, channel_from, ChannelFits}
 use Rattle.object_json.specs.Member.{member_data, member_from, MemberFits}
-use Rattle.object_json.specs.Thread.{thread_member_data, thread_member_from, ThreadMemberFits, thread_data, thread_from, ThreadFits, joined_data, joined_from, joined_thread_data, joined_thread_from, JoinedThreadFits, metadata_data}
+use Rattle.object_json.specs.Thread.{thread_member_data, thread_member_from, ThreadMemberFits, thread_data, thread_from, ThreadFits, joined_data, joined_from, joined_thread_data, joined_thread_from, JoinedThreadFits}
 use Rattle.object_json.specs.Voice.{voice_data, voice_from, VoiceFits}
 use Rattle.object_json.specs.Presence.{presence_data, presence_from, PresenceFits}
 use Rattle.object_json.specs.Message.{message_data, message_from, MessageFits}
-use Rattle.std.proofs.Common.{Err}
 use Rattle.std.proofs.lemmas.Bool.Decides.{nat_tests}
 use Rattle.serde_json.specs.Events.{items_len}
 use Rattle.snowflake_id.proofs.Texts.{id_of_decimal}

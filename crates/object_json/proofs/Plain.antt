@@ -1,6 +1,5 @@
 -- What is written for an object reads back: whole numbers, keys in order, little nesting.
-use Rattle.std.proofs.Common.{◌≡◌, ℕ, zero, suc, ◌<◌, ◌≤◌, ◌^◌, ◌+◌, IfSome, List, [], ◌∷◌, map, Bool, true, false, Option, Some, None, Result, Ok, refl, arith, replicate}
-use Rattle.std.specs.Prelude.{nat_lt}
+use Rattle.std.proofs.Common.{ℕ, zero, suc, ◌≤◌, ◌+◌, IfSome, List, [], ◌∷◌, map, Bool, true, false, Option, Some, None, refl, arith, replicate}
 use Rattle.serde_json.specs.Data.{Data, object, no_members}
 use Rattle.serde_json.specs.View.{items_of}
 use Rattle.serde_json.proofs.OnLiterals.{serde_json_on_literals}
@@ -23,15 +22,15 @@ use Rattle.dispatch_types.specs.declared.presences.PresenceObject.{PresenceObjec
 use Rattle.dispatch_types.specs.declared.messages.MessageObject.{MessageObject}
 use Rattle.guild_model.specs.Numbers.{overwrite_kind_number, channel_kind_number, thread_kind_number}
 use Rattle.object_json.specs.Kinds.{digits, count, list, blanks}
-use Rattle.object_json.specs.Fits.{Each, IsId, IsMoment, IsPartCount}
-use Rattle.object_json.specs.User.{user_data, user_from, UserFits}
-use Rattle.object_json.specs.Role.{role_data, role_from, RoleFits}
-use Rattle.object_json.specs.Channel.{overwrite_data, overwrite_from, OverwriteFits, channel_data, channel_from, ChannelFits}
-use Rattle.object_json.specs.Member.{member_data, member_from, MemberFits}
-use Rattle.object_json.specs.Thread.{thread_member_data, thread_member_from, ThreadMemberFits, thread_data, thread_from, ThreadFits, joined_data, joined_from, joined_thread_data, joined_thread_from, JoinedThreadFits, metadata_data}
-use Rattle.object_json.specs.Voice.{voice_data, voice_from, VoiceFits}
-use Rattle.object_json.specs.Presence.{presence_data, presence_from, PresenceFits}
-use Rattle.object_json.specs.Message.{message_data, message_from, MessageFits}
+use Rattle.object_json.specs.Fits.{Each, IsId}
+use Rattle.object_json.specs.User.{user_data, UserFits}
+use Rattle.object_json.specs.Role.{role_data, RoleFits}
+use Rattle.object_json.specs.Channel.{overwrite_data, OverwriteFits, channel_data, ChannelFits}
+use Rattle.object_json.specs.Member.{member_data, MemberFits}
+use Rattle.object_json.specs.Thread.{thread_member_data, ThreadMemberFits, thread_data, ThreadFits, joined_data, joined_thread_data, JoinedThreadFits, metadata_data}
+use Rattle.object_json.specs.Voice.{voice_data, VoiceFits}
+use Rattle.object_json.specs.Presence.{presence_data, PresenceFits}
+use Rattle.object_json.specs.Message.{message_data, MessageFits}
 use Rattle.serde_json.specs.Data.{depth, items_depth}
 use Rattle.written_json.specs.Writable.{IsPlain, ItemsArePlain}
 

@@ -11,14 +11,13 @@ use Rattle.guild_model.specs.declared.channel.ChannelKind.{ChannelKind}
 use Rattle.guild_model.specs.declared.channel.OverwriteKind.{OverwriteKind}
 use Rattle.guild_model.specs.declared.thread.ThreadKind.{ThreadKind}
 use Rattle.guild_model.specs.declared.presence.Activity.{Activity}
-use Rattle.guild_model.specs.declared.presence.Status.{Status}
 use Rattle.guild_model.specs.Numbers.{channel_kind_numbered, overwrite_kind_numbered, thread_kind_numbered}
 use Rattle.guild_model.specs.Statuses.{status_named, status_activity}
 use Rattle.moment_text.specs.Named.{moment_of}
 use Rattle.object_json.specs.declared.fault.ReadFault.{ReadFault}
 use Rattle.object_json.specs.declared.fault.ReadFault.TheVariants.{BadField, Memory}
 
--- this answer, or want of memory
+-- this answer, or out of memory
 abbrev pub UnlessMemory : {A : Type 0} → Result A ReadFault → Result A ReadFault → Type 0
 UnlessMemory result answer = (result ≡ Err Memory) ⊎ (result ≡ answer)
 

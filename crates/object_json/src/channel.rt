@@ -1,3 +1,5 @@
+//! Channels and their overwrites.
+
 ghost use Rattle.std.specs.Prelude.{codes};
 ghost use Rattle.object_json.specs.Added.{AddsTokens, member_tokens};
 ghost use Rattle.guild_model.specs.Numbers.{channel_kind_number, overwrite_kind_number};
@@ -7,10 +9,8 @@ use crate::fault::ReadFault;
 use crate::field::{
     close, id_field, mask_field, maybe_id_field, number_field, open, small_field, text_field,
 };
-use crate::readable::{Readable, list_at};
-use crate::reading::{
-    channel_kind_at, id_at, mask_at, nullable_id_at, overwrite_kind_at, small_at, text_at,
-};
+use crate::readable::{Readable, list_at, nullable_at};
+use crate::reading::{channel_kind_at, id_at, mask_at, overwrite_kind_at, small_at, text_at};
 use crate::written::{Written, list_field};
 use dispatch_types::{ChannelObject, OverwriteObject};
 use guild_model::{ChannelKind, OverwriteKind};
@@ -101,7 +101,7 @@ impl Readable for ChannelObject {
         let guild = id_at(object, "guild_id")?;
         let id = id_at(object, "id")?;
         let name = text_at(alloc, object, "name")?;
-        let parent = nullable_id_at(object, "parent_id")?;
+        let parent = nullable_at(alloc, object, "parent_id")?;
         let overwrites = list_at(alloc, object, "permission_overwrites")?;
         let position = small_at(object, "position")?;
         let kind = channel_kind_at(object, "type")?;

@@ -1,3 +1,6 @@
+//! Why an object is not read.
+
+use json_view::ViewFault;
 use std::alloc::AllocError;
 use thiserror::Error;
 
@@ -20,5 +23,16 @@ impl From<AllocError> for ReadFault {
 
     fn from(_: AllocError) -> Self {
         ReadFault::Memory
+    }
+}
+
+impl From<ViewFault> for ReadFault {
+    ghost use Rattle.object_json.specs.declared.fault.ReadFault.TheVariants.{BadField};
+    ghost use Rattle.std.specs.Prelude.{◌≡◌};
+
+    ghost from_gives = { λ _ fault. fault ≡ BadField };
+
+    fn from(_: ViewFault) -> Self {
+        ReadFault::BadField
     }
 }

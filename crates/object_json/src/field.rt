@@ -1,8 +1,10 @@
+//! Writing a key with one plain value.
+
 ghost use Rattle.std.specs.Prelude.{◌∷◌, [], OnOk, IfSome, option_map};
 ghost use Rattle.json.specs.Token.{key as key_token, begin_object, end_object};
 ghost use Rattle.serde_json.specs.Data.{null, string, boolean, array, no_items};
 ghost use Rattle.object_json.specs.Added.{AddsTokens, member_tokens, member_tokens_if};
-ghost use Rattle.object_json.specs.Fits.{IsId, IsMask, IsSmall, IsMoment};
+ghost use Rattle.object_json.specs.Fits.{IsId, IsMask, IsWhole, IsSmall, IsMoment};
 ghost use Rattle.object_json.specs.Kinds.{digits, count, time, or_null, true_if};
 
 use collections::Text;
@@ -98,7 +100,8 @@ pub fn maybe_text_field(out: &mut Writer, name: &str, text: &Option<Text>) -> Re
 
 /// Writes a number under its key.
 pub fn number_field(out: &mut Writer, name: &str, number: u64) -> Result<(), AllocError>
-    ensures { AddsTokens result out.old out.new (member_tokens name.now (count number)) }
+    ensures adds { AddsTokens result out.old out.new (member_tokens name.now (count number)) }
+    ensures fits { OnOk result (IsWhole number) }
 {
     out.key(name)?;
     out.u64(number)?;

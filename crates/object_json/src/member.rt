@@ -1,3 +1,5 @@
+//! Members.
+
 ghost use Rattle.std.specs.Prelude.{None, OnOk, IfSome};
 ghost use Rattle.object_json.specs.Added.{Adds};
 ghost use Rattle.object_json.specs.Fits.{IsId};
@@ -5,8 +7,7 @@ ghost use Rattle.object_json.specs.Member.{member_data, MemberFits};
 
 use crate::fault::ReadFault;
 use crate::field::{close, id_field_if, maybe_text_field, maybe_time_field, open, time_field};
-use crate::readable::{Readable, list_at, value_at};
-use crate::reading::{nullable_text_at, nullable_time_at, time_at};
+use crate::readable::{Readable, list_at, nullable_at, value_at};
 use crate::written::{Written, list_field, value_field};
 use dispatch_types::MemberObject;
 use json::Writer;
@@ -56,9 +57,9 @@ impl Readable for MemberObject {
     ghost from = { member_from };
 
     fn read(alloc: Global, object: &Value) -> Result<MemberObject, ReadFault> {
-        let timeout = nullable_time_at(alloc, object, "communication_disabled_until")?;
-        let joined = time_at(alloc, object, "joined_at")?;
-        let nick = nullable_text_at(alloc, object, "nick")?;
+        let timeout = nullable_at(alloc, object, "communication_disabled_until")?;
+        let joined = value_at(alloc, object, "joined_at")?;
+        let nick = nullable_at(alloc, object, "nick")?;
         let roles = list_at(alloc, object, "roles")?;
         let user = value_at(alloc, object, "user")?;
         Ok(MemberObject {

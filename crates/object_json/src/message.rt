@@ -1,3 +1,5 @@
+//! Messages.
+
 ghost use Rattle.std.specs.Prelude.{◌≡◌, OnOk, codes};
 ghost use Rattle.object_json.specs.Added.{AddsTokens, Ends, member_tokens};
 ghost use Rattle.object_json.specs.Kinds.{time};

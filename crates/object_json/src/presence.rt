@@ -1,3 +1,5 @@
+//! Presences.
+
 ghost use Rattle.std.specs.Prelude.{OnOk, codes};
 ghost use Rattle.serde_json.specs.Data.{string};
 ghost use Rattle.object_json.specs.Added.{AddsTokens, member_tokens};

@@ -1,11 +1,13 @@
+//! Reading one JSON value, and the keys and lists that hold such.
+
 ghost use Rattle.std.specs.Prelude.{◌≡◌};
 ghost use Rattle.serde_json.specs.View.{view, items_view};
-ghost use Rattle.object_json.specs.Reading.{UnlessMemory, value_at, optional_at, items_from, list_from, list_at, list_if_at, few_from, parts_at};
+ghost use Rattle.object_json.specs.Reading.{UnlessMemory, value_at, nullable_at, optional_at, items_from, list_from, list_at, list_if_at, few_from, parts_at};
 
 use crate::fault::ReadFault;
-use crate::reading::{field_at, id_from};
-use collections::Seq;
-use guild_model::PartCount;
+use crate::reading::{field_at, id_from, text_from, time_from};
+use collections::{Seq, Text};
+use guild_model::{Moment, PartCount};
 use serde_json::Value;
 use snowflake_id::Snowflake;
 use std::alloc::Global;
@@ -36,6 +38,20 @@ pub fn value_at<T: Readable + Drop>(
     T::read(alloc, value)
 }
 
+/// The same of a key whose value may be null.
+pub fn nullable_at<T: Readable + Drop>(
+    alloc: Global,
+    object: &Value,
+    name: &str,
+) -> Result<Option<T>, ReadFault>
+    ensures { UnlessMemory result (nullable_at T.from name.now (view object.now)) }
+{
+    match field_at(object, name)? {
+        Value::Null => Ok(None),
+        value => Ok(Some(T::read(alloc, value)?)),
+    }
+}
+
 /// The same of a key that may be left out.
 pub fn optional_at<T: Readable + Drop>(
     alloc: Global,
@@ -46,10 +62,7 @@ pub fn optional_at<T: Readable + Drop>(
 {
     match object.get(name) {
         None => Ok(None),
-        Some(value) => {
-            let item = T::read(alloc, value)?;
-            Ok(Some(item))
-        }
+        Some(value) => Ok(Some(T::read(alloc, value)?)),
     }
 }
 
@@ -68,10 +81,8 @@ fn items_from<T: Readable + Drop>(alloc: Global, list: &[Value]) -> Result<Seq<T
 pub fn list_from<T: Readable + Drop>(alloc: Global, value: &Value) -> Result<Seq<T>, ReadFault>
     ensures { UnlessMemory result (list_from T.from (view value.now)) }
 {
-    match value.as_array() {
-        None => Err(ReadFault::BadField),
-        Some(list) => items_from(alloc, list.as_slice()),
-    }
+    let list = value.as_array().ok_or(ReadFault::BadField)?;
+    items_from(alloc, list.as_slice())
 }
 
 /// A list.
@@ -104,20 +115,17 @@ pub fn list_if_at<T: Readable + Drop>(
 fn parts_of(list: &[Value]) -> Result<PartCount, ReadFault>
     ensures { result ≡ few_from (items_view list.now) }
 {
-    match PartCount::new(list.len()) {
-        Err(_) => Err(ReadFault::BadField),
-        Ok(count) => Ok(count),
-    }
+    PartCount::new(list.len()).map_err(|_| ReadFault::BadField)
 }
 
 /// How many embeds, attachments or components there are.
 pub fn parts_at(object: &Value, name: &str) -> Result<PartCount, ReadFault>
     ensures { result ≡ parts_at name.now (view object.now) }
 {
-    match field_at(object, name)?.as_array() {
-        None => Err(ReadFault::BadField),
-        Some(list) => parts_of(list.as_slice()),
-    }
+    let list = field_at(object, name)?
+        .as_array()
+        .ok_or(ReadFault::BadField)?;
+    parts_of(list.as_slice())
 }
 
 /// An id, as a text.
@@ -128,5 +136,26 @@ impl Readable for Snowflake {
 
     fn read(_alloc: Global, value: &Value) -> Result<Snowflake, ReadFault> {
         id_from(value)
+    }
+}
+
+impl Readable for Text {
+    ghost use Rattle.object_json.specs.Reading.{text_from};
+
+    ghost from = { text_from };
+
+    fn read(alloc: Global, value: &Value) -> Result<Text, ReadFault> {
+        text_from(alloc, value)
+    }
+}
+
+/// A moment, as a text.
+impl Readable for Moment {
+    ghost use Rattle.object_json.specs.Reading.{time_from};
+
+    ghost from = { time_from };
+
+    fn read(alloc: Global, value: &Value) -> Result<Moment, ReadFault> {
+        time_from(alloc, value)
     }
 }

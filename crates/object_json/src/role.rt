@@ -1,3 +1,5 @@
+//! Roles.
+
 use crate::fault::ReadFault;
 use crate::field::{close, id_field, mask_field, open, small_field, text_field};
 use crate::readable::Readable;

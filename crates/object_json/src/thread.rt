@@ -1,3 +1,5 @@
+//! Threads and the users in them.
+
 ghost use Rattle.std.specs.Prelude.{◌≡◌, ◌≤◌, ◌++◌, ◌∷◌, OnOk, IfSome, [], codes, option_map};
 ghost use Rattle.json.specs.Token.{begin_object};
 ghost use Rattle.object_json.specs.Added.{Adds, AddsTokens, Ends, member_tokens, member_tokens_if};
@@ -13,8 +15,8 @@ use crate::field::{
     close, flag_field, id_field, key, number_field, open, small_field, text_field, time_field,
     true_field_if,
 };
-use crate::readable::Readable;
-use crate::reading::{field_at, flag_at, id_at, number_at, text_at, thread_kind_at, time_at};
+use crate::readable::{Readable, value_at};
+use crate::reading::{field_at, flag_at, id_at, number_at, text_at, thread_kind_at};
 use crate::written::{Written, value_field};
 use dispatch_types::{JoinedThread, ThreadCount, ThreadMemberObject, ThreadObject};
 use guild_model::{Moment, ThreadKind};
@@ -198,7 +200,7 @@ impl Readable for ThreadMemberObject {
 
     fn read(alloc: Global, object: &Value) -> Result<ThreadMemberObject, ReadFault> {
         let thread = id_at(object, "id")?;
-        let joined = time_at(alloc, object, "join_timestamp")?;
+        let joined = value_at(alloc, object, "join_timestamp")?;
         let user = id_at(object, "user_id")?;
         Ok(ThreadMemberObject {
             thread,
@@ -212,10 +214,7 @@ impl Readable for ThreadMemberObject {
 pub fn thread_count_at(object: &Value) -> Result<ThreadCount, ReadFault>
     ensures { result ≡ thread_count_at (view object.now) }
 {
-    match ThreadCount::new(number_at(object, "member_count")?) {
-        Err(_) => Err(ReadFault::BadField),
-        Ok(count) => Ok(count),
-    }
+    ThreadCount::new(number_at(object, "member_count")?).map_err(|_| ReadFault::BadField)
 }
 
 fn archived_at(object: &Value) -> Result<bool, ReadFault>
@@ -257,10 +256,7 @@ fn joined_at(alloc: Global, object: &Value) -> Result<Option<Moment>, ReadFault>
 {
     match object.get("member") {
         None => Ok(None),
-        Some(member) => {
-            let joined = time_at(alloc, member, "join_timestamp")?;
-            Ok(Some(joined))
-        }
+        Some(member) => Ok(Some(value_at(alloc, member, "join_timestamp")?)),
     }
 }
 

@@ -1,3 +1,5 @@
+//! Users.
+
 use crate::fault::ReadFault;
 use crate::field::{close, flag_field, id_field, open, text_field};
 use crate::readable::Readable;

@@ -1,3 +1,5 @@
+//! Voice states.
+
 ghost use Rattle.object_json.specs.Added.{Adds};
 ghost use Rattle.std.specs.Prelude.{OnOk, IfSome};
 ghost use Rattle.object_json.specs.Fits.{IsId};
@@ -5,8 +7,8 @@ ghost use Rattle.object_json.specs.Voice.{voice_data, VoiceFits};
 
 use crate::fault::ReadFault;
 use crate::field::{close, flag_field, id_field, id_field_if, maybe_id_field, open};
-use crate::readable::Readable;
-use crate::reading::{flag_at, id_at, nullable_id_at};
+use crate::readable::{Readable, nullable_at};
+use crate::reading::{flag_at, id_at};
 use crate::written::Written;
 use dispatch_types::VoiceObject;
 use json::Writer;
@@ -53,8 +55,8 @@ impl Readable for VoiceObject {
 
     ghost from = { voice_from };
 
-    fn read(_alloc: Global, object: &Value) -> Result<VoiceObject, ReadFault> {
-        let channel = nullable_id_at(object, "channel_id")?;
+    fn read(alloc: Global, object: &Value) -> Result<VoiceObject, ReadFault> {
+        let channel = nullable_at(alloc, object, "channel_id")?;
         let self_deaf = flag_at(object, "self_deaf")?;
         let self_mute = flag_at(object, "self_mute")?;
         let user = id_at(object, "user_id")?;

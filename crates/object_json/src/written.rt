@@ -1,3 +1,5 @@
+//! Writing one JSON value, and the keys and lists that hold such.
+
 ghost use Rattle.object_json.specs.Fits.{Each, IsPartCount};
 ghost use Rattle.std.specs.Prelude.{OnOk, ◌∷◌, ◌≡◌, ◌++◌, [], option_map};
 ghost use Rattle.serde_json.specs.Data.{object, no_members};

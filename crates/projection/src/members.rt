@@ -1,3 +1,5 @@
+//! The members that a viewer may hold, and their number.
+
 ghost use Rattle.std.specs.Prelude.{◌≡◌, filter, length, IfOk};
 ghost use Rattle.intent_set.specs.Intents.{guild_members};
 ghost use Rattle.dispatch_types.specs.Projection.{told, listed, is_known};
@@ -39,7 +41,7 @@ fn known_members(
     Ok(ById::from_ascending(copies))
 }
 
-// The known members, where GUILD_MEMBERS tells of them.
+// The known members, if GUILD_MEMBERS tells of them.
 pub(crate) fn members(
     alloc: Global,
     guild: &Guild,
@@ -56,8 +58,7 @@ pub(crate) fn members(
     }
 }
 
-// How many members there are, where GUILD_MEMBERS tells. More than are ever counted want too much
-// memory.
+// How many members there are, if GUILD_MEMBERS tells. More than a `u32` counts is out of memory.
 pub(crate) fn member_count(guild: &Guild, intents: Intents) -> Result<Option<u32>, AllocError>
     ensures { IfOk result (λ count. count ≡ told intents guild_members (length guild.now.members)) }
 {

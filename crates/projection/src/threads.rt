@@ -1,3 +1,5 @@
+//! The threads that a viewer may hold.
+
 ghost use Rattle.std.specs.Prelude.{◌≡◌, ◌&&◌, map, filter, min, length, IfOk};
 ghost use Rattle.guild_model.specs.Sight.{member_sees};
 ghost use Rattle.intent_set.specs.Intents.{guild_members};
@@ -11,7 +13,7 @@ use overwrite_eval::StandingRef;
 use snowflake_id::Snowflake;
 use std::alloc::{AllocError, Global};
 
-// How many users are in a thread, cut at 50, where GUILD_MEMBERS tells.
+// How many users are in a thread, cut at 50, if GUILD_MEMBERS tells.
 fn count(intents: Intents, thread: &Thread) -> Option<u32>
     ensures { result ≡ told intents guild_members (min 50 (length thread.now.members)) }
 {
@@ -50,7 +52,8 @@ fn views(
     threads: &[Thread],
 ) -> Result<Vec<ThreadView>, AllocError>
     ensures { IfOk result (λ views. views.items
-        ≡ map (thread_view intents me.now.user.id) (filter (λ t. is_active t && member_sees guild.now me.now t) threads.now)) }
+        ≡ map (thread_view intents me.now.user.id)
+        (filter (λ t. is_active t && member_sees guild.now me.now t) threads.now)) }
 {
     let standing = StandingRef::in_guild(guild, me);
     let mut views = Vec::new(alloc);

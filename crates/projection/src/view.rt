@@ -1,3 +1,5 @@
+//! What a viewer may hold of a guild as a whole.
+
 ghost use Rattle.std.specs.Prelude.{◌≡◌, IfOk};
 ghost use Rattle.intent_set.specs.Intents.{guild_voice_states, guild_presences};
 ghost use Rattle.dispatch_types.specs.Projection.{listed, open_view, projection};
@@ -11,7 +13,7 @@ use intent_set::Intents;
 use snowflake_id::Snowflake;
 use std::alloc::{AllocError, Global};
 
-// The voice states, where GUILD_VOICE_STATES tells of them.
+// The voice states, if GUILD_VOICE_STATES tells of them.
 fn voices(alloc: Global, guild: &Guild, intents: Intents) -> Result<ById<Voice>, AllocError>
     ensures { IfOk result (λ voices. voices ≡ listed intents guild_voice_states guild.now.voices) }
 {
@@ -22,7 +24,7 @@ fn voices(alloc: Global, guild: &Guild, intents: Intents) -> Result<ById<Voice>,
     }
 }
 
-// The presences, where GUILD_PRESENCES tells of them.
+// The presences, if GUILD_PRESENCES tells of them.
 fn presences(alloc: Global, guild: &Guild, intents: Intents) -> Result<ById<Presence>, AllocError>
     ensures { IfOk result (λ presences. presences
         ≡ listed intents guild_presences guild.now.presences) }
@@ -58,10 +60,10 @@ fn open_view(
     })
 }
 
-/// What a viewer may hold of a guild, where it was told of the members among `known`, in any order:
-/// nothing exactly where the viewer does not ask for GUILDS or is not served; in an outage no more
-/// than that; else the guild by the viewer's intents (Gateway, Gateway Intents), with the active
-/// threads that its member sees (Threads, Private Threads).
+/// What a viewer may hold of a guild if it was told of the members among `known`, in any order:
+/// `None` exactly if the viewer does not ask for GUILDS or is not served; in an outage no more than
+/// that; else the guild by the viewer's intents (Gateway, Gateway Intents), with the active threads
+/// that its member sees (Threads, Private Threads).
 #[tactic(auto, unfolding(dispatch_types::specs::Projection::projection))]
 pub fn project(
     alloc: Global,

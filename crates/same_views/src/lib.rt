@@ -3,13 +3,11 @@
 
 mod dispatches;
 mod equality;
-mod guild_sent;
+mod fields;
 mod lists;
-mod member_sent;
 mod objects;
 mod plain;
 mod sent;
-mod thread_sent;
 mod views;
 
 pub use dispatches::same_list;

@@ -1,9 +1,11 @@
+//! Lists, item by item.
+
 ghost use Rattle.std.specs.Prelude.{◌≡◌, ◌↔◌, IsTrue};
 
 use crate::equality::SameAs;
 use collections::{ById, Keyed, Seq};
 
-/// Whether two lists have equal items in the same order. Takes no memory.
+/// Whether two lists have equal items in the same order. Does not allocate.
 pub fn same_items<T: SameAs>(one: &[T], other: &[T]) -> bool
     ensures { IsTrue result ↔ (one.now ≡ other.now) }
 {

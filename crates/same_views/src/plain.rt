@@ -3,7 +3,10 @@
 ghost use Rattle.std.specs.Prelude.{◌≡◌, ◌↔◌, IsTrue};
 
 use crate::equality::SameAs;
-use dispatch_types::{OverwriteObject, PresenceObject, ThreadMemberObject, VoiceObject};
+use dispatch_types::{
+    GuildDelete, GuildRoleDelete, MessageDelete, OverwriteObject, PresenceObject, ThreadDelete,
+    ThreadMemberObject, TypingStart, VoiceObject, VoiceStateUpdate,
+};
 use guild_model::{Overwrite, Presence, ThreadMember, Voice};
 use snowflake_id::Snowflake;
 
@@ -57,6 +60,42 @@ impl SameAs for VoiceObject {
 
 impl SameAs for PresenceObject {
     fn same_as(&self, other: &PresenceObject) -> bool {
+        self == other
+    }
+}
+
+impl SameAs for GuildDelete {
+    fn same_as(&self, other: &GuildDelete) -> bool {
+        self == other
+    }
+}
+
+impl SameAs for GuildRoleDelete {
+    fn same_as(&self, other: &GuildRoleDelete) -> bool {
+        self == other
+    }
+}
+
+impl SameAs for ThreadDelete {
+    fn same_as(&self, other: &ThreadDelete) -> bool {
+        self == other
+    }
+}
+
+impl SameAs for VoiceStateUpdate {
+    fn same_as(&self, other: &VoiceStateUpdate) -> bool {
+        self == other
+    }
+}
+
+impl SameAs for MessageDelete {
+    fn same_as(&self, other: &MessageDelete) -> bool {
+        self == other
+    }
+}
+
+impl SameAs for TypingStart {
+    fn same_as(&self, other: &TypingStart) -> bool {
         self == other
     }
 }

@@ -3,10 +3,7 @@
 ghost use Rattle.std.specs.Prelude.{◌≡◌, ◌↔◌, IsTrue};
 
 use crate::equality::SameAs;
-use dispatch_types::{
-    ChannelObject, GuildCreate, JoinedThread, MemberObject, MembersChunk, MessageObject, Reaction,
-    Ready, ThreadObject,
-};
+use dispatch_types::{ChannelObject, JoinedThread, MemberObject, MessageObject, ThreadObject};
 
 impl SameAs for MemberObject {
     fn same_as(&self, other: &MemberObject) -> bool {
@@ -60,53 +57,5 @@ impl SameAs for MessageObject {
             && self.embeds == other.embeds
             && self.attachments == other.attachments
             && self.components == other.components
-    }
-}
-
-impl SameAs for Reaction {
-    fn same_as(&self, other: &Reaction) -> bool {
-        self.guild == other.guild
-            && self.channel == other.channel
-            && self.message == other.message
-            && self.user == other.user
-            && self.emoji.same_as(&other.emoji)
-    }
-}
-
-impl SameAs for Ready {
-    fn same_as(&self, other: &Ready) -> bool {
-        self.user.same_as(&other.user)
-            && self.guilds.same_as(&other.guilds)
-            && self.session.same_as(&other.session)
-            && self.url.same_as(&other.url)
-            && self.shard == other.shard
-    }
-}
-
-impl SameAs for GuildCreate {
-    fn same_as(&self, other: &GuildCreate) -> bool {
-        self.id == other.id
-            && self.name.same_as(&other.name)
-            && self.owner == other.owner
-            && self.roles.same_as(&other.roles)
-            && self.channels.same_as(&other.channels)
-            && self.members.same_as(&other.members)
-            && self.member_count == other.member_count
-            && self.large == other.large
-            && self.threads.same_as(&other.threads)
-            && self.voices.same_as(&other.voices)
-            && self.presences.same_as(&other.presences)
-    }
-}
-
-impl SameAs for MembersChunk {
-    fn same_as(&self, other: &MembersChunk) -> bool {
-        self.guild == other.guild
-            && self.members.same_as(&other.members)
-            && self.index == other.index
-            && self.count == other.count
-            && self.nonce.same_as(&other.nonce)
-            && self.not_found.same_as(&other.not_found)
-            && self.presences.same_as(&other.presences)
     }
 }

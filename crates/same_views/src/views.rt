@@ -1,3 +1,5 @@
+//! What a client holds of a guild.
+
 ghost use Rattle.std.specs.Prelude.{◌≡◌, ◌↔◌, IsTrue};
 ghost use Rattle.std.specs.Option.{option_copied};
 
@@ -42,14 +44,14 @@ impl SameAs for GuildView {
 }
 
 /// Whether two views of a guild are equal (Gateway Events, Guild Create): both unavailable, or both
-/// open with equal parts. Takes no memory.
+/// open with equal parts. Does not allocate.
 pub fn same(one: &GuildView, other: &GuildView) -> bool
     ensures { IsTrue result ↔ (one.now ≡ other.now) }
 {
     one.same_as(other)
 }
 
-/// Whether two clients that may hold no view of a guild hold the same of it. Takes no memory.
+/// Whether two clients that may hold no view of a guild hold the same of it. Does not allocate.
 pub fn same_or_none(one: Option<&GuildView>, other: Option<&GuildView>) -> bool
     ensures { IsTrue result ↔ (option_copied one.entry ≡ option_copied other.entry) }
 {

@@ -13,6 +13,7 @@ use Rattle.guild_model.specs.Ascending.{IsWell}
 use Rattle.guild_model.specs.Sight.{member_sees}
 use Rattle.dispatch_types.specs.declared.threads.ThreadObject.{ThreadObject}
 use Rattle.dispatch_types.specs.declared.threads.ThreadMemberObject.{ThreadMemberObject}
+use Rattle.dispatch_types.specs.declared.threads.ThreadListSync.{ThreadListSync as ListSync}
 use Rattle.dispatch_types.specs.declared.view.GuildView.{GuildView}
 use Rattle.dispatch_types.specs.declared.view.GuildView.TheVariants.{Open}
 use Rattle.dispatch_types.specs.declared.view.OpenView.{OpenView}
@@ -21,9 +22,9 @@ use Rattle.dispatch_types.specs.declared.dispatch.Dispatch.TheVariants.{ThreadLi
 use Rattle.dispatch_types.specs.Objects.{thread_object, thread_member_object, thread_member_of}
 use Rattle.dispatch_types.specs.Projection.{is_active, thread_view, seen_threads, open_view}
 use Rattle.dispatch_types.specs.Fold.{Held, thread_view_id, contains, thread_of, synced_thread, sync_threads, on_open, view_sees, purged, purge, folded, fold_from}
-use Rattle.dispatch_types.proofs.Folds.{seen_here}
+use Rattle.dispatch_types.proofs.Folds.{folded-here}
 use Rattle.thread_sync.specs.Seen.{is_among, visible_to}
-use Rattle.thread_sync.specs.Sync.{gained_parents, threads_in, own_membership, sync_if_any}
+use Rattle.thread_sync.specs.Sync.{gained_parents, threads_in, own_membership, listed_sync, sync_if_any}
 use Rattle.thread_sync.specs.Law.{ChangesRights, told_plainly, SyncRestores}
 use Rattle.thread_sync.proofs.Lists.{filter-map, map-same, find-first}
 use Rattle.thread_sync.proofs.Saw.{saw-before}
@@ -180,7 +181,7 @@ module _ (s t : Record) (me me' : Member) (intents : ℕ) (known : List ℕ) (we
       ∙ seen-after))
 
   pub with-sync : (parents : List ℕ) → gained_parents (visible_to s me) t me' ≡ parents
-      → purged intents t.id (sync_threads intents parents (map (thread_object t.id) (threads_in t me' parents)) (filter_map (own_membership me'.user.id) (threads_in t me' parents)) (purged intents t.id (told_plainly s me t me' intents known))) ≡ open_view t intents known me'
+      → purged intents t.id (sync_threads intents (listed_sync t.id me'.user.id parents (threads_in t me' parents)) (purged intents t.id (told_plainly s me t me' intents known))) ≡ open_view t intents known me'
   with-sync parents is =
       ap with_threads
       (ap (λ threads. filter shown (put_all thread_view_id (filter others (filter shown (map (thread_view intents me.user.id) (seen_threads s me)))) threads)) (synced-back t.id intents me'.user.id (threads_in t me' parents) ascends)
@@ -200,10 +201,9 @@ module _ (s t : Record) (me me' : Member) (intents : ℕ) (known : List ℕ) (we
       ascends = IsById-filter thread_id listed _ (subst (λ xs. IsById thread_id (filter (λ (x : Thread). is_active x && sees x) xs)) (sym changes.threads) (IsById-filter thread_id (λ (x : Thread). is_active x && sees x) s.threads well.ascending.threads))
 
 -- what a client makes of a sync
-folded-sync : (intents : ℕ) (h : Held) (guild : ℕ) (parents : List ℕ) (ts : List ThreadObject) (ms : List ThreadMemberObject)
-    → folded intents guild h (ThreadListSync guild parents ts ms) ≡ record h { view = on_open (purged intents guild) (on_open (sync_threads intents parents ts ms) h.view) }
-unfolding folded
-folded-sync intents h guild parents ts ms = ap (purge intents guild) (seen_here intents guild guild (sync_threads intents parents ts ms) h refl)
+folded-sync : (intents : ℕ) (h : Held) (guild : ℕ) (sync : ListSync) → sync.guild ≡ guild
+    → folded intents guild h (ThreadListSync sync) ≡ record h { view = on_open (purged intents guild) (on_open (sync_threads intents sync) h.view) }
+folded-sync intents h guild sync of = folded-here intents guild h (ThreadListSync sync) (ap Some of) refl
 
 pub sync_restores : SyncRestores
 sync_restores s t me me' intents h well changes user held = by_parents (gained_parents (visible_to s me) t me') refl
@@ -211,9 +211,7 @@ sync_restores s t me me' intents h well changes user held = by_parents (gained_p
     by_parents : (parents : List ℕ) → gained_parents (visible_to s me) t me' ≡ parents → fold_from intents t.id h (option_to_list (sync_if_any t me' parents)) ≡ record h { view = Some (Open (open_view t intents h.known me')) }
     by_parents [] is = ap (λ (view : Option GuildView). record h { view = view }) (held ∙ ap (λ (v : OpenView). Some (Open v)) (without-sync s t me me' intents h.known well changes user is))
     by_parents (p ∷ ps) is =
-        let parents : List ℕ = p ∷ ps in
-        let ts : List ThreadObject = map (thread_object t.id) (threads_in t me' parents) in
-        let ms : List ThreadMemberObject = filter_map (own_membership me'.user.id) (threads_in t me' parents) in
-        folded-sync intents h t.id parents ts ms
-        ∙ (ap (λ (view : Option GuildView). record h { view = on_open (purged intents t.id) (on_open (sync_threads intents parents ts ms) view) }) held
-        ∙ ap (λ (v : OpenView). record h { view = Some (Open v) }) (with-sync s t me me' intents h.known well changes user parents is))
+        let sync : ListSync = listed_sync t.id me'.user.id (p ∷ ps) (threads_in t me' (p ∷ ps)) in
+        folded-sync intents h t.id sync refl
+        ∙ (ap (λ (view : Option GuildView). record h { view = on_open (purged intents t.id) (on_open (sync_threads intents sync) view) }) held
+        ∙ ap (λ (v : OpenView). record h { view = Some (Open v) }) (with-sync s t me me' intents h.known well changes user (p ∷ ps) is))

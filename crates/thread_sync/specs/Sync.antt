@@ -11,6 +11,7 @@ use Rattle.guild_model.specs.Record.{Record, member_id, channel_id, thread_membe
 use Rattle.guild_model.specs.Consistent.{has_threads}
 use Rattle.guild_model.specs.Sight.{Standing, standing, sees, is_private}
 use Rattle.dispatch_types.specs.declared.threads.ThreadMemberObject.{ThreadMemberObject}
+use Rattle.dispatch_types.specs.declared.threads.ThreadListSync.{ThreadListSync as ListSync}
 use Rattle.dispatch_types.specs.declared.dispatch.Dispatch.{Dispatch}
 use Rattle.dispatch_types.specs.declared.dispatch.Dispatch.TheVariants.{ThreadListSync}
 use Rattle.dispatch_types.specs.Objects.{thread_object, thread_member_object}
@@ -47,8 +48,11 @@ abbrev pub own_membership : ℕ → Thread → Option ThreadMemberObject
 own_membership user t = option_map (thread_member_object t.id) (find_id thread_member_id user t.members)
 
 -- the sync of some parents to a user, with these threads
+abbrev pub listed_sync : ℕ → ℕ → List ℕ → List Thread → ListSync
+listed_sync guild user parents ts = record { guild = guild; channels = parents; threads = map (thread_object guild) ts; members = filter_map (own_membership user) ts }
+
 abbrev pub listing : ℕ → ℕ → List ℕ → List Thread → Dispatch
-listing guild user parents ts = ThreadListSync guild parents (map (thread_object guild) ts) (filter_map (own_membership user) ts)
+listing guild user parents ts = ThreadListSync (listed_sync guild user parents ts)
 
 abbrev pub sync_of : Record → Member → List ℕ → Dispatch
 sync_of s me parents = listing s.id me.user.id parents (threads_in s me parents)

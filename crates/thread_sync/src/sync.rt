@@ -12,7 +12,7 @@ ghost use Rattle.thread_sync.specs.Sync.{is_new, uncovers_where, is_gained_where
 use crate::channel_sight::{ChannelSight, shows_among, sights};
 use crate::seen::Seen;
 use collections::{ById, Seq};
-use dispatch_types::{Dispatch, ThreadMemberObject, ThreadObject, Viewer};
+use dispatch_types::{Dispatch, ThreadListSync, ThreadMemberObject, ThreadObject, Viewer};
 use guild_model::{Channel, Guild, Member, Thread};
 use overwrite_eval::StandingRef;
 use snowflake_id::Snowflake;
@@ -146,12 +146,12 @@ pub(crate) fn sync_of(
     ensures { IfOk result (λ told. told ≡ listing guild user parents (map (λ thread. thread.now) threads.now)) }
 {
     let members = own_memberships(alloc, user, threads)?;
-    Ok(Dispatch::ThreadListSync {
+    Ok(Dispatch::ThreadListSync(ThreadListSync {
         guild,
         channels: parents,
         threads: objects(alloc, guild, threads)?,
         members,
-    })
+    }))
 }
 
 /// The sync of what a member sees now and did not see before, `was` being what it saw: each parent that

@@ -5,5 +5,5 @@ use Rattle.client_cache.proofs.guild.threads_of.Given as goal
 
 -- what is made, and what is still to be made of the rest, is what was to be made from the start
 abbrev pub invariant-loop-object : goal.invariant-loop-object
-invariant-loop-object l = (l.threads.items ++ map (joined_thread l.intents l.bot) (into_iter_items l.object-iterator) ≡ map (joined_thread l.intents l.bot) (into_iter_items l.initial.object-iterator))
+invariant-loop-object l = (l.threads.items ++ map (joined_thread l.fold.intents l.fold.bot) (into_iter_items l.object-iterator) ≡ map (joined_thread l.fold.intents l.fold.bot) (into_iter_items l.initial.object-iterator))
     × (into_iter_len l.object-iterator ≡ length (into_iter_items l.object-iterator))

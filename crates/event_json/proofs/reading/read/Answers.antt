@@ -1,4 +1,4 @@
-use Rattle.std.proofs.Common.{◌≡◌, Result, Some, Ok, Err, Option, option_map, inl, inr, sym, ap, ◌∙◌}
+use Rattle.std.proofs.Common.{◌≡◌, Result, Some, Ok, Err, option_map, inl, inr, sym, ap, ◌∙◌}
 use Rattle.std.proofs.Common.{ℕ}
 use Rattle.std.proofs.lemmas.Result.{err_from_is_err_and}
 use Rattle.serde_json.specs.View.{view}
@@ -6,7 +6,7 @@ use Rattle.dispatch_types.specs.declared.dispatch.Dispatch.{Dispatch}
 use Rattle.event_json.specs.declared.fault.DispatchFault.{DispatchFault}
 use Rattle.event_json.specs.declared.fault.DispatchFault.TheVariants.{Memory}
 use Rattle.json_view.specs.Reading.{reading}
-use Rattle.event_json.specs.Read.{candidate, fault_of}
+use Rattle.event_json.specs.Read.{fault_of}
 use Rattle.event_json.specs.Text.{data_of}
 use Rattle.event_json.proofs.Candidates.{same_data, is_candidate, found_fault}
 use Rattle.event_json.proofs.reading.read.Goals as goal

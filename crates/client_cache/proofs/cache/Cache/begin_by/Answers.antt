@@ -1,7 +1,7 @@
 use Rattle.std.proofs.Common.{◌≡◌, Some, None, sym, ap, ◌∙◌}
 use Rattle.std.specs.Option.{option_copied}
 use Rattle.std.proofs.lemmas.Result.{on_ok_weaker}
-use Rattle.client_cache.specs.Told.{ready_of}
+use Rattle.client_cache.specs.Sent.{ready_of}
 use Rattle.client_cache.specs.Cached.{held_of}
 use Rattle.client_cache.proofs.Changes.{changed-ready, changed-none}
 use Rattle.client_cache.proofs.cache.Cache.begin_by.Goals as goal

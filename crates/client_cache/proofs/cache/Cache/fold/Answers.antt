@@ -16,8 +16,8 @@ returns-then-leaves_over-clause-ok c =
 pub returns-clause-ok : goal.returns-clause-ok
 returns-clause-ok c g =
     let intents = c.args.self.now.intents in
-    ap (λ (es : List HeldGuild). held_in c.self.inside.bot es g) c.purge.ensures
-    ∙ (all-purged c.self.inside.bot intents c.self.inside.guilds g
+    ap (λ (es : List HeldGuild). held_in c.self.inside.fold.bot es g) c.purge.ensures
+    ∙ (all-purged c.self.inside.fold.bot intents c.self.inside.guilds g
     ∙ (ap (λ (s : Cached). purge intents g (held_of s g)) c.self.view_is
     ∙ (ap (purge intents g) (c.in_ok-change.ensures.ok g)
     ∙ folded-soon intents g c.args.dispatch (held_of c.args.self.now g) (sym c.leaves_over.ensures ∙ c.if-leaves_over.false))))

@@ -32,6 +32,6 @@ invariant_of-self-2 c =
     ∙ ap (λ (v : List ℕ). if is_some (held_in 0 now c.args.guild).view then v else without_id own_id c.args.guild v) c.in-Ok-put.ensures.ok) in (
       subst (λ (v : List ℕ). AreViewed v now) (sym list)
           (relisted c.args.guild c.self.inside.viewed old now c.self.invariant.0
-          (others-either c.args.guild (entry_after c.args.intents c.args.bot c.args.dispatch (entry_of c.args.guild old)) old now (entry-id c.args.guild old) c.change_entry-changed.result c.change_entry-changed.ensures.ok c.change_entry-changed.ensures.err)),
-      unsettled-after c.args.intents c.args.bot c.args.guild c.args.dispatch c.self.inside.unsettled c.unsettle.new.unsettled old now c.self.invariant.1 marked c.change_entry-changed.result c.change_entry-changed.ensures.ok c.change_entry-changed.ensures.err,
+          (others-either c.args.guild (entry_after c.args.fold.now.intents c.args.fold.now.bot c.args.dispatch (entry_of c.args.guild old)) old now (entry-id c.args.guild old) c.change_entry-changed.result c.change_entry-changed.ensures.ok c.change_entry-changed.ensures.err)),
+      unsettled-after c.args.fold.now.intents c.args.fold.now.bot c.args.guild c.args.dispatch c.self.inside.unsettled c.unsettle.new.unsettled old now c.self.invariant.1 marked c.change_entry-changed.result c.change_entry-changed.ensures.ok c.change_entry-changed.ensures.err,
     )

@@ -1,9 +1,9 @@
 use Rattle.std.proofs.Common.{◌≡◌, ◌++◌, map, length}
 use Rattle.std.specs.Vec.Iter.{into_iter_items, into_iter_len}
 use Rattle.dispatch_types.specs.Fold.{synced_thread}
-use Rattle.client_cache.proofs.threads.synced_threads.Given as goal
+use Rattle.client_cache.proofs.thread_list.synced_threads.Given as goal
 
 -- what is made, and what is still to be made of the rest, is what was to be made from the start
 abbrev pub invariant-loop-object : goal.invariant-loop-object
-invariant-loop-object l = (l.views.items ++ map (synced_thread l.intents l.members) (into_iter_items l.object-iterator) ≡ map (synced_thread l.intents l.members) (into_iter_items l.initial.object-iterator))
+invariant-loop-object l = (l.views.items ++ map (synced_thread l.fold.intents l.members) (into_iter_items l.object-iterator) ≡ map (synced_thread l.fold.intents l.members) (into_iter_items l.initial.object-iterator))
     × (into_iter_len l.object-iterator ≡ length (into_iter_items l.object-iterator))

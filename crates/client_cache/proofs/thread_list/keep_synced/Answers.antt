@@ -4,7 +4,7 @@ use Rattle.std.proofs.lemmas.Fn.{filter_same}
 use Rattle.collections.specs.ById.{has_id}
 use Rattle.guild_model.specs.Record.{own_id}
 use Rattle.dispatch_types.specs.declared.view.ThreadView.{ThreadView}
-use Rattle.client_cache.proofs.threads.keep_synced.Goals as goal
+use Rattle.client_cache.proofs.thread_list.keep_synced.Goals as goal
 
 pub returns : goal.returns
 returns c =

@@ -1,0 +1,42 @@
+//! Dispatches of a guild as a whole: GUILD_CREATE, GUILD_UPDATE and GUILD_DELETE.
+
+use crate::channels::ChannelObject;
+use crate::members::MemberObject;
+use crate::presences::{PresenceObject, VoiceObject};
+use crate::threads::JoinedThread;
+use collections::{Seq, Text};
+use guild_model::Role;
+use snowflake_id::Snowflake;
+
+/// A guild that has become available, or that the bot has joined (Gateway Events, Guild Create).
+#[derive(Drop)]
+pub struct GuildCreate {
+    pub id: Snowflake,
+    pub name: Text,
+    pub owner: Snowflake,
+    pub roles: Seq<Role>,
+    pub channels: Seq<ChannelObject>,
+    pub members: Seq<MemberObject>,
+    pub member_count: u32,
+    pub large: bool,
+    pub threads: Seq<JoinedThread>,
+    pub voices: Seq<VoiceObject>,
+    pub presences: Seq<PresenceObject>,
+}
+
+/// A guild with a new name or owner (Gateway Events, Guild Update).
+#[derive(Drop)]
+pub struct GuildUpdate {
+    pub id: Snowflake,
+    pub name: Text,
+    pub owner: Snowflake,
+}
+
+/// A guild that has become unavailable, or that the bot is no longer in (Gateway Events, Guild
+/// Delete).
+#[derive(Clone, Copy, PartialEq, Eq, Debug)]
+pub struct GuildDelete {
+    pub id: Snowflake,
+    /// An outage, and not the end of the bot's membership.
+    pub unavailable: bool,
+}

@@ -1,0 +1,18 @@
+//! READY.
+
+use crate::viewer::Shard;
+use collections::{Seq, Text};
+use guild_model::User;
+use snowflake_id::Snowflake;
+
+/// The first dispatch of a session (Gateway Events, Ready).
+#[derive(Drop)]
+pub struct Ready {
+    pub user: User,
+    /// The guilds, each unavailable so far.
+    pub guilds: Seq<Snowflake>,
+    pub session: Text,
+    /// The URL for a resume.
+    pub url: Text,
+    pub shard: Option<Shard>,
+}
