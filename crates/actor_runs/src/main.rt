@@ -2,9 +2,9 @@
 //!
 //! Four senders, each on a thread of its own, send the edits of the four scripts of a load at one post,
 //! and an actor on another thread takes them. First the actor has the eight guilds of the load; then the
-//! edits of three guilds are sent, of which the actor has one. For each guild that it has: the entries of its sealed log, how many of them were
-//! accepted, and what its record has after them; then how many requests were for other guilds, and how
-//! many found a full log.
+//! edits of three guilds are sent, of which the actor has one. For each guild that it has, it prints the
+//! entries of its sealed log, how many of them were accepted, and what its record has after them; then
+//! how many requests were for other guilds, and how many found a full log.
 #![tactic(auto)]
 
 mod hubs;

@@ -1,5 +1,5 @@
 -- The lists of a record still ascend after each edit of channels.
-use Rattle.std.proofs.Common.{◌≡◌, ℕ, Bool, true, false, not, List, Option, Some, None, refl}
+use Rattle.std.proofs.Common.{◌≡◌, ℕ, Bool, true, false, not, Option, Some, None, refl}
 use Rattle.std.specs.Prelude.{◌==◌, filter}
 use Rattle.std.proofs.lemmas.List.Elements.{All-filter, All-map, All-weaker}
 use Rattle.collections.specs.ById.{find_id, IsById}
@@ -7,7 +7,6 @@ use Rattle.collections.proofs.Ids.{IsById-put, IsById-changed}
 use Rattle.collections.proofs.Finds.{IsById-filter, IsById-map, IsById-without}
 use Rattle.collections.proofs.Has.{All-found, All-put, All-changed}
 use Rattle.guild_model.specs.declared.channel.Channel.{Channel}
-use Rattle.guild_model.specs.declared.channel.ChannelKind.{ChannelKind}
 use Rattle.guild_model.specs.declared.channel.Overwrite.{Overwrite}
 use Rattle.guild_model.specs.declared.channel.Overwrites.{Overwrites}
 use Rattle.guild_model.specs.declared.channel.OverwriteKind.{OverwriteKind}
@@ -15,9 +14,13 @@ use Rattle.guild_model.specs.declared.channel.OverwriteKind.TheVariants.{Role, M
 use Rattle.guild_model.specs.Record.{Record, overwrite_id, channel_id, thread_id, voice_id}
 use Rattle.guild_model.specs.Ascending.{IsAscending, HasOrderedOverwrites, HasInOrder}
 use Rattle.guild_model.proofs.Recent.{recent_left}
+use Rattle.channel_edit.specs.declared.channel_create.ChannelCreate.{ChannelCreate}
+use Rattle.channel_edit.specs.declared.channel_update.ChannelUpdate.{ChannelUpdate}
+use Rattle.channel_edit.specs.declared.overwrite_set.OverwriteSet.{OverwriteSet}
+use Rattle.channel_edit.specs.declared.overwrite_delete.OverwriteDelete.{OverwriteDelete}
 use Rattle.channel_edit.specs.Channels.{first_overwrites, overwrites_there, new_channel, channel_created, with_settings, with_channel_changed, channel_updated}
 use Rattle.channel_edit.specs.ChannelEnd.{orphaned, is_outside, speaks_outside, stands_outside, channel_deleted}
-use Rattle.channel_edit.specs.OverwriteEdits.{with_overwrite, overwrite_was_set, without_overwrite, overwrite_deleted}
+use Rattle.channel_edit.specs.OverwriteEdits.{with_overwrite, overwrite_of, overwrite_was_set, without_overwrite, overwrite_deleted}
 
 -- overwrites in the order of their ids
 record InOrder (os : Overwrites) : Type 0 where
@@ -35,10 +38,10 @@ module _ (g : Record) (a : IsAscending g) where
   ordered_first (Some parent) true =
       ordered_there (find_id channel_id parent g.channels) (λ c found. All-found channel_id HasOrderedOverwrites parent g.channels c a.overwrites found)
 
-  pub channel_came : (channel : ℕ) (kind : ChannelKind) (name : List ℕ) (parent : Option ℕ) (position : ℕ) (sync : Bool) → IsAscending (channel_created g channel kind name parent position sync)
-  channel_came channel kind name parent position sync =
-      let n : Channel = new_channel g channel kind name parent position sync in
-      let first : InOrder (first_overwrites g parent sync) = ordered_first parent sync in
+  pub channel_came : (edit : ChannelCreate) → IsAscending (channel_created g edit)
+  channel_came edit =
+      let n : Channel = new_channel g edit in
+      let first : InOrder (first_overwrites g edit.parent edit.sync) = ordered_first edit.parent edit.sync in
       let ordered : HasOrderedOverwrites n = record { roles = first.roles; members = first.members } in
       record {
         roles = a.roles;
@@ -67,23 +70,24 @@ module _ (g : Record) (a : IsAscending g) where
     messages = a.messages;
   }
 
-  pub updated : (channel : ℕ) (name : List ℕ) (parent : Option ℕ) (position : ℕ) → IsAscending (channel_updated g channel name parent position)
-  updated channel name parent position =
-      channel_changed channel (with_settings name parent position) (λ c. refl) (λ c o. record { roles = o.roles; members = o.members })
+  pub updated : (edit : ChannelUpdate) → IsAscending (channel_updated g edit)
+  updated edit =
+      channel_changed edit.channel (with_settings edit) (λ c. refl) (λ c o. record { roles = o.roles; members = o.members })
 
   ordered_put : (kind : OverwriteKind) (w : Overwrite) (c : Channel) → HasOrderedOverwrites c → HasOrderedOverwrites (with_overwrite kind w c)
   ordered_put Role w c o = record { roles = IsById-put overwrite_id w c.overwrites.roles o.roles; members = o.members }
   ordered_put Member w c o = record { roles = o.roles; members = IsById-put overwrite_id w c.overwrites.members o.members }
 
-  pub overwrite_set : (channel : ℕ) (kind : OverwriteKind) (w : Overwrite) → IsAscending (overwrite_was_set g channel w.id kind w.allow w.deny)
-  overwrite_set channel kind w = channel_changed channel (with_overwrite kind w) (λ c. refl) (ordered_put kind w)
+  pub overwrite_set : (edit : OverwriteSet) → IsAscending (overwrite_was_set g edit)
+  overwrite_set edit =
+      channel_changed edit.channel (with_overwrite edit.kind (overwrite_of edit)) (λ c. refl) (ordered_put edit.kind (overwrite_of edit))
 
   ordered_left : (kind : OverwriteKind) (id : ℕ) (c : Channel) → HasOrderedOverwrites c → HasOrderedOverwrites (without_overwrite kind id c)
   ordered_left Role id c o = record { roles = IsById-without overwrite_id id c.overwrites.roles o.roles; members = o.members }
   ordered_left Member id c o = record { roles = o.roles; members = IsById-without overwrite_id id c.overwrites.members o.members }
 
-  pub overwrite_gone : (channel id : ℕ) (kind : OverwriteKind) → IsAscending (overwrite_deleted g channel id kind)
-  overwrite_gone channel id kind = channel_changed channel (without_overwrite kind id) (λ c. refl) (ordered_left kind id)
+  pub overwrite_gone : (edit : OverwriteDelete) → IsAscending (overwrite_deleted g edit)
+  overwrite_gone edit = channel_changed edit.channel (without_overwrite edit.kind edit.id) (λ c. refl) (ordered_left edit.kind edit.id)
 
   pub channel_gone : (channel : ℕ) → IsAscending (channel_deleted g channel)
   channel_gone channel =

@@ -8,7 +8,6 @@ use Rattle.collections.specs.ById.{find_id, has_id, put_id, changed_id, without_
 use Rattle.collections.proofs.Finds.{find-put, find-changed, find-without, find-map, find-filter, found-map, found-left, found-filter}
 use Rattle.collections.proofs.Has.{has-put, has-kept, has-left, has-without, has-changed, has-map, changed_alike}
 use Rattle.guild_model.specs.declared.channel.Channel.{Channel}
-use Rattle.guild_model.specs.declared.channel.ChannelKind.{ChannelKind}
 use Rattle.guild_model.specs.declared.channel.Overwrite.{Overwrite}
 use Rattle.guild_model.specs.declared.channel.Overwrites.{Overwrites}
 use Rattle.guild_model.specs.declared.channel.OverwriteKind.{OverwriteKind}
@@ -22,27 +21,31 @@ use Rattle.guild_model.specs.Consistent.{IsConsistent, has_threads, is_parent, i
 use Rattle.guild_model.specs.Tests.{refused_if, too_long, too_many, unknown_channel}
 use Rattle.guild_model.proofs.Tests.{first_passes, not_refused, passed, parent-there}
 use Rattle.guild_model.proofs.Kept.{channels_changed}
+use Rattle.channel_edit.specs.declared.channel_create.ChannelCreate.{ChannelCreate}
+use Rattle.channel_edit.specs.declared.channel_update.ChannelUpdate.{ChannelUpdate}
+use Rattle.channel_edit.specs.declared.overwrite_set.OverwriteSet.{OverwriteSet}
+use Rattle.channel_edit.specs.declared.overwrite_delete.OverwriteDelete.{OverwriteDelete}
 use Rattle.channel_edit.specs.Channels.{unknown_parent, wrong_parent, first_overwrites, overwrites_there, new_channel, channel_create_verdict, channel_created, with_settings, with_channel_changed, channel_updated}
 use Rattle.channel_edit.specs.ChannelEnd.{orphaned, is_outside, speaks_outside, is_in_channel, stands_outside, channel_deleted}
-use Rattle.channel_edit.specs.OverwriteEdits.{unknown_target, without_room, overwrite_set_verdict, put_overwrite, with_overwrite, overwrite_was_set, drop_overwrite, without_overwrite, overwrite_deleted, overwrites_with, with_overwrites}
+use Rattle.channel_edit.specs.OverwriteEdits.{unknown_target, without_room, overwrite_set_verdict, put_overwrite, with_overwrite, overwrite_of, overwrite_was_set, drop_overwrite, without_overwrite, overwrite_deleted, overwrites_with, with_overwrites}
 
 -- what the tests let through
-place_free : (g : Record) (channel : ℕ) (kind : ChannelKind) (name : List ℕ) (parent : Option ℕ) → channel_create_verdict g channel kind name parent ≡ None → is_place g channel ≡ false
-place_free g channel kind name parent e =
-    not_refused (is_place g channel) IdTaken
-    (first_passes (refused_if (is_place g channel) IdTaken) (unknown_parent g parent ∷ wrong_parent g kind parent ∷ too_many 500 (length g.channels) ∷ too_long 100 name ∷ []) e).0
+place_free : (g : Record) (edit : ChannelCreate) → channel_create_verdict g edit ≡ None → is_place g edit.channel ≡ false
+place_free g edit e =
+    let later = unknown_parent g edit.parent ∷ wrong_parent g edit.kind edit.parent ∷ too_many 500 (length g.channels) ∷ too_long 100 edit.name ∷ [] in
+    not_refused (is_place g edit.channel) IdTaken (first_passes (refused_if (is_place g edit.channel) IdTaken) later e).0
 
-target_there : (g : Record) (channel id : ℕ) (kind : OverwriteKind) → overwrite_set_verdict g channel id kind ≡ None → unknown_target g id kind ≡ None
-target_there g channel id kind e =
-    let room = without_room (find_id channel_id channel g.channels) id kind in
-    (first_passes (unknown_target g id kind) (room ∷ []) (first_passes (unknown_channel g channel) (unknown_target g id kind ∷ room ∷ []) e).1).0
+target_there : (g : Record) (edit : OverwriteSet) → overwrite_set_verdict g edit ≡ None → unknown_target g edit.id edit.kind ≡ None
+target_there g edit e =
+    let room = without_room (find_id channel_id edit.channel g.channels) edit.id edit.kind in
+    let target = unknown_target g edit.id edit.kind in
+    (first_passes target (room ∷ []) (first_passes (unknown_channel g edit.channel) (target ∷ room ∷ []) e).1).0
 
 -- a channel is given the overwrites that it has and one more
-pub set_as : (g : Record) (channel : ℕ) (kind : OverwriteKind) (o : Overwrite) (os : Overwrites) → os ≡ overwrites_with g channel kind o
-    → with_channel_changed g channel (with_overwrites os) ≡ overwrite_was_set g channel o.id kind o.allow o.deny
-set_as g channel kind o os e =
-    let same : changed_id channel_id channel (with_overwrites os) g.channels ≡ changed_id channel_id channel (with_overwrite kind o) g.channels =
-    changed_alike channel_id channel _ _ g.channels (λ c found. rw (e, found) refl) in
+pub set_as : (g : Record) (edit : OverwriteSet) (os : Overwrites) → os ≡ overwrites_with g edit → with_channel_changed g edit.channel (with_overwrites os) ≡ overwrite_was_set g edit
+set_as g edit os e =
+    let same : changed_id channel_id edit.channel (with_overwrites os) g.channels ≡ changed_id channel_id edit.channel (with_overwrite edit.kind (overwrite_of edit)) g.channels =
+    changed_alike channel_id edit.channel _ _ g.channels (λ c found. rw (e, found) refl) in
     ap (λ cs. record g { channels = cs }) same
 
 keep_none : {T : Type 0} (p : T → Bool) (o : Option T) → is_some o ≡ false → is_some (keep_if p o) ≡ false
@@ -75,8 +78,8 @@ module _ (g : Record) (is_open : g.opened ≡ true) (h : IsConsistent g) where
       (λ channel role c found there.
       found_changed (at == channel) f c (find_id channel_id channel g.channels) keeps (λ c e role. h.overwritten channel role c e) (sym (find-changed channel_id at f same channel g.channels) ∙ found) role there)
 
-  pub updated : (channel : ℕ) (name : List ℕ) (parent : Option ℕ) (position : ℕ) → IsConsistent (channel_updated g channel name parent position)
-  updated channel name parent position = channel_changed channel (with_settings name parent position) (λ c. refl) (λ c. refl) (λ c old. old)
+  pub updated : (edit : ChannelUpdate) → IsConsistent (channel_updated g edit)
+  updated edit = channel_changed edit.channel (with_settings edit) (λ c. refl) (λ c. refl) (λ c old. old)
 
   covered_set : (o : Overwrite) (kind : OverwriteKind) → unknown_target g o.id kind ≡ None → (os : Overwrites) → Covered os → Covered (put_overwrite kind o os)
   covered_set o Member e os old role there = old role there
@@ -88,17 +91,17 @@ module _ (g : Record) (is_open : g.opened ≡ true) (h : IsConsistent g) where
       by_test true is_same either is = let same : o.id ≡ role = grind (arith, nat_tests) in subst (λ (r : ℕ). has_id role_id r g.roles ≡ true) same is
       by_test false is_other either is = old role either
 
-  pub overwrite_set : (channel : ℕ) (kind : OverwriteKind) (o : Overwrite) → overwrite_set_verdict g channel o.id kind ≡ None → IsConsistent (overwrite_was_set g channel o.id kind o.allow o.deny)
-  overwrite_set channel kind o accepted =
-      channel_changed channel (with_overwrite kind o) (λ c. refl) (λ c. refl)
-      (λ c old. covered_set o kind (target_there g channel o.id kind accepted) c.overwrites old)
+  pub overwrite_set : (edit : OverwriteSet) → overwrite_set_verdict g edit ≡ None → IsConsistent (overwrite_was_set g edit)
+  overwrite_set edit accepted =
+      channel_changed edit.channel (with_overwrite edit.kind (overwrite_of edit)) (λ c. refl) (λ c. refl)
+      (λ c old. covered_set (overwrite_of edit) edit.kind (target_there g edit accepted) c.overwrites old)
 
   covered_left : (id : ℕ) (kind : OverwriteKind) (os : Overwrites) → Covered os → Covered (drop_overwrite kind id os)
   covered_left id Member os old role there = old role there
   covered_left id Role os old role there = old role (has-left overwrite_id id role os.roles there).1
 
-  pub overwrite_gone : (channel id : ℕ) (kind : OverwriteKind) → IsConsistent (overwrite_deleted g channel id kind)
-  overwrite_gone channel id kind = channel_changed channel (without_overwrite kind id) (λ c. refl) (λ c. refl) (λ c old. covered_left id kind c.overwrites old)
+  pub overwrite_gone : (edit : OverwriteDelete) → IsConsistent (overwrite_deleted g edit)
+  overwrite_gone edit = channel_changed edit.channel (without_overwrite edit.kind edit.id) (λ c. refl) (λ c. refl) (λ c old. covered_left edit.id edit.kind c.overwrites old)
 
   -- a channel comes
   covered_there : (o : Option Channel) → ((c : Channel) → o ≡ Some c → Covered c.overwrites) → Covered (overwrites_there o)
@@ -128,17 +131,18 @@ module _ (g : Record) (is_open : g.opened ≡ true) (h : IsConsistent g) where
   still_place : (n : Channel) (id : ℕ) → is_place g id ≡ true → (has_id channel_id id (put_id channel_id n g.channels) || has_id thread_id id g.threads) ≡ true
   still_place n id there = grind (arith, has-put channel_id n id g.channels)
 
-  pub channel_came : (channel : ℕ) (kind : ChannelKind) (name : List ℕ) (parent : Option ℕ) (position : ℕ) (sync : Bool) → channel_create_verdict g channel kind name parent ≡ None → IsConsistent (channel_created g channel kind name parent position sync)
-  channel_came channel kind name parent position sync accepted =
-      let n : Channel = new_channel g channel kind name parent position sync in
-      let free = or_parts (has_id channel_id channel g.channels) (has_id thread_id channel g.threads) (place_free g channel kind name parent accepted) in
+  pub channel_came : (edit : ChannelCreate) → channel_create_verdict g edit ≡ None → IsConsistent (channel_created g edit)
+  channel_came edit accepted =
+      let channel = edit.channel in
+      let n : Channel = new_channel g edit in
+      let free = or_parts (has_id channel_id channel g.channels) (has_id thread_id channel g.threads) (place_free g edit accepted) in
       record {
         empty = λ closed. absurd (cc (is_open, closed));
         everyone = h.everyone;
         owner = h.owner;
         held = h.held;
         overwritten = λ id role c found there.
-            found_put (channel == id) c n (find_id channel_id id g.channels) (covered_first parent sync) (λ e role. h.overwritten id role c e) (sym (find-put channel_id n id g.channels) ∙ found) role there;
+            found_put (channel == id) c n (find_id channel_id id g.channels) (covered_first edit.parent edit.sync) (λ e role. h.overwritten id role c e) (sym (find-put channel_id n id g.channels) ∙ found) role there;
         voices = λ user v found. let old = h.voices user v found in (old.0, has-kept channel_id n v.channel g.channels old.1);
         presences = h.presences;
         parents = λ thread t found.
@@ -147,7 +151,7 @@ module _ (g : Record) (is_open : g.opened ≡ true) (h : IsConsistent g) where
             ap is_parent (find-put channel_id n t.parent g.channels) ∙ other_parent (channel == t.parent) n (find_id channel_id t.parent g.channels) other was;
         joined = h.joined;
         apart = λ id there. apart_from channel id free.1 (sym (has-put channel_id n id g.channels) ∙ there);
-        places = All-weaker (λ (m : MessageHead). is_place g m.place ≡ true) (λ (m : MessageHead). is_place (channel_created g channel kind name parent position sync) m.place ≡ true)
+        places = All-weaker (λ (m : MessageHead). is_place g m.place ≡ true) (λ (m : MessageHead). is_place (channel_created g edit) m.place ≡ true)
             (λ m there. still_place n m.place there) g.messages h.places;
       }
     where

@@ -1,6 +1,5 @@
 -- An edit of channels leaves a record well.
 use Rattle.std.proofs.Common.{◌≡◌, true, None}
-use Rattle.guild_model.specs.declared.channel.Overwrite.{Overwrite}
 use Rattle.guild_model.specs.Record.{Record}
 use Rattle.guild_model.specs.Ascending.{IsWell}
 use Rattle.channel_edit.specs.declared.ChannelEdit.{ChannelEdit}
@@ -10,14 +9,9 @@ use Rattle.channel_edit.proofs.Kept.{channel_came, updated, channel_gone, overwr
 use Rattle.channel_edit.proofs.Ascends
 
 pub well : (g : Record) (edit : ChannelEdit) → g.opened ≡ true → IsWell g → channel_verdict g edit ≡ None → IsWell (channel_applied g edit)
-well g (ChannelCreate channel kind name parent position sync) o w e =
-    record { ascending = Ascends.channel_came g w.ascending channel kind name parent position sync; consistent = channel_came g o w.consistent channel kind name parent position sync e }
-well g (ChannelUpdate channel name parent position) o w e =
-    record { ascending = Ascends.updated g w.ascending channel name parent position; consistent = updated g o w.consistent channel name parent position }
+well g (ChannelCreate edit) o w e = record { ascending = Ascends.channel_came g w.ascending edit; consistent = channel_came g o w.consistent edit e }
+well g (ChannelUpdate edit) o w e = record { ascending = Ascends.updated g w.ascending edit; consistent = updated g o w.consistent edit }
 well g (ChannelDelete channel) o w e =
     record { ascending = Ascends.channel_gone g w.ascending channel; consistent = channel_gone g o w.consistent w.ascending.threads w.ascending.voices channel }
-well g (OverwriteSet channel id kind allow deny) o w e =
-    let overwrite : Overwrite = record { id = id; allow = allow; deny = deny } in
-    record { ascending = Ascends.overwrite_set g w.ascending channel kind overwrite; consistent = overwrite_set g o w.consistent channel kind overwrite e }
-well g (OverwriteDelete channel id kind) o w e =
-    record { ascending = Ascends.overwrite_gone g w.ascending channel id kind; consistent = overwrite_gone g o w.consistent channel id kind }
+well g (OverwriteSet edit) o w e = record { ascending = Ascends.overwrite_set g w.ascending edit; consistent = overwrite_set g o w.consistent edit e }
+well g (OverwriteDelete edit) o w e = record { ascending = Ascends.overwrite_gone g w.ascending edit; consistent = overwrite_gone g o w.consistent edit }

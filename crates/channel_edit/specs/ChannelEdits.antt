@@ -10,16 +10,16 @@ use Rattle.channel_edit.specs.OverwriteEdits.{overwrite_set_verdict, overwrite_w
 
 -- why an edit of an open guild is refused, if it is
 abbrev pub channel_verdict : Record → ChannelEdit → Option Verdict
-channel_verdict g (ChannelCreate channel kind name parent position sync) = channel_create_verdict g channel kind name parent
-channel_verdict g (ChannelUpdate channel name parent position) = channel_update_verdict g channel name parent
+channel_verdict g (ChannelCreate edit) = channel_create_verdict g edit
+channel_verdict g (ChannelUpdate edit) = channel_update_verdict g edit
 channel_verdict g (ChannelDelete channel) = channel_delete_verdict g channel
-channel_verdict g (OverwriteSet channel id kind allow deny) = overwrite_set_verdict g channel id kind
-channel_verdict g (OverwriteDelete channel id kind) = overwrite_delete_verdict g channel id kind
+channel_verdict g (OverwriteSet edit) = overwrite_set_verdict g edit
+channel_verdict g (OverwriteDelete edit) = overwrite_delete_verdict g edit
 
 -- the record after an edit that is not refused
 abbrev pub channel_applied : Record → ChannelEdit → Record
-channel_applied g (ChannelCreate channel kind name parent position sync) = channel_created g channel kind name parent position sync
-channel_applied g (ChannelUpdate channel name parent position) = channel_updated g channel name parent position
+channel_applied g (ChannelCreate edit) = channel_created g edit
+channel_applied g (ChannelUpdate edit) = channel_updated g edit
 channel_applied g (ChannelDelete channel) = channel_deleted g channel
-channel_applied g (OverwriteSet channel id kind allow deny) = overwrite_was_set g channel id kind allow deny
-channel_applied g (OverwriteDelete channel id kind) = overwrite_deleted g channel id kind
+channel_applied g (OverwriteSet edit) = overwrite_was_set g edit
+channel_applied g (OverwriteDelete edit) = overwrite_deleted g edit

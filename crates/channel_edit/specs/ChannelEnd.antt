@@ -1,4 +1,4 @@
--- A channel that goes (Channels Resource, Delete/Close Channel).
+-- A channel that is deleted (Channels Resource, Delete/Close Channel).
 use Rattle.std.specs.Prelude.{ℕ, List, Bool, false, not, ◌||◌, ◌==◌, map, filter, Option, Some, None}
 use Rattle.collections.specs.ById.{find_id, without_id, keep_if}
 use Rattle.guild_model.specs.declared.channel.Channel.{Channel}
@@ -12,7 +12,7 @@ use Rattle.guild_model.specs.Tests.{unknown_channel}
 abbrev pub channel_delete_verdict : Record → ℕ → Option Verdict
 channel_delete_verdict g channel = unknown_channel g channel
 
--- a child of the channel has no parent then
+-- a child of the deleted channel has no parent after that
 abbrev pub orphaned : ℕ → Channel → Channel
 orphaned channel c = record c { parent = keep_if (λ parent. not (parent == channel)) c.parent }
 
@@ -37,7 +37,7 @@ stands_outside threads channel m = not (is_within threads channel m.place)
 abbrev pub stands_in_no_thread : List Thread → ℕ → MessageHead → Bool
 stands_in_no_thread threads channel m = not (is_in_channel channel (find_id thread_id m.place threads))
 
--- with the channel go its threads, the voice states in it and the messages in it and in its threads
+-- its threads, the voice states in it and the messages in it and in its threads are deleted with it
 abbrev pub channel_deleted : Record → ℕ → Record
 channel_deleted g channel = record g {
   channels = map (orphaned channel) (without_id channel_id channel g.channels);

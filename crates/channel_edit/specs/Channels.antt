@@ -1,5 +1,6 @@
--- Channels that come and change (Guild Resource, Create Guild Channel; Channels Resource, Modify Channel).
-use Rattle.std.specs.Prelude.{ℕ, length, List, [], ◌∷◌, Bool, true, false, not, ◌||◌, Option, Some, None}
+-- Channels that are created and changed (Guild Resource, Create Guild Channel; Channels Resource,
+-- Modify Channel).
+use Rattle.std.specs.Prelude.{ℕ, length, [], ◌∷◌, Bool, true, false, not, ◌||◌, Option, Some, None}
 use Rattle.collections.specs.ById.{find_id, put_id, changed_id}
 use Rattle.guild_model.specs.declared.channel.Channel.{Channel}
 use Rattle.guild_model.specs.declared.channel.ChannelKind.{ChannelKind}
@@ -10,6 +11,8 @@ use Rattle.guild_model.specs.declared.verdict.Verdict.TheVariants.{IdTaken, Wron
 use Rattle.guild_model.specs.Record.{Record, channel_id}
 use Rattle.guild_model.specs.Consistent.{is_place}
 use Rattle.guild_model.specs.Tests.{refused_if, first_of, too_long, too_many, unknown_channel}
+use Rattle.channel_edit.specs.declared.channel_create.ChannelCreate.{ChannelCreate}
+use Rattle.channel_edit.specs.declared.channel_update.ChannelUpdate.{ChannelUpdate}
 
 abbrev pub is_category : ChannelKind → Bool
 is_category channel.Category = true
@@ -31,11 +34,18 @@ unknown_parent g (Some parent) = unknown_channel g parent
 -- and it is a category, which itself has no parent
 abbrev pub wrong_parent : Record → ChannelKind → Option ℕ → Option Verdict
 wrong_parent g kind None = None
-wrong_parent g kind (Some parent) = refused_if (is_category kind || not (is_category_there (find_id channel_id parent g.channels))) WrongType
+wrong_parent g kind (Some parent) =
+    refused_if (is_category kind || not (is_category_there (find_id channel_id parent g.channels))) WrongType
 
 -- channel_create
-abbrev pub channel_create_verdict : Record → ℕ → ChannelKind → List ℕ → Option ℕ → Option Verdict
-channel_create_verdict g channel kind name parent = first_of (refused_if (is_place g channel) IdTaken ∷ unknown_parent g parent ∷ wrong_parent g kind parent ∷ too_many 500 (length g.channels) ∷ too_long 100 name ∷ [])
+abbrev pub channel_create_verdict : Record → ChannelCreate → Option Verdict
+channel_create_verdict g edit = first_of (
+    refused_if (is_place g edit.channel) IdTaken
+    ∷ unknown_parent g edit.parent
+    ∷ wrong_parent g edit.kind edit.parent
+    ∷ too_many 500 (length g.channels)
+    ∷ too_long 100 edit.name
+    ∷ [])
 
 abbrev pub no_overwrites : Overwrites
 no_overwrites = record { roles = []; members = [] }
@@ -50,25 +60,37 @@ first_overwrites g None sync = no_overwrites
 first_overwrites g (Some parent) false = no_overwrites
 first_overwrites g (Some parent) true = overwrites_there (find_id channel_id parent g.channels)
 
-abbrev pub new_channel : Record → ℕ → ChannelKind → List ℕ → Option ℕ → ℕ → Bool → Channel
-new_channel g channel kind name parent position sync = record { id = channel; kind = kind; name = name; parent = parent; position = position; overwrites = first_overwrites g parent sync }
+abbrev pub new_channel : Record → ChannelCreate → Channel
+new_channel g edit = record {
+  id = edit.channel;
+  kind = edit.kind;
+  name = edit.name;
+  parent = edit.parent;
+  position = edit.position;
+  overwrites = first_overwrites g edit.parent edit.sync;
+}
 
-abbrev pub channel_created : Record → ℕ → ChannelKind → List ℕ → Option ℕ → ℕ → Bool → Record
-channel_created g channel kind name parent position sync = record g { channels = put_id channel_id (new_channel g channel kind name parent position sync) g.channels }
+abbrev pub channel_created : Record → ChannelCreate → Record
+channel_created g edit = record g { channels = put_id channel_id (new_channel g edit) g.channels }
 
 -- channel_update: the type and the overwrites stay
 abbrev pub wrong_parent_of : Record → Option Channel → Option ℕ → Option Verdict
 wrong_parent_of g None parent = None
 wrong_parent_of g (Some c) parent = wrong_parent g c.kind parent
 
-abbrev pub channel_update_verdict : Record → ℕ → List ℕ → Option ℕ → Option Verdict
-channel_update_verdict g channel name parent = first_of (unknown_channel g channel ∷ unknown_parent g parent ∷ wrong_parent_of g (find_id channel_id channel g.channels) parent ∷ too_long 100 name ∷ [])
+abbrev pub channel_update_verdict : Record → ChannelUpdate → Option Verdict
+channel_update_verdict g edit = first_of (
+    unknown_channel g edit.channel
+    ∷ unknown_parent g edit.parent
+    ∷ wrong_parent_of g (find_id channel_id edit.channel g.channels) edit.parent
+    ∷ too_long 100 edit.name
+    ∷ [])
 
-abbrev pub with_settings : List ℕ → Option ℕ → ℕ → Channel → Channel
-with_settings name parent position c = record c { name = name; parent = parent; position = position }
+abbrev pub with_settings : ChannelUpdate → Channel → Channel
+with_settings edit c = record c { name = edit.name; parent = edit.parent; position = edit.position }
 
 abbrev pub with_channel_changed : Record → ℕ → (Channel → Channel) → Record
 with_channel_changed g channel change = record g { channels = changed_id channel_id channel change g.channels }
 
-abbrev pub channel_updated : Record → ℕ → List ℕ → Option ℕ → ℕ → Record
-channel_updated g channel name parent position = with_channel_changed g channel (with_settings name parent position)
+abbrev pub channel_updated : Record → ChannelUpdate → Record
+channel_updated g edit = with_channel_changed g edit.channel (with_settings edit)

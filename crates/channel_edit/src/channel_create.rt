@@ -1,4 +1,4 @@
-//! `channel_create`: a channel comes (Gateway Events, Channel Create).
+//! `channel_create`: creates a channel (Gateway Events, Channel Create).
 
 ghost use Rattle.std.specs.Prelude.{◌≡◌, None, true, OnOk, OnErr, IfOk};
 ghost use Rattle.guild_model.specs.Tests.{outcome};
@@ -12,24 +12,45 @@ use guild_model::{Channel, ChannelKind, Guild, Overwrites, Verdict, limits, rule
 use snowflake_id::Snowflake;
 use std::alloc::{AllocError, Global};
 
+/// A new channel. With `sync` and a parent it has the parent's overwrites, else none.
+#[derive(Drop)]
+pub struct ChannelCreate {
+    pub channel: Snowflake,
+    pub kind: ChannelKind,
+    pub name: Text,
+    pub parent: Option<Snowflake>,
+    pub position: u32,
+    pub sync: bool,
+}
+
+impl ChannelCreate {
+    /// An equal value.
+    pub fn copy(&self, alloc: Global) -> Result<ChannelCreate, AllocError>
+        ensures { IfOk result (λ copy. copy ≡ self.now) }
+    {
+        Ok(ChannelCreate {
+            channel: self.channel,
+            kind: self.kind,
+            name: self.name.copy(alloc)?,
+            parent: self.parent,
+            position: self.position,
+            sync: self.sync,
+        })
+    }
+}
+
 /// Refused in this order: `IdTaken` where a channel or a thread has the id, `UnknownChannel` for the
 /// parent, `WrongType` for it, `TooMany`, `TooLong` for the name.
-pub fn check(
-    guild: &Guild,
-    channel: Snowflake,
-    kind: ChannelKind,
-    name: &Text,
-    parent: &Option<Snowflake>,
-) -> Result<(), Verdict>
-    ensures { result ≡ outcome (channel_create_verdict guild.now channel kind name.now parent.now) }
+pub fn check(guild: &Guild, edit: &ChannelCreate) -> Result<(), Verdict>
+    ensures { result ≡ outcome (channel_create_verdict guild.now edit.now) }
 {
-    if guild.has_place(channel) {
+    if guild.has_place(edit.channel) {
         return Err(Verdict::IdTaken);
     }
-    knows_parent(guild, parent)?;
-    fits_parent(guild, kind, parent)?;
+    knows_parent(guild, &edit.parent)?;
+    fits_parent(guild, edit.kind, &edit.parent)?;
     rules::has_room(guild.channels.len(), limits::CHANNELS)?;
-    rules::within(name, limits::NAME_BYTES)
+    rules::within(&edit.name, limits::NAME_BYTES)
 }
 
 fn copied(alloc: Global, guild: &Guild, channel: Snowflake) -> Result<Overwrites, AllocError>
@@ -55,29 +76,20 @@ fn overwrites_for(
     }
 }
 
-/// Adds the channel. Want of memory leaves the record as before.
-pub fn apply(
-    alloc: Global,
-    guild: &mut Guild,
-    channel: Snowflake,
-    kind: ChannelKind,
-    name: Text,
-    parent: Option<Snowflake>,
-    position: u32,
-    sync: bool,
-) -> Result<(), AllocError>
+/// Adds the channel. If it runs out of memory, the record stays as it was.
+pub fn apply(alloc: Global, guild: &mut Guild, edit: ChannelCreate) -> Result<(), AllocError>
     requires open { guild.old.opened ≡ true }
-    requires accepted { channel_create_verdict guild.old channel kind name parent ≡ None }
-    ensures ok { OnOk result (guild.new ≡ channel_created guild.old channel kind name parent position sync) }
+    requires accepted { channel_create_verdict guild.old edit ≡ None }
+    ensures ok { OnOk result (guild.new ≡ channel_created guild.old edit) }
     ensures err { OnErr result (guild.new ≡ guild.old) }
 {
-    let overwrites = overwrites_for(alloc, guild, &parent, sync)?;
+    let overwrites = overwrites_for(alloc, guild, &edit.parent, edit.sync)?;
     guild.channels.insert(Channel {
-        id: channel,
-        kind,
-        name,
-        parent,
-        position,
+        id: edit.channel,
+        kind: edit.kind,
+        name: edit.name,
+        parent: edit.parent,
+        position: edit.position,
         overwrites,
     })?;
     Ok(())

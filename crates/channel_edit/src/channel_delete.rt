@@ -1,5 +1,5 @@
-//! `channel_delete`: a channel goes, with its threads, the messages in it and in them, and the voice
-//! states in it; its children have no parent then (Gateway Events, Channel Delete).
+//! `channel_delete`: deletes a channel, with its threads, the messages in it and in them, and the
+//! voice states in it. Its children have no parent after that (Gateway Events, Channel Delete).
 
 ghost use Rattle.std.specs.Prelude.{◌≡◌, None, true, refl, filter};
 ghost use Rattle.guild_model.specs.Tests.{outcome};
@@ -18,7 +18,7 @@ pub fn check(guild: &Guild, channel: Snowflake) -> Result<(), Verdict>
     rules::knows_channel(guild, channel)
 }
 
-/// A channel has no parent where that is the one that goes.
+/// Clears a channel's parent where that is the deleted channel.
 #[derive(Clone, Copy)]
 struct Orphan(Snowflake);
 
@@ -66,7 +66,7 @@ fn drop_voices(voices: &mut ById<Voice>, channel: Snowflake)
     voices.retain(|voice| voice.channel != channel);
 }
 
-/// Takes the channel away.
+/// Deletes the channel, with all that is in it.
 pub fn apply(guild: &mut Guild, channel: Snowflake)
     requires open { guild.old.opened ≡ true }
     requires accepted { channel_delete_verdict guild.old channel ≡ None }

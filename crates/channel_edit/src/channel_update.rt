@@ -1,7 +1,7 @@
-//! `channel_update`: a channel has another name, parent and position; its type and its overwrites
-//! stay (Gateway Events, Channel Update).
+//! `channel_update`: replaces a channel's name, parent and position; its type and its overwrites stay
+//! (Gateway Events, Channel Update).
 
-ghost use Rattle.std.specs.Prelude.{◌≡◌, None, true, refl};
+ghost use Rattle.std.specs.Prelude.{◌≡◌, None, true, refl, IfOk};
 ghost use Rattle.guild_model.specs.Tests.{outcome};
 ghost use Rattle.guild_model.specs.Record.{channel_id};
 ghost use Rattle.collections.specs.ById.{find_id};
@@ -11,6 +11,30 @@ use crate::parent::{fits_parent, knows_parent};
 use collections::{Change, Text};
 use guild_model::{Channel, Guild, Verdict, limits, rules};
 use snowflake_id::Snowflake;
+use std::alloc::{AllocError, Global};
+
+/// A channel's new name, parent and position.
+#[derive(Drop)]
+pub struct ChannelUpdate {
+    pub channel: Snowflake,
+    pub name: Text,
+    pub parent: Option<Snowflake>,
+    pub position: u32,
+}
+
+impl ChannelUpdate {
+    /// An equal value.
+    pub fn copy(&self, alloc: Global) -> Result<ChannelUpdate, AllocError>
+        ensures { IfOk result (λ copy. copy ≡ self.now) }
+    {
+        Ok(ChannelUpdate {
+            channel: self.channel,
+            name: self.name.copy(alloc)?,
+            parent: self.parent,
+            position: self.position,
+        })
+    }
+}
 
 fn fits_parent_of(
     guild: &Guild,
@@ -27,29 +51,17 @@ fn fits_parent_of(
 
 /// Refused in this order: `UnknownChannel`, `UnknownChannel` for the parent, `WrongType` for it,
 /// `TooLong` for the name.
-pub fn check(
-    guild: &Guild,
-    channel: Snowflake,
-    name: &Text,
-    parent: &Option<Snowflake>,
-) -> Result<(), Verdict>
-    ensures { result ≡ outcome (channel_update_verdict guild.now channel name.now parent.now) }
+pub fn check(guild: &Guild, edit: &ChannelUpdate) -> Result<(), Verdict>
+    ensures { result ≡ outcome (channel_update_verdict guild.now edit.now) }
 {
-    rules::knows_channel(guild, channel)?;
-    knows_parent(guild, parent)?;
-    fits_parent_of(guild, channel, parent)?;
-    rules::within(name, limits::NAME_BYTES)
+    rules::knows_channel(guild, edit.channel)?;
+    knows_parent(guild, &edit.parent)?;
+    fits_parent_of(guild, edit.channel, &edit.parent)?;
+    rules::within(&edit.name, limits::NAME_BYTES)
 }
 
-#[derive(Drop)]
-struct Settings {
-    name: Text,
-    parent: Option<Snowflake>,
-    position: u32,
-}
-
-impl Change<Channel> for Settings {
-    ghost changed = { λ change c. with_settings change.name change.parent change.position c };
+impl Change<Channel> for ChannelUpdate {
+    ghost changed = { λ change c. with_settings change c };
 
     fn change(self, channel: &mut Channel) {
         channel.name = self.name;
@@ -61,21 +73,11 @@ impl Change<Channel> for Settings {
 }
 
 /// Sets name, parent and position.
-pub fn apply(
-    guild: &mut Guild,
-    channel: Snowflake,
-    name: Text,
-    parent: Option<Snowflake>,
-    position: u32,
-)
+pub fn apply(guild: &mut Guild, edit: ChannelUpdate)
     requires open { guild.old.opened ≡ true }
-    requires accepted { channel_update_verdict guild.old channel name parent ≡ None }
-    ensures { guild.new ≡ channel_updated guild.old channel name parent position }
+    requires accepted { channel_update_verdict guild.old edit ≡ None }
+    ensures { guild.new ≡ channel_updated guild.old edit }
 {
-    let settings = Settings {
-        name,
-        parent,
-        position,
-    };
-    guild.channels.change(channel.0, settings);
+    let channel = edit.channel;
+    guild.channels.change(channel.0, edit);
 }

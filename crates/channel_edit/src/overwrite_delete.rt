@@ -1,4 +1,4 @@
-//! `overwrite_delete`: a channel's overwrite of a role or a member goes (Gateway Events, Channel
+//! `overwrite_delete`: deletes a channel's overwrite of a role or a member (Gateway Events, Channel
 //! Update).
 
 ghost use Rattle.std.specs.Prelude.{◌≡◌, None, true, refl};
@@ -11,6 +11,14 @@ use crate::overwrite_set::holds_overwrite;
 use collections::Change;
 use guild_model::{Channel, Guild, OverwriteKind, Verdict, rules};
 use snowflake_id::Snowflake;
+
+/// The overwrite that is deleted: its channel, and the role or member that it is of.
+#[derive(Clone, Copy)]
+pub struct OverwriteDelete {
+    pub channel: Snowflake,
+    pub id: Snowflake,
+    pub kind: OverwriteKind,
+}
 
 fn unknown(kind: OverwriteKind) -> Verdict
     ensures { result ≡ unknown_of kind }
@@ -40,25 +48,14 @@ fn knows_overwrite(
 
 /// Refused in this order: `UnknownChannel`; where there is no such overwrite, `UnknownRole` for one
 /// of a role and `UnknownMember` for one of a member.
-pub fn check(
-    guild: &Guild,
-    channel: Snowflake,
-    id: Snowflake,
-    kind: OverwriteKind,
-) -> Result<(), Verdict>
-    ensures { result ≡ outcome (overwrite_delete_verdict guild.now channel id kind) }
+pub fn check(guild: &Guild, edit: &OverwriteDelete) -> Result<(), Verdict>
+    ensures { result ≡ outcome (overwrite_delete_verdict guild.now edit.now) }
 {
-    rules::knows_channel(guild, channel)?;
-    knows_overwrite(guild, channel, id, kind)
+    rules::knows_channel(guild, edit.channel)?;
+    knows_overwrite(guild, edit.channel, edit.id, edit.kind)
 }
 
-#[derive(Drop)]
-struct WithoutOverwrite {
-    id: Snowflake,
-    kind: OverwriteKind,
-}
-
-impl Change<Channel> for WithoutOverwrite {
+impl Change<Channel> for OverwriteDelete {
     ghost changed = { λ change c. without_overwrite change.kind change.id c };
 
     fn change(self, channel: &mut Channel) {
@@ -71,13 +68,12 @@ impl Change<Channel> for WithoutOverwrite {
     ghost keeps_key = { λ change c. refl };
 }
 
-/// Takes the overwrite away.
-pub fn apply(guild: &mut Guild, channel: Snowflake, id: Snowflake, kind: OverwriteKind)
+/// Deletes the overwrite.
+pub fn apply(guild: &mut Guild, edit: OverwriteDelete)
     requires open { guild.old.opened ≡ true }
-    requires accepted { overwrite_delete_verdict guild.old channel id kind ≡ None }
-    ensures { guild.new ≡ overwrite_deleted guild.old channel id kind }
+    requires accepted { overwrite_delete_verdict guild.old edit ≡ None }
+    ensures { guild.new ≡ overwrite_deleted guild.old edit }
 {
-    guild
-        .channels
-        .change(channel.0, WithoutOverwrite { id, kind });
+    let channel = edit.channel;
+    guild.channels.change(channel.0, edit);
 }

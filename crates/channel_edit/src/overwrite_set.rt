@@ -1,16 +1,40 @@
-//! `overwrite_set`: a channel's overwrite of a role or a member comes, or is another (Gateway Events,
-//! Channel Update).
+//! `overwrite_set`: sets a channel's overwrite of a role or a member (Gateway Events, Channel
+//! Update).
 
 ghost use Rattle.std.specs.Prelude.{◌≡◌, None, true, refl, OnOk, OnErr, IfOk};
 ghost use Rattle.guild_model.specs.Tests.{outcome};
 ghost use Rattle.guild_model.specs.Record.{channel_id};
 ghost use Rattle.collections.specs.ById.{find_id};
-ghost use Rattle.channel_edit.specs.OverwriteEdits.{overwrite_set_verdict, overwrite_was_set, unknown_target, without_room, has_overwrite, put_overwrite, overwrites_with, with_overwrites};
+ghost use Rattle.channel_edit.specs.OverwriteEdits.{overwrite_set_verdict, overwrite_was_set, unknown_target, without_room, has_overwrite, put_overwrite, overwrite_of, overwrites_with, with_overwrites};
 
 use collections::{Change, Duplicate};
 use guild_model::{Channel, Guild, Overwrite, OverwriteKind, Overwrites, Verdict, limits, rules};
+use perm_bits::Perms;
 use snowflake_id::Snowflake;
 use std::alloc::{AllocError, Global};
+
+/// A channel's overwrite of a role or a member.
+#[derive(Clone, Copy)]
+pub struct OverwriteSet {
+    pub channel: Snowflake,
+    pub id: Snowflake,
+    pub kind: OverwriteKind,
+    pub allow: Perms,
+    pub deny: Perms,
+}
+
+impl OverwriteSet {
+    /// The overwrite that is set.
+    pub fn overwrite(&self) -> Overwrite
+        ensures { result ≡ overwrite_of self.now }
+    {
+        Overwrite {
+            id: self.id,
+            allow: self.allow,
+            deny: self.deny,
+        }
+    }
+}
 
 /// Whether there is an overwrite of this role or member.
 pub fn holds_overwrite(overwrites: &Overwrites, id: Snowflake, kind: OverwriteKind) -> bool
@@ -50,19 +74,14 @@ fn has_room(
     rules::has_room(count, limits::OVERWRITES)
 }
 
-/// Refused in this order: `UnknownChannel`, `UnknownRole` or `UnknownMember` for whom the overwrite
-/// is of, `TooMany` where it is new.
-pub fn check(
-    guild: &Guild,
-    channel: Snowflake,
-    id: Snowflake,
-    kind: OverwriteKind,
-) -> Result<(), Verdict>
-    ensures { result ≡ outcome (overwrite_set_verdict guild.now channel id kind) }
+/// Refused in this order: `UnknownChannel`, `UnknownRole` or `UnknownMember` for the role or member
+/// that the overwrite is of, `TooMany` where it is new.
+pub fn check(guild: &Guild, edit: &OverwriteSet) -> Result<(), Verdict>
+    ensures { result ≡ outcome (overwrite_set_verdict guild.now edit.now) }
 {
-    rules::knows_channel(guild, channel)?;
-    knows_target(guild, id, kind)?;
-    has_room(guild, channel, id, kind)
+    rules::knows_channel(guild, edit.channel)?;
+    knows_target(guild, edit.id, edit.kind)?;
+    has_room(guild, edit.channel, edit.id, edit.kind)
 }
 
 #[derive(Drop)]
@@ -94,40 +113,32 @@ fn put(
     }
 }
 
-// The overwrites of a channel with this one among them.
+// The channel's overwrites, with this one among them.
 fn changed_overwrites(
     alloc: Global,
     guild: &Guild,
-    channel: Snowflake,
-    kind: OverwriteKind,
-    overwrite: Overwrite,
+    edit: &OverwriteSet,
 ) -> Result<Overwrites, AllocError>
-    ensures { IfOk result (λ os. os ≡ overwrites_with guild.now channel kind overwrite) }
+    ensures { IfOk result (λ os. os ≡ overwrites_with guild.now edit.now) }
 {
-    let mut overwrites = match guild.channels.get(channel.0) {
+    let mut overwrites = match guild.channels.get(edit.channel.0) {
         Some(channel) => channel.overwrites.duplicate(alloc)?,
         None => Overwrites::new(alloc),
     };
-    put(&mut overwrites, kind, overwrite)?;
+    put(&mut overwrites, edit.kind, edit.overwrite())?;
     Ok(overwrites)
 }
 
-/// Sets the overwrite. Want of memory leaves the record as before.
-pub fn apply(
-    alloc: Global,
-    guild: &mut Guild,
-    channel: Snowflake,
-    kind: OverwriteKind,
-    overwrite: Overwrite,
-) -> Result<(), AllocError>
+/// Sets the overwrite. If it runs out of memory, the record stays as it was.
+pub fn apply(alloc: Global, guild: &mut Guild, edit: OverwriteSet) -> Result<(), AllocError>
     requires open { guild.old.opened ≡ true }
-    requires accepted { overwrite_set_verdict guild.old channel overwrite.id kind ≡ None }
-    ensures ok { OnOk result (guild.new ≡ overwrite_was_set guild.old channel overwrite.id kind overwrite.allow overwrite.deny) }
+    requires accepted { overwrite_set_verdict guild.old edit ≡ None }
+    ensures ok { OnOk result (guild.new ≡ overwrite_was_set guild.old edit) }
     ensures err { OnErr result (guild.new ≡ guild.old) }
 {
-    let overwrites = changed_overwrites(alloc, guild, channel, kind, overwrite)?;
+    let overwrites = changed_overwrites(alloc, guild, &edit)?;
     guild
         .channels
-        .change(channel.0, SetOverwrites { overwrites });
+        .change(edit.channel.0, SetOverwrites { overwrites });
     Ok(())
 }

@@ -5,7 +5,6 @@ use Rattle.std.proofs.lemmas.Bool.Decides.{nat_tests}
 use Rattle.std.proofs.lemmas.List.Elements.{All-nil, All-cons}
 use Rattle.collections.specs.ById.{has_id}
 use Rattle.guild_model.specs.declared.member.Member.{Member}
-use Rattle.guild_model.specs.declared.thread.Thread.{Thread}
 use Rattle.guild_model.specs.declared.verdict.Verdict.{Verdict}
 use Rattle.guild_model.specs.declared.verdict.Verdict.TheVariants.{NotOpen, AlreadyOpen, Unavailable, UnknownMember}
 use Rattle.guild_model.specs.Record.{Record, closed, own_id, member_id}
@@ -29,13 +28,14 @@ use Rattle.edit_apply.specs.declared.Edit.{Edit}
 use Rattle.edit_apply.specs.declared.Edit.TheVariants as edit
 use Rattle.edit_apply.specs.declared.guild.GuildEdit.{GuildEdit}
 use Rattle.edit_apply.specs.declared.guild.GuildEdit.TheVariants.{GuildOpen, GuildRename, GuildOwner, GuildOutage, GuildBack}
+use Rattle.edit_apply.specs.declared.guild.GuildOpen as guild_open
 use Rattle.edit_apply.specs.Guilds.{out_of_service, guild_opened, guild_verdict, guild_applied}
 use Rattle.edit_apply.specs.Edits.{verdict, applied, after, after_verdict, state_from, KeepsWell, StaysWell}
 
 -- a guild that has just opened
-module _ (guild : ℕ) (name : List ℕ) (owner : ℕ) (owner_name : List ℕ) (perms at : ℕ) where
+module _ (guild : ℕ) (opens : guild_open.GuildOpen) where
   abbrev first_member : Member
-  first_member = new_member owner owner_name false at
+  first_member = new_member opens.owner opens.owner_name false opens.at
 
   holds_none : (b : Bool) (m : Member) (role : ℕ) → (if b then Some first_member else None) ≡ Some m → has_id own_id role m.roles ≡ true → ⊥
   holds_none true m role e holds =
@@ -44,12 +44,12 @@ module _ (guild : ℕ) (name : List ℕ) (owner : ℕ) (owner_name : List ℕ) (
       absurd (cc none)
   holds_none false m role e holds = absurd (cc)
 
-  opened_consistent : IsConsistent (guild_opened (closed guild) name owner owner_name perms at)
+  opened_consistent : IsConsistent (guild_opened (closed guild) opens)
   opened_consistent = record {
     empty = λ e. absurd (cc);
     everyone = λ _. grind (arith, nat_tests);
     owner = λ _. grind (arith, nat_tests);
-    held = λ user role m found holds. absurd (holds_none (owner == user) m role found holds);
+    held = λ user role m found holds. absurd (holds_none (opens.owner == user) m role found holds);
     overwritten = λ channel role c found there. absurd (cc);
     voices = λ user v found. absurd (cc);
     presences = λ user there. absurd (cc);
@@ -59,7 +59,7 @@ module _ (guild : ℕ) (name : List ℕ) (owner : ℕ) (owner_name : List ℕ) (
     places = All-nil _;
   }
 
-  opened_ascending : IsAscending (guild_opened (closed guild) name owner owner_name perms at)
+  opened_ascending : IsAscending (guild_opened (closed guild) opens)
   opened_ascending = record {
     roles = (tt, tt);
     members = (tt, tt);
@@ -73,11 +73,10 @@ module _ (guild : ℕ) (name : List ℕ) (owner : ℕ) (owner_name : List ℕ) (
     messages = record { apart = tt; few = omega arith };
   }
 
-opened_well : (g : Record) (name : List ℕ) (owner : ℕ) (owner_name : List ℕ) (perms at : ℕ) → g.opened ≡ false → IsWell g → IsWell (guild_opened g name owner owner_name perms at)
-opened_well g name owner owner_name perms at shut w =
+opened_well : (g : Record) (opens : guild_open.GuildOpen) → g.opened ≡ false → IsWell g → IsWell (guild_opened g opens)
+opened_well g opens shut w =
     let same : closed g.id ≡ g = sym (w.consistent.empty shut) in
-    subst (λ (g : Record). IsWell (guild_opened g name owner owner_name perms at)) same
-    (record { ascending = opened_ascending g.id name owner owner_name perms at; consistent = opened_consistent g.id name owner owner_name perms at })
+    subst (λ (g : Record). IsWell (guild_opened g opens)) same (record { ascending = opened_ascending g.id opens; consistent = opened_consistent g.id opens })
 
 -- an edit that only a guild in service accepts
 in_service_open : (g : Record) (tests : List (Option Verdict)) → first_of (out_of_service g ∷ tests) ≡ None → g.opened ≡ true
@@ -99,8 +98,9 @@ same_lists g opened outage name owner a = record {
 }
 
 guild_well : (g : Record) (edit : GuildEdit) → IsWell g → guild_verdict g edit ≡ None → IsWell (guild_applied g edit)
-guild_well g (GuildOpen name owner owner_name perms at) w e =
-    opened_well g name owner owner_name perms at (not_refused g.opened AlreadyOpen (first_passes (refused_if g.opened AlreadyOpen) (too_long 100 name ∷ too_long 100 owner_name ∷ []) e).0) w
+guild_well g (GuildOpen opens) w e =
+    let first = first_passes (refused_if g.opened AlreadyOpen) (too_long 100 opens.name ∷ too_long 100 opens.owner_name ∷ []) e in
+    opened_well g opens (not_refused g.opened AlreadyOpen first.0) w
 guild_well g (GuildRename name) w e =
     let is_open = in_service_open g (too_long 100 name ∷ []) e in
     record { ascending = same_lists g g.opened g.outage name g.owner w.ascending; consistent = renamed g is_open w.consistent name }

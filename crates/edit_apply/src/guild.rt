@@ -15,26 +15,43 @@ use std::alloc::{AllocError, Global};
 /// An edit of the guild itself.
 #[derive(Drop)]
 pub enum GuildEdit {
-    /// The guild opens, with @everyone and its owner, who joins `at`.
-    GuildOpen {
-        name: Text,
-        owner: Snowflake,
-        owner_name: Text,
-        perms: Perms,
-        at: Moment,
-    },
-    /// The guild has another name.
-    GuildRename {
-        name: Text,
-    },
-    /// Another member is the owner.
-    GuildOwner {
-        user: Snowflake,
-    },
-    /// An outage begins (Guild Resource, Unavailable Guild Object).
+    /// Opens the guild with the role `@everyone` and its owner as a member.
+    GuildOpen(GuildOpen),
+    /// Renames the guild.
+    GuildRename { name: Text },
+    /// Makes a member the owner.
+    GuildOwner { user: Snowflake },
+    /// Begins an outage (Guild Resource, Unavailable Guild Object).
     GuildOutage,
-    /// The outage ends.
+    /// Ends the outage.
     GuildBack,
+}
+
+/// A new guild.
+#[derive(Drop)]
+pub struct GuildOpen {
+    pub name: Text,
+    pub owner: Snowflake,
+    pub owner_name: Text,
+    /// What `@everyone` may do.
+    pub perms: Perms,
+    /// When the owner joins.
+    pub at: Moment,
+}
+
+impl GuildOpen {
+    /// An edit that is equal to this.
+    pub fn copy(&self, alloc: Global) -> Result<GuildOpen, AllocError>
+        ensures { IfOk result (λ copy. copy ≡ self.now) }
+    {
+        Ok(GuildOpen {
+            name: self.name.copy(alloc)?,
+            owner: self.owner,
+            owner_name: self.owner_name.copy(alloc)?,
+            perms: self.perms,
+            at: self.at,
+        })
+    }
 }
 
 impl GuildEdit {
@@ -43,19 +60,7 @@ impl GuildEdit {
         ensures { IfOk result (λ copy. copy ≡ self.now) }
     {
         Ok(match self {
-            GuildEdit::GuildOpen {
-                name,
-                owner,
-                owner_name,
-                perms,
-                at,
-            } => GuildEdit::GuildOpen {
-                name: name.copy(alloc)?,
-                owner: *owner,
-                owner_name: owner_name.copy(alloc)?,
-                perms: *perms,
-                at: *at,
-            },
+            GuildEdit::GuildOpen(edit) => GuildEdit::GuildOpen(edit.copy(alloc)?),
             GuildEdit::GuildRename { name } => GuildEdit::GuildRename {
                 name: name.copy(alloc)?,
             },
@@ -66,14 +71,14 @@ impl GuildEdit {
     }
 }
 
-fn check_open(guild: &Guild, name: &Text, owner_name: &Text) -> Result<(), Verdict>
-    ensures { result ≡ outcome (guild_open_verdict guild.now name.now owner_name.now) }
+fn check_open(guild: &Guild, edit: &GuildOpen) -> Result<(), Verdict>
+    ensures { result ≡ outcome (guild_open_verdict guild.now edit.now) }
 {
     if guild.opened {
         return Err(Verdict::AlreadyOpen);
     }
-    rules::within(name, limits::NAME_BYTES)?;
-    rules::within(owner_name, limits::NAME_BYTES)
+    rules::within(&edit.name, limits::NAME_BYTES)?;
+    rules::within(&edit.owner_name, limits::NAME_BYTES)
 }
 
 fn check_back(guild: &Guild) -> Result<(), Verdict>
@@ -102,17 +107,13 @@ fn check_owner(guild: &Guild, user: Snowflake) -> Result<(), Verdict>
     rules::knows_member(guild, user)
 }
 
-/// Why an edit is refused: the first of its tests that fails. A guild opens once, and comes back
-/// only from an outage; every other edit needs an open guild without an outage.
+/// Refuses an edit with the verdict of its first test that fails. A guild opens once, and only an
+/// outage can end. Every other edit needs an open guild without an outage.
 pub fn check(guild: &Guild, edit: &GuildEdit) -> Result<(), Verdict>
     ensures { result ≡ outcome (guild_verdict guild.now edit.now) }
 {
     match edit {
-        GuildEdit::GuildOpen {
-            name,
-            owner_name,
-            ..
-        } => check_open(guild, name, owner_name),
+        GuildEdit::GuildOpen(edit) => check_open(guild, edit),
         GuildEdit::GuildRename { name } => check_rename(guild, name),
         GuildEdit::GuildOwner { user } => check_owner(guild, *user),
         GuildEdit::GuildOutage => in_service(guild),
@@ -158,24 +159,16 @@ fn first_members(
     Ok(members)
 }
 
-fn open(
-    alloc: Global,
-    guild: &mut Guild,
-    name: Text,
-    owner: Snowflake,
-    owner_name: Text,
-    perms: Perms,
-    at: Moment,
-) -> Result<(), AllocError>
-    requires { guild_open_verdict guild.old name owner_name ≡ None }
-    ensures ok { OnOk result (guild.new ≡ guild_opened guild.old name owner owner_name perms at) }
+fn open(alloc: Global, guild: &mut Guild, edit: GuildOpen) -> Result<(), AllocError>
+    requires { guild_open_verdict guild.old edit ≡ None }
+    ensures ok { OnOk result (guild.new ≡ guild_opened guild.old edit) }
     ensures err { OnErr result (guild.new ≡ guild.old) }
 {
-    let roles = first_roles(alloc, guild.id, perms)?;
-    let members = first_members(alloc, owner, owner_name, at)?;
+    let roles = first_roles(alloc, guild.id, edit.perms)?;
+    let members = first_members(alloc, edit.owner, edit.owner_name, edit.at)?;
     guild.opened = true;
-    guild.name = name;
-    guild.owner = owner;
+    guild.name = edit.name;
+    guild.owner = edit.owner;
     guild.roles = roles;
     guild.members = members;
     Ok(())
@@ -202,23 +195,19 @@ fn set_outage(guild: &mut Guild, outage: bool)
     guild.outage = outage;
 }
 
-/// Makes an edit that [`check`] does not refuse. Want of memory leaves the record as before.
+/// Makes an edit that [`check`] does not refuse. If it runs out of memory, the record stays as it
+/// was.
 pub fn apply(alloc: Global, guild: &mut Guild, edit: GuildEdit) -> Result<(), AllocError>
     requires { guild_verdict guild.old edit ≡ None }
     ensures ok { OnOk result (guild.new ≡ guild_applied guild.old edit) }
     ensures err { OnErr result (guild.new ≡ guild.old) }
 {
     match edit {
-        GuildEdit::GuildOpen {
-            name,
-            owner,
-            owner_name,
-            perms,
-            at,
-        } => open(alloc, guild, name, owner, owner_name, perms, at),
-        GuildEdit::GuildRename { name } => Ok(rename(guild, name)),
-        GuildEdit::GuildOwner { user } => Ok(set_owner(guild, user)),
-        GuildEdit::GuildOutage => Ok(set_outage(guild, true)),
-        GuildEdit::GuildBack => Ok(set_outage(guild, false)),
+        GuildEdit::GuildOpen(edit) => open(alloc, guild, edit)?,
+        GuildEdit::GuildRename { name } => rename(guild, name),
+        GuildEdit::GuildOwner { user } => set_owner(guild, user),
+        GuildEdit::GuildOutage => set_outage(guild, true),
+        GuildEdit::GuildBack => set_outage(guild, false),
     }
+    Ok(())
 }

@@ -14,7 +14,7 @@ ghost use Rattle.message_edit.specs.MessageEdits.{message_verdict};
 pub mod guild;
 
 pub use channel_edit::ChannelEdit;
-pub use guild::GuildEdit;
+pub use guild::{GuildEdit, GuildOpen};
 use guild_model::{Guild, Verdict};
 pub use message_edit::{MessageBody, MessageEdit};
 pub use role_member_edit::RoleMemberEdit;
@@ -25,17 +25,17 @@ pub use voice_presence::VoicePresenceEdit;
 /// An edit of a guild.
 #[derive(Drop)]
 pub enum Edit {
-    /// Of the guild itself.
+    /// An edit of the guild itself.
     Guild(GuildEdit),
-    /// Of its roles and members.
+    /// An edit of its roles and members.
     RoleMember(RoleMemberEdit),
-    /// Of its channels and their overwrites.
+    /// An edit of its channels and their overwrites.
     Channel(ChannelEdit),
-    /// Of its threads.
+    /// An edit of its threads.
     Thread(ThreadEdit),
-    /// Of its voice states and presences.
+    /// An edit of its voice states and presences.
     VoicePresence(VoicePresenceEdit),
-    /// Of its messages, reactions to them, and who types.
+    /// An edit of its messages, of reactions to them, or of who types.
     Message(MessageEdit),
 }
 
@@ -44,18 +44,18 @@ impl Edit {
     pub fn copy(&self, alloc: Global) -> Result<Edit, AllocError>
         ensures { IfOk result (λ copy. copy ≡ self.now) }
     {
-        match self {
-            Edit::Guild(edit) => Ok(Edit::Guild(edit.copy(alloc)?)),
-            Edit::RoleMember(edit) => Ok(Edit::RoleMember(edit.copy(alloc)?)),
-            Edit::Channel(edit) => Ok(Edit::Channel(edit.copy(alloc)?)),
-            Edit::Thread(edit) => Ok(Edit::Thread(edit.copy(alloc)?)),
-            Edit::VoicePresence(edit) => Ok(Edit::VoicePresence(*edit)),
-            Edit::Message(edit) => Ok(Edit::Message(edit.copy(alloc)?)),
-        }
+        Ok(match self {
+            Edit::Guild(edit) => Edit::Guild(edit.copy(alloc)?),
+            Edit::RoleMember(edit) => Edit::RoleMember(edit.copy(alloc)?),
+            Edit::Channel(edit) => Edit::Channel(edit.copy(alloc)?),
+            Edit::Thread(edit) => Edit::Thread(edit.copy(alloc)?),
+            Edit::VoicePresence(edit) => Edit::VoicePresence(*edit),
+            Edit::Message(edit) => Edit::Message(edit.copy(alloc)?),
+        })
     }
 }
 
-/// Refuses a guild that is not open, then one in an outage.
+/// Refuses a guild that is not open, then a guild in an outage.
 pub fn in_service(guild: &Guild) -> Result<(), Verdict>
     ensures { result ≡ outcome (out_of_service guild.now) }
 {
@@ -103,7 +103,7 @@ fn judge_message(guild: &Guild, edit: &MessageEdit) -> Result<(), Verdict>
     message_edit::check(guild, edit)
 }
 
-/// Why an edit is refused: the first of its tests that fails. Takes no memory.
+/// Refuses an edit with the verdict of its first test that fails. Does not allocate.
 pub fn judge(guild: &Guild, edit: &Edit) -> Result<(), Verdict>
     ensures { result ≡ outcome (verdict guild.now edit.now) }
 {
@@ -117,8 +117,10 @@ pub fn judge(guild: &Guild, edit: &Edit) -> Result<(), Verdict>
     }
 }
 
-fn make(alloc: Global, guild: &mut Guild, edit: Edit) -> Result<(), AllocError>
-    requires { verdict guild.old edit ≡ None }
+/// Makes an edit that [`judge`] does not refuse. If it runs out of memory, the record stays as it
+/// was.
+pub fn make(alloc: Global, guild: &mut Guild, edit: Edit) -> Result<(), AllocError>
+    requires accepted { verdict guild.old edit ≡ None }
     ensures ok { OnOk result (guild.new ≡ applied guild.old edit) }
     ensures err { OnErr result (guild.new ≡ guild.old) }
 {
@@ -132,8 +134,8 @@ fn make(alloc: Global, guild: &mut Guild, edit: Edit) -> Result<(), AllocError>
     }
 }
 
-/// Judges an edit and, where it is accepted, makes it. A verdict changes nothing, and neither does
-/// want of memory.
+/// Judges an edit and makes it if it is accepted. If it is refused, or memory runs out, the record
+/// stays as it was.
 pub fn apply(
     alloc: Global,
     guild: &mut Guild,
@@ -155,7 +157,7 @@ pub fn keeps_well()
     ensures { KeepsWell }
 {}
 
-/// Whatever edits come to a guild, the lists of its record ascend and hold together.
+/// After any edits of a guild, the lists of its record ascend and hold together.
 pub fn stays_well()
     ensures { StaysWell }
 {}

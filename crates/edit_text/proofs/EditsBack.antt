@@ -12,52 +12,40 @@ use Rattle.role_member_edit.specs.declared.RoleMemberEdit.TheVariants.{RoleCreat
 use Rattle.channel_edit.specs.declared.ChannelEdit.{ChannelEdit}
 use Rattle.channel_edit.specs.declared.ChannelEdit.TheVariants.{ChannelCreate, ChannelUpdate, ChannelDelete, OverwriteSet, OverwriteDelete}
 use Rattle.guild_model.specs.declared.channel.ChannelKind.{ChannelKind}
-use Rattle.guild_model.specs.declared.channel.OverwriteKind.{OverwriteKind}
 use Rattle.guild_model.proofs.Numbers.{channel_kind_back, overwrite_kind_back}
-use Rattle.edit_text.specs.Fits.{IdFits, NullableIdFits, MaskFits, MomentFits, NullableMomentFits, GuildEditFits, RoleMemberEditFits, ChannelEditFits, EditFits}
+use Rattle.edit_text.specs.Fits.{IdFits, NullableIdFits, NullableMomentFits, GuildEditFits, RoleMemberEditFits, ChannelEditFits, EditFits}
 use Rattle.edit_text.specs.Written.{edit_within, role_member_within, channel_within}
 use Rattle.edit_text.proofs.ReadsBack.{Back, PlainEdit, mask_below, mask_as_id, moment_below}
 use Rattle.edit_text.proofs.ThreadsBack.{thread_back, thread_plain}
 use Rattle.edit_text.proofs.VoicesBack.{voice_presence_back, voice_presence_plain}
 use Rattle.edit_text.proofs.MessagesBack.{message_back, message_plain}
 
-guild_open_back : (guild : ℕ) (name : List ℕ) (owner : ℕ) (owner_name : List ℕ) (perms at : ℕ)
-    → IdFits guild → IdFits owner → MaskFits perms → MomentFits at → Back guild (edit.Guild (GuildOpen name owner owner_name perms at))
+guild_back : (guild : ℕ) (e : GuildEdit) → IdFits guild → GuildEditFits e → Back guild (edit.Guild e)
 unfolding serde_json_on_literals
-guild_open_back guild name owner owner_name perms at h k m t = (
+guild_back guild (GuildOpen e) h k = (
   refl,
   rw (id_of_decimal guild h) refl,
   refl,
-  rw (id_of_decimal owner k, id_of_decimal perms (mask_as_id perms m), mask_below perms m, moment_below at t) refl,
+  rw (
+    id_of_decimal e.owner k.0,
+    id_of_decimal e.perms (mask_as_id e.perms k.1),
+    mask_below e.perms k.1,
+    moment_below e.at k.2,
+  ) refl,
 )
-
-guild_back : (guild : ℕ) (e : GuildEdit) → IdFits guild → GuildEditFits e → Back guild (edit.Guild e)
-unfolding serde_json_on_literals
-guild_back guild (GuildOpen name owner owner_name perms at) h k = guild_open_back guild name owner owner_name perms at h k.0 k.1 k.2
 guild_back guild (GuildRename name) h k = (refl, rw (id_of_decimal guild h) refl, refl, refl)
 guild_back guild (GuildOwner user) h k = (refl, rw (id_of_decimal guild h) refl, refl, rw (id_of_decimal user k) refl)
 guild_back guild GuildOutage h k = (refl, rw (id_of_decimal guild h) refl, refl, refl)
 guild_back guild GuildBack h k = (refl, rw (id_of_decimal guild h) refl, refl, refl)
 
-role_create_back : (guild role : ℕ) (name : List ℕ) (perms position : ℕ) → IdFits guild → IdFits role → MaskFits perms → nat_lt position (2 ^ 31) ≡ true
-    → Back guild (edit.RoleMember (RoleCreate role name perms position))
-unfolding serde_json_on_literals
-role_create_back guild role name perms position h k m p =
-    (refl, rw (id_of_decimal guild h) refl, refl, rw (id_of_decimal role k, id_of_decimal perms (mask_as_id perms m), mask_below perms m, p) refl)
-
-role_update_back : (guild role : ℕ) (name : List ℕ) (perms position : ℕ) → IdFits guild → IdFits role → MaskFits perms → nat_lt position (2 ^ 31) ≡ true
-    → Back guild (edit.RoleMember (RoleUpdate role name perms position))
-unfolding serde_json_on_literals
-role_update_back guild role name perms position h k m p =
-    (refl, rw (id_of_decimal guild h) refl, refl, rw (id_of_decimal role k, id_of_decimal perms (mask_as_id perms m), mask_below perms m, p) refl)
-
-member_nick_back : (guild user : ℕ) (nick : Option (List ℕ)) → IdFits guild → IdFits user → Back guild (edit.RoleMember (MemberNick user nick))
+member_nick_back : (guild user : ℕ) (nick : Option (List ℕ)) → IdFits guild → IdFits user
+    → Back guild (edit.RoleMember (MemberNick (record { user = user; nick = nick })))
 unfolding serde_json_on_literals
 member_nick_back guild user None h k = (refl, rw (id_of_decimal guild h) refl, refl, rw (id_of_decimal user k) refl)
 member_nick_back guild user (Some nick) h k = (refl, rw (id_of_decimal guild h) refl, refl, rw (id_of_decimal user k) refl)
 
 member_timeout_back : (guild user : ℕ) (until : Option ℕ) → IdFits guild → IdFits user → NullableMomentFits until
-    → Back guild (edit.RoleMember (MemberTimeout user until))
+    → Back guild (edit.RoleMember (MemberTimeout (record { user = user; until = until })))
 unfolding serde_json_on_literals
 member_timeout_back guild user None h k t = (refl, rw (id_of_decimal guild h) refl, refl, rw (id_of_decimal user k) refl)
 member_timeout_back guild user (Some until) h k t =
@@ -65,22 +53,32 @@ member_timeout_back guild user (Some until) h k t =
 
 role_member_back : (guild : ℕ) (e : RoleMemberEdit) → IdFits guild → RoleMemberEditFits e → role_member_within e ≡ true → Back guild (edit.RoleMember e)
 unfolding serde_json_on_literals
-role_member_back guild (RoleCreate role name perms position) h k p = role_create_back guild role name perms position h k.0 k.1 p
-role_member_back guild (RoleUpdate role name perms position) h k p = role_update_back guild role name perms position h k.0 k.1 p
+role_member_back guild (RoleCreate body) h k p = (
+  refl,
+  rw (id_of_decimal guild h) refl,
+  refl,
+  rw (id_of_decimal body.role k.0, id_of_decimal body.perms (mask_as_id body.perms k.1), mask_below body.perms k.1, p) refl,
+)
+role_member_back guild (RoleUpdate body) h k p = (
+  refl,
+  rw (id_of_decimal guild h) refl,
+  refl,
+  rw (id_of_decimal body.role k.0, id_of_decimal body.perms (mask_as_id body.perms k.1), mask_below body.perms k.1, p) refl,
+)
 role_member_back guild (RoleDelete role) h k p = (refl, rw (id_of_decimal guild h) refl, refl, rw (id_of_decimal role k) refl)
-role_member_back guild (MemberAdd user name bot at) h k p =
-    (refl, rw (id_of_decimal guild h) refl, refl, rw (id_of_decimal user k.0, moment_below at k.1) refl)
+role_member_back guild (MemberAdd e) h k p =
+    (refl, rw (id_of_decimal guild h) refl, refl, rw (id_of_decimal e.user k.0, moment_below e.at k.1) refl)
 role_member_back guild (MemberRemove user) h k p = (refl, rw (id_of_decimal guild h) refl, refl, rw (id_of_decimal user k) refl)
-role_member_back guild (MemberNick user nick) h k p = member_nick_back guild user nick h k
-role_member_back guild (MemberTimeout user until) h k p = member_timeout_back guild user until h k.0 k.1
-role_member_back guild (MemberRoleAdd user role) h k p =
-    (refl, rw (id_of_decimal guild h) refl, refl, rw (id_of_decimal user k.0, id_of_decimal role k.1) refl)
-role_member_back guild (MemberRoleRemove user role) h k p =
-    (refl, rw (id_of_decimal guild h) refl, refl, rw (id_of_decimal user k.0, id_of_decimal role k.1) refl)
+role_member_back guild (MemberNick e) h k p = member_nick_back guild e.user e.nick h k
+role_member_back guild (MemberTimeout e) h k p = member_timeout_back guild e.user e.until h k.0 k.1
+role_member_back guild (MemberRoleAdd held) h k p =
+    (refl, rw (id_of_decimal guild h) refl, refl, rw (id_of_decimal held.user k.0, id_of_decimal held.role k.1) refl)
+role_member_back guild (MemberRoleRemove held) h k p =
+    (refl, rw (id_of_decimal guild h) refl, refl, rw (id_of_decimal held.user k.0, id_of_decimal held.role k.1) refl)
 
 channel_create_back : (guild channel : ℕ) (kind : ChannelKind) (name : List ℕ) (parent : Option ℕ) (position : ℕ) (sync : Bool)
     → IdFits guild → IdFits channel → NullableIdFits parent → nat_lt position (2 ^ 31) ≡ true
-    → Back guild (edit.Channel (ChannelCreate channel kind name parent position sync))
+    → Back guild (edit.Channel (ChannelCreate (record { channel = channel; kind = kind; name = name; parent = parent; position = position; sync = sync })))
 unfolding serde_json_on_literals
 channel_create_back guild channel kind name None position sync h k f p =
     (refl, rw (id_of_decimal guild h) refl, refl, rw (id_of_decimal channel k, channel_kind_back kind, p) refl)
@@ -89,39 +87,34 @@ channel_create_back guild channel kind name (Some parent) position sync h k f p 
 
 channel_update_back : (guild channel : ℕ) (name : List ℕ) (parent : Option ℕ) (position : ℕ)
     → IdFits guild → IdFits channel → NullableIdFits parent → nat_lt position (2 ^ 31) ≡ true
-    → Back guild (edit.Channel (ChannelUpdate channel name parent position))
+    → Back guild (edit.Channel (ChannelUpdate (record { channel = channel; name = name; parent = parent; position = position })))
 unfolding serde_json_on_literals
 channel_update_back guild channel name None position h k f p =
     (refl, rw (id_of_decimal guild h) refl, refl, rw (id_of_decimal channel k, p) refl)
 channel_update_back guild channel name (Some parent) position h k f p =
     (refl, rw (id_of_decimal guild h) refl, refl, rw (id_of_decimal channel k, id_of_decimal parent f, p) refl)
 
-overwrite_set_back : (guild channel id : ℕ) (kind : OverwriteKind) (allow deny : ℕ)
-    → IdFits guild → IdFits channel → IdFits id → MaskFits allow → MaskFits deny → Back guild (edit.Channel (OverwriteSet channel id kind allow deny))
+channel_back : (guild : ℕ) (e : ChannelEdit) → IdFits guild → ChannelEditFits e → channel_within e ≡ true → Back guild (edit.Channel e)
 unfolding serde_json_on_literals
-overwrite_set_back guild channel id kind allow deny h k i a d = (
+channel_back guild (ChannelCreate e) h k p = channel_create_back guild e.channel e.kind e.name e.parent e.position e.sync h k.0 k.1 p
+channel_back guild (ChannelUpdate e) h k p = channel_update_back guild e.channel e.name e.parent e.position h k.0 k.1 p
+channel_back guild (ChannelDelete channel) h k p = (refl, rw (id_of_decimal guild h) refl, refl, rw (id_of_decimal channel k) refl)
+channel_back guild (OverwriteSet e) h k p = (
   refl,
   rw (id_of_decimal guild h) refl,
   refl,
   rw (
-    id_of_decimal channel k,
-    id_of_decimal id i,
-    overwrite_kind_back kind,
-    id_of_decimal allow (mask_as_id allow a),
-    mask_below allow a,
-    id_of_decimal deny (mask_as_id deny d),
-    mask_below deny d,
+    id_of_decimal e.channel k.0,
+    id_of_decimal e.id k.1,
+    overwrite_kind_back e.kind,
+    id_of_decimal e.allow (mask_as_id e.allow k.2),
+    mask_below e.allow k.2,
+    id_of_decimal e.deny (mask_as_id e.deny k.3),
+    mask_below e.deny k.3,
   ) refl,
 )
-
-channel_back : (guild : ℕ) (e : ChannelEdit) → IdFits guild → ChannelEditFits e → channel_within e ≡ true → Back guild (edit.Channel e)
-unfolding serde_json_on_literals
-channel_back guild (ChannelCreate channel kind name parent position sync) h k p = channel_create_back guild channel kind name parent position sync h k.0 k.1 p
-channel_back guild (ChannelUpdate channel name parent position) h k p = channel_update_back guild channel name parent position h k.0 k.1 p
-channel_back guild (ChannelDelete channel) h k p = (refl, rw (id_of_decimal guild h) refl, refl, rw (id_of_decimal channel k) refl)
-channel_back guild (OverwriteSet channel id kind allow deny) h k p = overwrite_set_back guild channel id kind allow deny h k.0 k.1 k.2 k.3
-channel_back guild (OverwriteDelete channel id kind) h k p =
-    (refl, rw (id_of_decimal guild h) refl, refl, rw (id_of_decimal channel k.0, id_of_decimal id k.1, overwrite_kind_back kind) refl)
+channel_back guild (OverwriteDelete e) h k p =
+    (refl, rw (id_of_decimal guild h) refl, refl, rw (id_of_decimal e.channel k.0, id_of_decimal e.id k.1, overwrite_kind_back e.kind) refl)
 
 pub edit_back : (guild : ℕ) (e : Edit) → IdFits guild → EditFits e → edit_within e ≡ true → Back guild e
 edit_back guild (edit.Guild e) h k p = guild_back guild e h k
@@ -135,53 +128,53 @@ edit_back guild (edit.Message e) h k p = message_back guild e h k p
 
 guild_plain : (guild : ℕ) (e : GuildEdit) → PlainEdit guild (edit.Guild e)
 unfolding serde_json_on_literals
-guild_plain guild (GuildOpen name owner owner_name perms at) = (omega arith, refl)
+guild_plain guild (GuildOpen e) = (omega arith, refl)
 guild_plain guild (GuildRename name) = (omega arith, refl)
 guild_plain guild (GuildOwner user) = (omega arith, refl)
 guild_plain guild GuildOutage = (omega arith, refl)
 guild_plain guild GuildBack = (omega arith, refl)
 
-nick_plain : (guild user : ℕ) (nick : Option (List ℕ)) → PlainEdit guild (edit.RoleMember (MemberNick user nick))
+nick_plain : (guild user : ℕ) (nick : Option (List ℕ)) → PlainEdit guild (edit.RoleMember (MemberNick (record { user = user; nick = nick })))
 unfolding serde_json_on_literals
 nick_plain guild user None = (omega arith, refl)
 nick_plain guild user (Some nick) = (omega arith, refl)
 
-timeout_plain : (guild user : ℕ) (until : Option ℕ) → PlainEdit guild (edit.RoleMember (MemberTimeout user until))
+timeout_plain : (guild user : ℕ) (until : Option ℕ) → PlainEdit guild (edit.RoleMember (MemberTimeout (record { user = user; until = until })))
 unfolding serde_json_on_literals
 timeout_plain guild user None = (omega arith, refl)
 timeout_plain guild user (Some until) = (omega arith, refl)
 
 role_member_plain : (guild : ℕ) (e : RoleMemberEdit) → PlainEdit guild (edit.RoleMember e)
 unfolding serde_json_on_literals
-role_member_plain guild (RoleCreate role name perms position) = (omega arith, refl)
-role_member_plain guild (RoleUpdate role name perms position) = (omega arith, refl)
+role_member_plain guild (RoleCreate body) = (omega arith, refl)
+role_member_plain guild (RoleUpdate body) = (omega arith, refl)
 role_member_plain guild (RoleDelete role) = (omega arith, refl)
-role_member_plain guild (MemberAdd user name bot at) = (omega arith, refl)
+role_member_plain guild (MemberAdd e) = (omega arith, refl)
 role_member_plain guild (MemberRemove user) = (omega arith, refl)
-role_member_plain guild (MemberNick user nick) = nick_plain guild user nick
-role_member_plain guild (MemberTimeout user until) = timeout_plain guild user until
-role_member_plain guild (MemberRoleAdd user role) = (omega arith, refl)
-role_member_plain guild (MemberRoleRemove user role) = (omega arith, refl)
+role_member_plain guild (MemberNick e) = nick_plain guild e.user e.nick
+role_member_plain guild (MemberTimeout e) = timeout_plain guild e.user e.until
+role_member_plain guild (MemberRoleAdd held) = (omega arith, refl)
+role_member_plain guild (MemberRoleRemove held) = (omega arith, refl)
 
 channel_create_plain : (guild channel : ℕ) (kind : ChannelKind) (name : List ℕ) (parent : Option ℕ) (position : ℕ) (sync : Bool)
-    → PlainEdit guild (edit.Channel (ChannelCreate channel kind name parent position sync))
+    → PlainEdit guild (edit.Channel (ChannelCreate (record { channel = channel; kind = kind; name = name; parent = parent; position = position; sync = sync })))
 unfolding serde_json_on_literals
 channel_create_plain guild channel kind name None position sync = (omega arith, refl)
 channel_create_plain guild channel kind name (Some parent) position sync = (omega arith, refl)
 
 channel_update_plain : (guild channel : ℕ) (name : List ℕ) (parent : Option ℕ) (position : ℕ)
-    → PlainEdit guild (edit.Channel (ChannelUpdate channel name parent position))
+    → PlainEdit guild (edit.Channel (ChannelUpdate (record { channel = channel; name = name; parent = parent; position = position })))
 unfolding serde_json_on_literals
 channel_update_plain guild channel name None position = (omega arith, refl)
 channel_update_plain guild channel name (Some parent) position = (omega arith, refl)
 
 channel_plain : (guild : ℕ) (e : ChannelEdit) → PlainEdit guild (edit.Channel e)
 unfolding serde_json_on_literals
-channel_plain guild (ChannelCreate channel kind name parent position sync) = channel_create_plain guild channel kind name parent position sync
-channel_plain guild (ChannelUpdate channel name parent position) = channel_update_plain guild channel name parent position
+channel_plain guild (ChannelCreate e) = channel_create_plain guild e.channel e.kind e.name e.parent e.position e.sync
+channel_plain guild (ChannelUpdate e) = channel_update_plain guild e.channel e.name e.parent e.position
 channel_plain guild (ChannelDelete channel) = (omega arith, refl)
-channel_plain guild (OverwriteSet channel id kind allow deny) = (omega arith, refl)
-channel_plain guild (OverwriteDelete channel id kind) = (omega arith, refl)
+channel_plain guild (OverwriteSet e) = (omega arith, refl)
+channel_plain guild (OverwriteDelete e) = (omega arith, refl)
 
 pub edit_plain : (guild : ℕ) (e : Edit) → PlainEdit guild e
 edit_plain guild (edit.Guild e) = guild_plain guild e

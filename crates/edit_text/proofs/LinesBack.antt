@@ -26,18 +26,18 @@ use Rattle.edit_text.specs.declared.names.VoicePresenceEditName.TheVariants.{Voi
 use Rattle.edit_text.specs.declared.names.MessageEditName.TheVariants.{MessageCreate, MessageUpdate, MessageDelete, ReactionAdd, ReactionRemove, Typing}
 use Rattle.edit_text.specs.declared.reader.StepReader.{StepReader}
 use Rattle.edit_text.specs.Fields.{text_at}
-use Rattle.edit_text.specs.Names.{step_named, connection_step_named, any_step_named, step_text, guild_edit_named, role_edit_named, member_edit_named, channel_edit_named, thread_edit_named, thread_state_edit_named, voice_presence_edit_named, message_edit_named, reaction_edit_named, edit_named, name_text}
+use Rattle.edit_text.specs.Names.{step_named, step_text, edit_named, name_text}
 use Rattle.edit_text.specs.Edits.{edit_name}
 use Rattle.edit_text.specs.Fits.{LineFits}
 use Rattle.edit_text.specs.Lines.{is_allowed, is_blank, fields_from, line_from, line_of}
-use Rattle.edit_text.specs.Written.{step_name, line_data, edit_within, line_within, allows}
+use Rattle.edit_text.specs.Written.{step_name, line_data, line_within, allows}
 use Rattle.edit_text.proofs.ReadsBack.{Plain, Back}
 use Rattle.edit_text.proofs.EditsBack.{edit_back, edit_plain}
 
 -- ---- names
 
-pub step_back : (n : StepName) → any_step_named (step_text n) ≡ Some n
-unfolding step_named connection_step_named
+pub step_back : (n : StepName) → step_named (step_text n) ≡ Some n
+unfolding step_named
 step_back step.Bot = refl
 step_back step.Guild = refl
 step_back step.Edit = refl
@@ -49,7 +49,7 @@ step_back step.Closed = refl
 step_back step.Tick = refl
 
 pub named_back : (n : EditName) → edit_named (name_text n) ≡ Some n
-unfolding guild_edit_named role_edit_named member_edit_named channel_edit_named thread_edit_named thread_state_edit_named voice_presence_edit_named message_edit_named reaction_edit_named
+unfolding edit_named
 named_back (name.Guild GuildOpen) = refl
 named_back (name.Guild GuildRename) = refl
 named_back (name.Guild GuildOwner) = refl

@@ -6,7 +6,9 @@ use Rattle.snowflake_id.proofs.Texts.{id_of_decimal}
 use Rattle.edit_apply.specs.declared.Edit.TheVariants as edit
 use Rattle.message_edit.specs.declared.body.MessageBody.{MessageBody}
 use Rattle.message_edit.specs.declared.MessageEdit.{MessageEdit}
-use Rattle.message_edit.specs.declared.MessageEdit.TheVariants.{MessageCreate, MessageUpdate, MessageDelete, ReactionAdd, ReactionRemove, Typing}
+use Rattle.message_edit.specs.declared.MessageEdit.TheVariants as message
+use Rattle.message_edit.specs.declared.message_create.MessageCreate.{MessageCreate}
+use Rattle.message_edit.specs.declared.message_update.MessageUpdate.{MessageUpdate}
 use Rattle.edit_text.specs.Fits.{IdFits, IdsFit, MessageEditFits}
 use Rattle.edit_text.specs.Written.{are_few, body_within, message_within}
 use Rattle.edit_text.proofs.Lists.{ids_back, ids_len, ids_depth, ids_float}
@@ -34,53 +36,61 @@ is_small body h =
     let third = both (are_few body.attachments) (are_few body.components) second.1 in
     record { mentions = not_true _ first.0; embeds = second.0; attachments = third.0; components = third.1 }
 
-create_back : (guild message place author : ℕ) (body : MessageBody) → IdFits guild → IdFits message → IdFits place → IdFits author → IdsFit body.mentions → IsSmall body
-    → Back guild (edit.Message (MessageCreate message place author body))
+create_back : (guild : ℕ) (e : MessageCreate) → IdFits guild → IdFits e.message → IdFits e.place → IdFits e.author → IdsFit e.body.mentions → IsSmall e.body
+    → Back guild (edit.Message (message.MessageCreate e))
 unfolding serde_json_on_literals
-create_back guild message place author body h m p a f s = (
+create_back guild e h m p a f s = (
   refl,
   rw (id_of_decimal guild h) refl,
   refl,
   rw (
-    id_of_decimal message m,
-    id_of_decimal place p,
-    id_of_decimal author a,
-    ids_len body.mentions,
+    id_of_decimal e.message m,
+    id_of_decimal e.place p,
+    id_of_decimal e.author a,
+    ids_len e.body.mentions,
     s.mentions,
-    ids_back body.mentions f,
+    ids_back e.body.mentions f,
     s.embeds,
     s.attachments,
     s.components,
   ) refl,
 )
 
-update_back : (guild message : ℕ) (body : MessageBody) → IdFits guild → IdFits message → IdsFit body.mentions → IsSmall body
-    → Back guild (edit.Message (MessageUpdate message body))
+update_back : (guild : ℕ) (e : MessageUpdate) → IdFits guild → IdFits e.message → IdsFit e.body.mentions → IsSmall e.body
+    → Back guild (edit.Message (message.MessageUpdate e))
 unfolding serde_json_on_literals
-update_back guild message body h m f s = (
+update_back guild e h m f s = (
   refl,
   rw (id_of_decimal guild h) refl,
   refl,
-  rw (id_of_decimal message m, ids_len body.mentions, s.mentions, ids_back body.mentions f, s.embeds, s.attachments, s.components) refl,
+  rw (
+    id_of_decimal e.message m,
+    ids_len e.body.mentions,
+    s.mentions,
+    ids_back e.body.mentions f,
+    s.embeds,
+    s.attachments,
+    s.components,
+  ) refl,
 )
 
 pub message_back : (guild : ℕ) (e : MessageEdit) → IdFits guild → MessageEditFits e → message_within e ≡ true → Back guild (edit.Message e)
 unfolding serde_json_on_literals
-message_back guild (MessageCreate message place author body) h k w = create_back guild message place author body h k.0 k.1 k.2 k.3 (is_small body w)
-message_back guild (MessageUpdate message body) h k w = update_back guild message body h k.0 k.1 (is_small body w)
-message_back guild (MessageDelete message) h k w = (refl, rw (id_of_decimal guild h) refl, refl, rw (id_of_decimal message k) refl)
-message_back guild (ReactionAdd message user emoji) h k w =
-    (refl, rw (id_of_decimal guild h) refl, refl, rw (id_of_decimal message k.0, id_of_decimal user k.1) refl)
-message_back guild (ReactionRemove message user emoji) h k w =
-    (refl, rw (id_of_decimal guild h) refl, refl, rw (id_of_decimal message k.0, id_of_decimal user k.1) refl)
-message_back guild (Typing place user at) h k w =
-    (refl, rw (id_of_decimal guild h) refl, refl, rw (id_of_decimal place k.0, id_of_decimal user k.1, moment_below at k.2) refl)
+message_back guild (message.MessageCreate e) h k w = create_back guild e h k.0 k.1 k.2 k.3 (is_small e.body w)
+message_back guild (message.MessageUpdate e) h k w = update_back guild e h k.0 k.1 (is_small e.body w)
+message_back guild (message.MessageDelete id) h k w = (refl, rw (id_of_decimal guild h) refl, refl, rw (id_of_decimal id k) refl)
+message_back guild (message.ReactionAdd body) h k w =
+    (refl, rw (id_of_decimal guild h) refl, refl, rw (id_of_decimal body.message k.0, id_of_decimal body.user k.1) refl)
+message_back guild (message.ReactionRemove body) h k w =
+    (refl, rw (id_of_decimal guild h) refl, refl, rw (id_of_decimal body.message k.0, id_of_decimal body.user k.1) refl)
+message_back guild (message.Typing e) h k w =
+    (refl, rw (id_of_decimal guild h) refl, refl, rw (id_of_decimal e.place k.0, id_of_decimal e.user k.1, moment_below e.at k.2) refl)
 
 pub message_plain : (guild : ℕ) (e : MessageEdit) → PlainEdit guild (edit.Message e)
 unfolding serde_json_on_literals
-message_plain guild (MessageCreate message place author body) = (let e = ids_depth body.mentions in omega (arith, e), rw (ids_float body.mentions) refl)
-message_plain guild (MessageUpdate message body) = (let e = ids_depth body.mentions in omega (arith, e), rw (ids_float body.mentions) refl)
-message_plain guild (MessageDelete message) = (omega arith, refl)
-message_plain guild (ReactionAdd message user emoji) = (omega arith, refl)
-message_plain guild (ReactionRemove message user emoji) = (omega arith, refl)
-message_plain guild (Typing place user at) = (omega arith, refl)
+message_plain guild (message.MessageCreate e) = (let n = ids_depth e.body.mentions in omega (arith, n), rw (ids_float e.body.mentions) refl)
+message_plain guild (message.MessageUpdate e) = (let n = ids_depth e.body.mentions in omega (arith, n), rw (ids_float e.body.mentions) refl)
+message_plain guild (message.MessageDelete id) = (omega arith, refl)
+message_plain guild (message.ReactionAdd body) = (omega arith, refl)
+message_plain guild (message.ReactionRemove body) = (omega arith, refl)
+message_plain guild (message.Typing e) = (omega arith, refl)

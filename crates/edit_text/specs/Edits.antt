@@ -20,7 +20,8 @@ edit_from (name.Guild n) d = and_then (guild_edit_from n d) (λ edit. Ok (Guild 
 edit_from (name.RoleMember n) d = and_then (role_member_edit_from n d) (λ edit. Ok (RoleMember edit))
 edit_from (name.Channel n) d = and_then (channel_edit_from n d) (λ edit. Ok (Channel edit))
 edit_from (name.Thread n) d = and_then (thread_edit_from n d) (λ edit. Ok (Thread edit))
-edit_from (name.VoicePresence n) d = and_then (voice_presence_edit_from n d) (λ edit. Ok (VoicePresence edit))
+edit_from (name.VoicePresence n) d =
+    and_then (voice_presence_edit_from n d) (λ edit. Ok (VoicePresence edit))
 edit_from (name.Message n) d = and_then (message_edit_from n d) (λ edit. Ok (Message edit))
 
 abbrev pub edit_name : Edit → EditName

@@ -1,15 +1,15 @@
--- Answers that may want memory.
+-- Answers unless memory runs out.
 use Rattle.std.specs.Prelude.{◌≡◌, ◌⊎◌, Result, Ok, Err}
 use Rattle.json_view.specs.declared.fields.ViewFault.{ViewFault}
 use Rattle.json_view.specs.declared.fields.ViewFault.TheVariants as view
 use Rattle.edit_text.specs.declared.fault.LineFault.{LineFault}
 use Rattle.edit_text.specs.declared.fault.LineFault.TheVariants.{Memory, Missing, WrongType}
 
--- this answer, or want of memory
+-- this answer, or out of memory
 abbrev pub UnlessMemory : {A : Type 0} → Result A LineFault → Result A LineFault → Type 0
 UnlessMemory result answer = (result ≡ Err Memory) ⊎ (result ≡ answer)
 
--- a field that is missing is told apart from one that is of another kind
+-- a missing field is told apart from one of the wrong type
 abbrev pub fault_of : ViewFault → LineFault
 fault_of view.Missing = Missing
 fault_of view.WrongType = WrongType

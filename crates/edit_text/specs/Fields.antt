@@ -37,7 +37,7 @@ number_below limit name d = and_then (faulted (number_field name d)) (λ n. with
 abbrev pub mask_at : List ℕ → Data → Result ℕ LineFault
 mask_at name d = and_then (id_at name d) (λ n. within (nat_lt n (2 ^ 53)) n)
 
--- milliseconds since 1970, before the year 10000
+-- milliseconds since 1970, before 9999-01-01T00:00:00Z
 abbrev pub moment_at : List ℕ → Data → Result ℕ LineFault
 moment_at name d = number_below END_OF_TIME name d
 
@@ -46,15 +46,18 @@ position_at name d = number_below (2 ^ 31) name d
 
 -- the type of a channel (Channels Resource, Channel Types)
 abbrev pub kind_at : List ℕ → Data → Result ChannelKind LineFault
-kind_at name d = and_then (faulted (number_field name d)) (λ n. ok_or (channel_kind_numbered n) WrongType)
+kind_at name d =
+    and_then (faulted (number_field name d)) (λ n. ok_or (channel_kind_numbered n) WrongType)
 
 -- the type of a thread (Channels Resource, Channel Types)
 abbrev pub thread_kind_at : List ℕ → Data → Result ThreadKind LineFault
-thread_kind_at name d = and_then (faulted (number_field name d)) (λ n. ok_or (thread_kind_numbered n) WrongType)
+thread_kind_at name d =
+    and_then (faulted (number_field name d)) (λ n. ok_or (thread_kind_numbered n) WrongType)
 
--- whom an overwrite is of (Channels Resource, Overwrite Object)
+-- the type of an overwrite (Channels Resource, Overwrite Object)
 abbrev pub overwrite_kind_at : List ℕ → Data → Result OverwriteKind LineFault
-overwrite_kind_at name d = and_then (faulted (number_field name d)) (λ n. ok_or (overwrite_kind_numbered n) WrongType)
+overwrite_kind_at name d =
+    and_then (faulted (number_field name d)) (λ n. ok_or (overwrite_kind_numbered n) WrongType)
 
 -- a status (Gateway Events, Status Types)
 abbrev pub status_at : List ℕ → Data → Result Status LineFault
@@ -66,22 +69,26 @@ parts_at name d = number_below 11 name d
 
 abbrev pub ids_from : Items → Result (List ℕ) LineFault
 ids_from no_items = Ok []
-ids_from (item d ds) = and_then (faulted (id_value d)) (λ id. and_then (ids_from ds) (λ ids. Ok (id ∷ ids)))
+ids_from (item d ds) =
+    and_then (faulted (id_value d)) (λ id. and_then (ids_from ds) (λ ids. Ok (id ∷ ids)))
 
 -- at most 100 ids
 abbrev pub few_ids_from : Items → Result (List ℕ) LineFault
 few_ids_from ds = if nat_lt 100 (items_len ds) then Err WrongType else ids_from ds
 
 abbrev pub ids_at : List ℕ → Data → Result (List ℕ) LineFault
-ids_at name d = and_then (faulted (field name d)) (λ v. and_then (ok_or (as_array v) WrongType) few_ids_from)
+ids_at name d =
+    and_then (faulted (field name d)) (λ v. and_then (ok_or (as_array v) WrongType) few_ids_from)
 
--- what reads a value, where it is not null
-abbrev pub or_null : {A : Type 0} → (Data → Result A LineFault) → Option Data → Result (Option A) LineFault
+-- reads a value unless it is null
+abbrev pub or_null : {A : Type 0} → (Data → Result A LineFault) → Option Data
+    → Result (Option A) LineFault
 or_null read None = Ok None
 or_null read (Some v) = and_then (read v) (λ a. Ok (Some a))
 
--- a field that may be null, and has to be there
-abbrev pub nullable_at : {A : Type 0} → (Data → Result A LineFault) → List ℕ → Data → Result (Option A) LineFault
+-- a field that may be null, and must exist
+abbrev pub nullable_at : {A : Type 0} → (Data → Result A LineFault) → List ℕ → Data
+    → Result (Option A) LineFault
 nullable_at read name d = and_then (faulted (field name d)) (λ v. or_null read (unless_null v))
 
 abbrev pub nullable_text_at : List ℕ → Data → Result (Option (List ℕ)) LineFault

@@ -44,50 +44,51 @@ abbrev pub ConnectionFits : ℕ → Type 0
 ConnectionFits conn = conn < 2 ^ 32
 
 abbrev pub GuildEditFits : GuildEdit → Type 0
-GuildEditFits (GuildOpen name owner owner_name perms at) = IdFits owner × MaskFits perms × MomentFits at
+GuildEditFits (GuildOpen e) = IdFits e.owner × MaskFits e.perms × MomentFits e.at
 GuildEditFits (GuildRename name) = Unit {0}
 GuildEditFits (GuildOwner user) = IdFits user
 GuildEditFits GuildOutage = Unit {0}
 GuildEditFits GuildBack = Unit {0}
 
 abbrev pub RoleMemberEditFits : RoleMemberEdit → Type 0
-RoleMemberEditFits (RoleCreate role name perms position) = IdFits role × MaskFits perms
-RoleMemberEditFits (RoleUpdate role name perms position) = IdFits role × MaskFits perms
+RoleMemberEditFits (RoleCreate body) = IdFits body.role × MaskFits body.perms
+RoleMemberEditFits (RoleUpdate body) = IdFits body.role × MaskFits body.perms
 RoleMemberEditFits (RoleDelete role) = IdFits role
-RoleMemberEditFits (MemberAdd user name bot at) = IdFits user × MomentFits at
+RoleMemberEditFits (MemberAdd e) = IdFits e.user × MomentFits e.at
 RoleMemberEditFits (MemberRemove user) = IdFits user
-RoleMemberEditFits (MemberNick user nick) = IdFits user
-RoleMemberEditFits (MemberTimeout user until) = IdFits user × NullableMomentFits until
-RoleMemberEditFits (MemberRoleAdd user role) = IdFits user × IdFits role
-RoleMemberEditFits (MemberRoleRemove user role) = IdFits user × IdFits role
+RoleMemberEditFits (MemberNick e) = IdFits e.user
+RoleMemberEditFits (MemberTimeout e) = IdFits e.user × NullableMomentFits e.until
+RoleMemberEditFits (MemberRoleAdd held) = IdFits held.user × IdFits held.role
+RoleMemberEditFits (MemberRoleRemove held) = IdFits held.user × IdFits held.role
 
 abbrev pub ChannelEditFits : ChannelEdit → Type 0
-ChannelEditFits (ChannelCreate channel kind name parent position sync) = IdFits channel × NullableIdFits parent
-ChannelEditFits (ChannelUpdate channel name parent position) = IdFits channel × NullableIdFits parent
+ChannelEditFits (ChannelCreate e) = IdFits e.channel × NullableIdFits e.parent
+ChannelEditFits (ChannelUpdate e) = IdFits e.channel × NullableIdFits e.parent
 ChannelEditFits (ChannelDelete channel) = IdFits channel
-ChannelEditFits (OverwriteSet channel id kind allow deny) = IdFits channel × IdFits id × MaskFits allow × MaskFits deny
-ChannelEditFits (OverwriteDelete channel id kind) = IdFits channel × IdFits id
+ChannelEditFits (OverwriteSet e) = IdFits e.channel × IdFits e.id × MaskFits e.allow × MaskFits e.deny
+ChannelEditFits (OverwriteDelete e) = IdFits e.channel × IdFits e.id
 
 abbrev pub ThreadEditFits : ThreadEdit → Type 0
-ThreadEditFits (ThreadCreate thread parent kind name owner at) = IdFits thread × IdFits parent × IdFits owner × MomentFits at
-ThreadEditFits (ThreadRename thread name) = IdFits thread
+ThreadEditFits (ThreadCreate e) = IdFits e.thread × IdFits e.parent × IdFits e.owner × MomentFits e.at
+ThreadEditFits (ThreadRename e) = IdFits e.thread
 ThreadEditFits (ThreadArchive thread) = IdFits thread
 ThreadEditFits (ThreadUnarchive thread) = IdFits thread
 ThreadEditFits (ThreadDelete thread) = IdFits thread
-ThreadEditFits (ThreadJoin thread user at) = IdFits thread × IdFits user × MomentFits at
-ThreadEditFits (ThreadLeave thread user) = IdFits thread × IdFits user
+ThreadEditFits (ThreadJoin e) = IdFits e.thread × IdFits e.user × MomentFits e.at
+ThreadEditFits (ThreadLeave e) = IdFits e.thread × IdFits e.user
 
 abbrev pub VoicePresenceEditFits : VoicePresenceEdit → Type 0
-VoicePresenceEditFits (VoiceSet user channel mute deaf) = IdFits user × NullableIdFits channel
-VoicePresenceEditFits (PresenceSet user status) = IdFits user
+VoicePresenceEditFits (VoiceSet e) = IdFits e.user × NullableIdFits e.channel
+VoicePresenceEditFits (PresenceSet e) = IdFits e.user
 
 abbrev pub MessageEditFits : MessageEdit → Type 0
-MessageEditFits (MessageCreate message place author body) = IdFits message × IdFits place × IdFits author × IdsFit body.mentions
-MessageEditFits (MessageUpdate message body) = IdFits message × IdsFit body.mentions
+MessageEditFits (MessageCreate e) =
+    IdFits e.message × IdFits e.place × IdFits e.author × IdsFit e.body.mentions
+MessageEditFits (MessageUpdate e) = IdFits e.message × IdsFit e.body.mentions
 MessageEditFits (MessageDelete message) = IdFits message
-MessageEditFits (ReactionAdd message user emoji) = IdFits message × IdFits user
-MessageEditFits (ReactionRemove message user emoji) = IdFits message × IdFits user
-MessageEditFits (Typing place user at) = IdFits place × IdFits user × MomentFits at
+MessageEditFits (ReactionAdd body) = IdFits body.message × IdFits body.user
+MessageEditFits (ReactionRemove body) = IdFits body.message × IdFits body.user
+MessageEditFits (Typing e) = IdFits e.place × IdFits e.user × MomentFits e.at
 
 abbrev pub EditFits : Edit → Type 0
 EditFits (edit.Guild e) = GuildEditFits e

@@ -1,5 +1,5 @@
 -- What each line of a step file is.
-use Rattle.std.specs.Prelude.{ℕ, ◌+◌, ◌^◌, ◌==◌, List, [], ◌∷◌, ◌++◌, length, Bool, true, false, not, ◌&&◌, ◌||◌, nat_lt, if◌then◌else◌, Option, Some, None, option_and_then, Result, Ok, Err, codes}
+use Rattle.std.specs.Prelude.{ℕ, ◌+◌, ◌^◌, ◌==◌, List, [], ◌∷◌, ◌++◌, length, Bool, true, false, not, ◌||◌, nat_lt, if◌then◌else◌, Option, Some, None, option_and_then, Result, Ok, Err, codes}
 use Rattle.std.specs.List.{list_all, list_any}
 use Rattle.std.specs.Option.{ok_or}
 use Rattle.serde_json.specs.Data.{Data}
@@ -16,7 +16,7 @@ use Rattle.edit_text.specs.declared.names.StepName.{StepName}
 use Rattle.edit_text.specs.declared.names.StepName.TheVariants as step
 use Rattle.edit_text.specs.declared.reader.StepReader.{StepReader}
 use Rattle.edit_text.specs.Fields.{text_at, id_at, number_below, intents_at}
-use Rattle.edit_text.specs.Names.{any_step_named, is_head, edit_named}
+use Rattle.edit_text.specs.Names.{step_named, is_head, edit_named}
 use Rattle.edit_text.specs.Edits.{edit_from}
 
 -- ---- head lines
@@ -126,10 +126,12 @@ is_edit step.Tick = false
 
 -- head lines come first, and a script has no other step than edits
 abbrev pub is_allowed : StepReader → StepName → Bool
-is_allowed reader name = if is_head name then not reader.stepped else (is_run reader.kind || is_edit name)
+is_allowed reader name =
+    if is_head name then not reader.stepped else (is_run reader.kind || is_edit name)
 
 abbrev pub step_of : StepReader → List ℕ → Option StepName
-step_of reader text = option_and_then (λ name. if is_allowed reader name then Some name else None) (any_step_named text)
+step_of reader text =
+    option_and_then (λ name. if is_allowed reader name then Some name else None) (step_named text)
 
 abbrev pub line_from : StepReader → Data → Result Line LineFault
 line_from reader d =
@@ -156,7 +158,7 @@ is_too_long reader bytes = nat_lt 65536 (length bytes) || not (nat_lt reader.lin
 abbrev pub some_line : Result Line LineFault → Result (Option Line) LineFault
 some_line r = and_then r (λ line. Ok (Some line))
 
--- the line that the bytes are, or nothing where they are blank
+-- the line that the bytes are, or none if they are blank
 unfoldable pub line_of : StepReader → List ℕ → Result (Option Line) LineFault
 line_of reader bytes =
     if is_too_long reader bytes then Err TooLong
@@ -183,7 +185,7 @@ noted (Tick worker now) r = record r { stepped = true }
 abbrev pub counted : StepReader → StepReader
 counted r = record r { lines = if nat_lt 1000000 r.lines then r.lines else r.lines + 1 }
 
--- a line that is refused leaves nothing but its count
+-- a refused line is counted, and changes nothing else
 abbrev pub after_line : Result (Option Line) LineFault → StepReader → StepReader
 after_line (Err fault) r = counted r
 after_line (Ok None) r = counted r

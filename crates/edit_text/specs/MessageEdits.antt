@@ -2,9 +2,13 @@
 use Rattle.std.specs.Prelude.{ℕ, List, [], ◌∷◌, Result, Ok, codes}
 use Rattle.serde_json.specs.Data.{Data, string}
 use Rattle.json_view.specs.Fields.{and_then}
-use Rattle.message_edit.specs.declared.body.MessageBody.{MessageBody}
 use Rattle.message_edit.specs.declared.MessageEdit.{MessageEdit}
-use Rattle.message_edit.specs.declared.MessageEdit.TheVariants.{MessageCreate, MessageUpdate, MessageDelete, ReactionAdd, ReactionRemove, Typing}
+use Rattle.message_edit.specs.declared.MessageEdit.TheVariants as edit
+use Rattle.message_edit.specs.declared.body.MessageBody.{MessageBody}
+use Rattle.message_edit.specs.declared.message_create.MessageCreate.{MessageCreate}
+use Rattle.message_edit.specs.declared.message_update.MessageUpdate.{MessageUpdate}
+use Rattle.message_edit.specs.declared.reaction.ReactionBody.{ReactionBody}
+use Rattle.message_edit.specs.declared.typing.Typing.{Typing}
 use Rattle.edit_text.specs.declared.fault.LineFault.{LineFault}
 use Rattle.edit_text.specs.declared.names.MessageEditName.{MessageEditName}
 use Rattle.edit_text.specs.declared.names.MessageEditName.TheVariants as named
@@ -20,79 +24,92 @@ body_from d =
     and_then (parts_at (codes "embeds") d) (λ embeds.
     and_then (parts_at (codes "attachments") d) (λ attachments.
     and_then (parts_at (codes "components") d) (λ components.
-    Ok (record { content = content; mentions = mentions; embeds = embeds; attachments = attachments; components = components }))))))
+    Ok (record {
+      content = content;
+      mentions = mentions;
+      embeds = embeds;
+      attachments = attachments;
+      components = components;
+    }))))))
 
-abbrev pub message_create_from : Data → Result MessageEdit LineFault
+abbrev pub message_create_from : Data → Result MessageCreate LineFault
 message_create_from d =
     and_then (id_at (codes "message") d) (λ message.
     and_then (id_at (codes "channel") d) (λ place.
     and_then (id_at (codes "author") d) (λ author.
     and_then (body_from d) (λ body.
-    Ok (MessageCreate message place author body)))))
+    Ok (record { message = message; place = place; author = author; body = body })))))
 
-abbrev pub message_update_from : Data → Result MessageEdit LineFault
+abbrev pub message_update_from : Data → Result MessageUpdate LineFault
 message_update_from d =
     and_then (id_at (codes "message") d) (λ message.
     and_then (body_from d) (λ body.
-    Ok (MessageUpdate message body)))
+    Ok (record { message = message; body = body })))
 
-abbrev pub message_delete_from : Data → Result MessageEdit LineFault
-message_delete_from d =
-    and_then (id_at (codes "message") d) (λ message.
-    Ok (MessageDelete message))
-
-abbrev pub reaction_add_from : Data → Result MessageEdit LineFault
-reaction_add_from d =
+abbrev pub reaction_from : Data → Result ReactionBody LineFault
+reaction_from d =
     and_then (id_at (codes "message") d) (λ message.
     and_then (id_at (codes "user") d) (λ user.
     and_then (text_at (codes "emoji") d) (λ emoji.
-    Ok (ReactionAdd message user emoji))))
+    Ok (record { message = message; user = user; emoji = emoji }))))
 
-abbrev pub reaction_remove_from : Data → Result MessageEdit LineFault
-reaction_remove_from d =
-    and_then (id_at (codes "message") d) (λ message.
-    and_then (id_at (codes "user") d) (λ user.
-    and_then (text_at (codes "emoji") d) (λ emoji.
-    Ok (ReactionRemove message user emoji))))
-
-abbrev pub typing_from : Data → Result MessageEdit LineFault
+abbrev pub typing_from : Data → Result Typing LineFault
 typing_from d =
     and_then (id_at (codes "channel") d) (λ place.
     and_then (id_at (codes "user") d) (λ user.
     and_then (moment_at (codes "at") d) (λ at.
-    Ok (Typing place user at))))
+    Ok (record { place = place; user = user; at = at }))))
 
 abbrev pub message_edit_from : MessageEditName → Data → Result MessageEdit LineFault
-message_edit_from named.MessageCreate d = message_create_from d
-message_edit_from named.MessageUpdate d = message_update_from d
-message_edit_from named.MessageDelete d = message_delete_from d
-message_edit_from named.ReactionAdd d = reaction_add_from d
-message_edit_from named.ReactionRemove d = reaction_remove_from d
-message_edit_from named.Typing d = typing_from d
+message_edit_from named.MessageCreate d =
+    and_then (message_create_from d) (λ e. Ok (edit.MessageCreate e))
+message_edit_from named.MessageUpdate d =
+    and_then (message_update_from d) (λ e. Ok (edit.MessageUpdate e))
+message_edit_from named.MessageDelete d =
+    and_then (id_at (codes "message") d) (λ message. Ok (edit.MessageDelete message))
+message_edit_from named.ReactionAdd d =
+    and_then (reaction_from d) (λ body. Ok (edit.ReactionAdd body))
+message_edit_from named.ReactionRemove d =
+    and_then (reaction_from d) (λ body. Ok (edit.ReactionRemove body))
+message_edit_from named.Typing d = and_then (typing_from d) (λ e. Ok (edit.Typing e))
 
 -- ---- writing
 
 abbrev pub message_edit_name : MessageEdit → MessageEditName
-message_edit_name (MessageCreate message place author body) = named.MessageCreate
-message_edit_name (MessageUpdate message body) = named.MessageUpdate
-message_edit_name (MessageDelete message) = named.MessageDelete
-message_edit_name (ReactionAdd message user emoji) = named.ReactionAdd
-message_edit_name (ReactionRemove message user emoji) = named.ReactionRemove
-message_edit_name (Typing place user at) = named.Typing
+message_edit_name (edit.MessageCreate e) = named.MessageCreate
+message_edit_name (edit.MessageUpdate e) = named.MessageUpdate
+message_edit_name (edit.MessageDelete message) = named.MessageDelete
+message_edit_name (edit.ReactionAdd body) = named.ReactionAdd
+message_edit_name (edit.ReactionRemove body) = named.ReactionRemove
+message_edit_name (edit.Typing e) = named.Typing
 
 abbrev pub body_fields : MessageBody → List (List ℕ × Data)
 body_fields body =
-    (codes "content", string body.content) ∷ (codes "mentions", ids_data body.mentions) ∷ (codes "embeds", count body.embeds)
-    ∷ (codes "attachments", count body.attachments) ∷ (codes "components", count body.components) ∷ []
+    (codes "content", string body.content) ∷ (codes "mentions", ids_data body.mentions)
+    ∷ (codes "embeds", count body.embeds) ∷ (codes "attachments", count body.attachments)
+    ∷ (codes "components", count body.components) ∷ []
 
-abbrev pub reaction_fields : ℕ → ℕ → List ℕ → List (List ℕ × Data)
-reaction_fields message user emoji = (codes "message", id_data message) ∷ (codes "user", id_data user) ∷ (codes "emoji", string emoji) ∷ []
+abbrev pub message_create_fields : MessageCreate → List (List ℕ × Data)
+message_create_fields e =
+    (codes "message", id_data e.message) ∷ (codes "channel", id_data e.place)
+    ∷ (codes "author", id_data e.author) ∷ body_fields e.body
+
+abbrev pub message_update_fields : MessageUpdate → List (List ℕ × Data)
+message_update_fields e = (codes "message", id_data e.message) ∷ body_fields e.body
+
+abbrev pub reaction_fields : ReactionBody → List (List ℕ × Data)
+reaction_fields body =
+    (codes "message", id_data body.message) ∷ (codes "user", id_data body.user)
+    ∷ (codes "emoji", string body.emoji) ∷ []
+
+abbrev pub typing_fields : Typing → List (List ℕ × Data)
+typing_fields e =
+    (codes "channel", id_data e.place) ∷ (codes "user", id_data e.user) ∷ (codes "at", count e.at) ∷ []
 
 abbrev pub message_edit_fields : MessageEdit → List (List ℕ × Data)
-message_edit_fields (MessageCreate message place author body) =
-    (codes "message", id_data message) ∷ (codes "channel", id_data place) ∷ (codes "author", id_data author) ∷ body_fields body
-message_edit_fields (MessageUpdate message body) = (codes "message", id_data message) ∷ body_fields body
-message_edit_fields (MessageDelete message) = (codes "message", id_data message) ∷ []
-message_edit_fields (ReactionAdd message user emoji) = reaction_fields message user emoji
-message_edit_fields (ReactionRemove message user emoji) = reaction_fields message user emoji
-message_edit_fields (Typing place user at) = (codes "channel", id_data place) ∷ (codes "user", id_data user) ∷ (codes "at", count at) ∷ []
+message_edit_fields (edit.MessageCreate e) = message_create_fields e
+message_edit_fields (edit.MessageUpdate e) = message_update_fields e
+message_edit_fields (edit.MessageDelete message) = (codes "message", id_data message) ∷ []
+message_edit_fields (edit.ReactionAdd body) = reaction_fields body
+message_edit_fields (edit.ReactionRemove body) = reaction_fields body
+message_edit_fields (edit.Typing e) = typing_fields e

@@ -1,5 +1,6 @@
--- The names of steps and of edits, and which of them may be used.
-use Rattle.std.specs.Prelude.{ℕ, List, Bool, true, false, Option, Some, None, option_map, if◌then◌else◌, codes}
+-- The names of steps and of edits.
+use Rattle.std.specs.Prelude.{ℕ, List, [], ◌∷◌, ◌++◌, map, Bool, true, false, Option, codes}
+use Rattle.std.specs.List.{find}
 use Rattle.std.specs.Str.{bytes_eq}
 use Rattle.edit_text.specs.declared.names.StepName.{StepName}
 use Rattle.edit_text.specs.declared.names.StepName.TheVariants as step
@@ -18,32 +19,7 @@ use Rattle.edit_text.specs.declared.names.MessageEditName.TheVariants.{MessageCr
 use Rattle.edit_text.specs.declared.names.EditName.{EditName}
 use Rattle.edit_text.specs.declared.names.EditName.TheVariants.{Guild, RoleMember, Channel, Thread, VoicePresence, Message}
 
--- the first of two that is there
-abbrev pub first_named : {A : Type 0} → Option A → Option A → Option A
-first_named (Some a) other = Some a
-first_named None other = other
-
 -- ---- steps
-
-unfoldable pub step_named : List ℕ → Option StepName
-step_named s =
-    if bytes_eq s (codes "bot") then Some step.Bot
-    else (if bytes_eq s (codes "guild") then Some step.Guild
-    else (if bytes_eq s (codes "edit") then Some step.Edit
-    else (if bytes_eq s (codes "look") then Some step.Look
-    else (if bytes_eq s (codes "tick") then Some step.Tick
-    else None))))
-
-unfoldable pub connection_step_named : List ℕ → Option StepName
-connection_step_named s =
-    if bytes_eq s (codes "open") then Some step.Open
-    else (if bytes_eq s (codes "frame") then Some step.Frame
-    else (if bytes_eq s (codes "lost") then Some step.Lost
-    else (if bytes_eq s (codes "closed") then Some step.Closed
-    else None)))
-
-abbrev pub any_step_named : List ℕ → Option StepName
-any_step_named s = first_named (step_named s) (connection_step_named s)
 
 abbrev pub step_text : StepName → List ℕ
 step_text step.Bot = codes "bot"
@@ -55,6 +31,15 @@ step_text step.Frame = codes "frame"
 step_text step.Lost = codes "lost"
 step_text step.Closed = codes "closed"
 step_text step.Tick = codes "tick"
+
+abbrev pub steps : List StepName
+steps =
+    step.Bot ∷ step.Guild ∷ step.Edit ∷ step.Look ∷ step.Open
+    ∷ step.Frame ∷ step.Lost ∷ step.Closed ∷ step.Tick ∷ []
+
+-- the step of this name
+unfoldable pub step_named : List ℕ → Option StepName
+step_named s = find (λ n. bytes_eq s (step_text n)) steps
 
 -- the lines that come before all others
 abbrev pub is_head : StepName → Bool
@@ -69,84 +54,6 @@ is_head step.Closed = false
 is_head step.Tick = false
 
 -- ---- edits
-
-unfoldable pub guild_edit_named : List ℕ → Option GuildEditName
-guild_edit_named s =
-    if bytes_eq s (codes "guild_open") then Some GuildOpen
-    else (if bytes_eq s (codes "guild_rename") then Some GuildRename
-    else (if bytes_eq s (codes "guild_owner") then Some GuildOwner
-    else (if bytes_eq s (codes "guild_outage") then Some GuildOutage
-    else (if bytes_eq s (codes "guild_back") then Some GuildBack
-    else None))))
-
-unfoldable pub role_edit_named : List ℕ → Option RoleMemberEditName
-role_edit_named s =
-    if bytes_eq s (codes "role_create") then Some RoleCreate
-    else (if bytes_eq s (codes "role_update") then Some RoleUpdate
-    else (if bytes_eq s (codes "role_delete") then Some RoleDelete
-    else None))
-
-unfoldable pub member_edit_named : List ℕ → Option RoleMemberEditName
-member_edit_named s =
-    if bytes_eq s (codes "member_add") then Some MemberAdd
-    else (if bytes_eq s (codes "member_remove") then Some MemberRemove
-    else (if bytes_eq s (codes "member_nick") then Some MemberNick
-    else (if bytes_eq s (codes "member_timeout") then Some MemberTimeout
-    else (if bytes_eq s (codes "member_role_add") then Some MemberRoleAdd
-    else (if bytes_eq s (codes "member_role_remove") then Some MemberRoleRemove
-    else None)))))
-
-unfoldable pub channel_edit_named : List ℕ → Option ChannelEditName
-channel_edit_named s =
-    if bytes_eq s (codes "channel_create") then Some ChannelCreate
-    else (if bytes_eq s (codes "channel_update") then Some ChannelUpdate
-    else (if bytes_eq s (codes "channel_delete") then Some ChannelDelete
-    else (if bytes_eq s (codes "overwrite_set") then Some OverwriteSet
-    else (if bytes_eq s (codes "overwrite_delete") then Some OverwriteDelete
-    else None))))
-
-unfoldable pub thread_edit_named : List ℕ → Option ThreadEditName
-thread_edit_named s =
-    if bytes_eq s (codes "thread_create") then Some ThreadCreate
-    else (if bytes_eq s (codes "thread_rename") then Some ThreadRename
-    else (if bytes_eq s (codes "thread_delete") then Some ThreadDelete
-    else None))
-
-unfoldable pub thread_state_edit_named : List ℕ → Option ThreadEditName
-thread_state_edit_named s =
-    if bytes_eq s (codes "thread_archive") then Some ThreadArchive
-    else (if bytes_eq s (codes "thread_unarchive") then Some ThreadUnarchive
-    else (if bytes_eq s (codes "thread_join") then Some ThreadJoin
-    else (if bytes_eq s (codes "thread_leave") then Some ThreadLeave
-    else None)))
-
-unfoldable pub voice_presence_edit_named : List ℕ → Option VoicePresenceEditName
-voice_presence_edit_named s =
-    if bytes_eq s (codes "voice_set") then Some VoiceSet
-    else (if bytes_eq s (codes "presence_set") then Some PresenceSet
-    else None)
-
-unfoldable pub message_edit_named : List ℕ → Option MessageEditName
-message_edit_named s =
-    if bytes_eq s (codes "message_create") then Some MessageCreate
-    else (if bytes_eq s (codes "message_update") then Some MessageUpdate
-    else (if bytes_eq s (codes "message_delete") then Some MessageDelete
-    else None))
-
-unfoldable pub reaction_edit_named : List ℕ → Option MessageEditName
-reaction_edit_named s =
-    if bytes_eq s (codes "reaction_add") then Some ReactionAdd
-    else (if bytes_eq s (codes "reaction_remove") then Some ReactionRemove
-    else (if bytes_eq s (codes "typing") then Some Typing
-    else None))
-
-abbrev pub edit_named : List ℕ → Option EditName
-edit_named s =
-    first_named (option_map Guild (guild_edit_named s)) (first_named (option_map RoleMember (role_edit_named s))
-    (first_named (option_map RoleMember (member_edit_named s)) (first_named (option_map Channel (channel_edit_named s))
-    (first_named (option_map Thread (thread_edit_named s)) (first_named (option_map Thread (thread_state_edit_named s))
-    (first_named (option_map VoicePresence (voice_presence_edit_named s)) (first_named (option_map Message (message_edit_named s))
-    (option_map Message (reaction_edit_named s)))))))))
 
 abbrev pub guild_edit_text : GuildEditName → List ℕ
 guild_edit_text GuildOpen = codes "guild_open"
@@ -201,3 +108,19 @@ name_text (Channel name) = channel_edit_text name
 name_text (Thread name) = thread_edit_text name
 name_text (VoicePresence name) = voice_presence_edit_text name
 name_text (Message name) = message_edit_text name
+
+abbrev pub edit_names : List EditName
+edit_names =
+    map Message (MessageCreate ∷ MessageUpdate ∷ MessageDelete ∷ ReactionAdd ∷ ReactionRemove
+    ∷ Typing ∷ [])
+    ++ map VoicePresence (VoiceSet ∷ PresenceSet ∷ [])
+    ++ map Guild (GuildOpen ∷ GuildRename ∷ GuildOwner ∷ GuildOutage ∷ GuildBack ∷ [])
+    ++ map RoleMember (RoleCreate ∷ RoleUpdate ∷ RoleDelete ∷ MemberAdd ∷ MemberRemove ∷ MemberNick
+    ∷ MemberTimeout ∷ MemberRoleAdd ∷ MemberRoleRemove ∷ [])
+    ++ map Channel (ChannelCreate ∷ ChannelUpdate ∷ ChannelDelete ∷ OverwriteSet ∷ OverwriteDelete ∷ [])
+    ++ map Thread (ThreadCreate ∷ ThreadRename ∷ ThreadArchive ∷ ThreadUnarchive ∷ ThreadDelete
+    ∷ ThreadJoin ∷ ThreadLeave ∷ [])
+
+-- the edit of this name
+unfoldable pub edit_named : List ℕ → Option EditName
+edit_named s = find (λ n. bytes_eq s (name_text n)) edit_names

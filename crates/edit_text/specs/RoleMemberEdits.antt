@@ -3,7 +3,12 @@ use Rattle.std.specs.Prelude.{ℕ, List, [], ◌∷◌, Result, Ok, codes}
 use Rattle.serde_json.specs.Data.{Data, boolean, string}
 use Rattle.json_view.specs.Fields.{and_then}
 use Rattle.role_member_edit.specs.declared.RoleMemberEdit.{RoleMemberEdit}
-use Rattle.role_member_edit.specs.declared.RoleMemberEdit.TheVariants.{RoleCreate, RoleUpdate, RoleDelete, MemberAdd, MemberRemove, MemberNick, MemberTimeout, MemberRoleAdd, MemberRoleRemove}
+use Rattle.role_member_edit.specs.declared.RoleMemberEdit.TheVariants as edit
+use Rattle.role_member_edit.specs.declared.role_body.RoleBody.{RoleBody}
+use Rattle.role_member_edit.specs.declared.held_role.HeldRole.{HeldRole}
+use Rattle.role_member_edit.specs.declared.member_add.MemberAdd.{MemberAdd}
+use Rattle.role_member_edit.specs.declared.member_nick.MemberNick.{MemberNick}
+use Rattle.role_member_edit.specs.declared.member_timeout.MemberTimeout.{MemberTimeout}
 use Rattle.edit_text.specs.declared.fault.LineFault.{LineFault}
 use Rattle.edit_text.specs.declared.names.RoleMemberEditName.{RoleMemberEditName}
 use Rattle.edit_text.specs.declared.names.RoleMemberEditName.TheVariants as named
@@ -12,103 +17,97 @@ use Rattle.edit_text.specs.Members.{count, id_data, nullable}
 
 -- ---- reading
 
-abbrev pub role_create_from : Data → Result RoleMemberEdit LineFault
-role_create_from d =
+abbrev pub role_from : Data → Result RoleBody LineFault
+role_from d =
     and_then (id_at (codes "role") d) (λ role.
     and_then (text_at (codes "name") d) (λ name.
     and_then (mask_at (codes "perms") d) (λ perms.
     and_then (position_at (codes "position") d) (λ position.
-    Ok (RoleCreate role name perms position)))))
+    Ok (record { role = role; name = name; perms = perms; position = position })))))
 
-abbrev pub role_update_from : Data → Result RoleMemberEdit LineFault
-role_update_from d =
-    and_then (id_at (codes "role") d) (λ role.
-    and_then (text_at (codes "name") d) (λ name.
-    and_then (mask_at (codes "perms") d) (λ perms.
-    and_then (position_at (codes "position") d) (λ position.
-    Ok (RoleUpdate role name perms position)))))
-
-abbrev pub role_delete_from : Data → Result RoleMemberEdit LineFault
-role_delete_from d =
-    and_then (id_at (codes "role") d) (λ role.
-    Ok (RoleDelete role))
-
-abbrev pub member_add_from : Data → Result RoleMemberEdit LineFault
+abbrev pub member_add_from : Data → Result MemberAdd LineFault
 member_add_from d =
     and_then (id_at (codes "user") d) (λ user.
     and_then (text_at (codes "name") d) (λ name.
     and_then (flag_at (codes "bot") d) (λ bot.
     and_then (moment_at (codes "at") d) (λ at.
-    Ok (MemberAdd user name bot at)))))
+    Ok (record { user = user; name = name; bot = bot; at = at })))))
 
-abbrev pub member_remove_from : Data → Result RoleMemberEdit LineFault
-member_remove_from d =
-    and_then (id_at (codes "user") d) (λ user.
-    Ok (MemberRemove user))
-
-abbrev pub member_nick_from : Data → Result RoleMemberEdit LineFault
+abbrev pub member_nick_from : Data → Result MemberNick LineFault
 member_nick_from d =
     and_then (id_at (codes "user") d) (λ user.
     and_then (nullable_text_at (codes "nick") d) (λ nick.
-    Ok (MemberNick user nick)))
+    Ok (record { user = user; nick = nick })))
 
-abbrev pub member_timeout_from : Data → Result RoleMemberEdit LineFault
+abbrev pub member_timeout_from : Data → Result MemberTimeout LineFault
 member_timeout_from d =
     and_then (id_at (codes "user") d) (λ user.
     and_then (nullable_moment_at (codes "until") d) (λ until.
-    Ok (MemberTimeout user until)))
+    Ok (record { user = user; until = until })))
 
-abbrev pub member_role_add_from : Data → Result RoleMemberEdit LineFault
-member_role_add_from d =
+abbrev pub held_role_from : Data → Result HeldRole LineFault
+held_role_from d =
     and_then (id_at (codes "user") d) (λ user.
     and_then (id_at (codes "role") d) (λ role.
-    Ok (MemberRoleAdd user role)))
-
-abbrev pub member_role_remove_from : Data → Result RoleMemberEdit LineFault
-member_role_remove_from d =
-    and_then (id_at (codes "user") d) (λ user.
-    and_then (id_at (codes "role") d) (λ role.
-    Ok (MemberRoleRemove user role)))
+    Ok (record { user = user; role = role })))
 
 abbrev pub role_member_edit_from : RoleMemberEditName → Data → Result RoleMemberEdit LineFault
-role_member_edit_from named.RoleCreate d = role_create_from d
-role_member_edit_from named.RoleUpdate d = role_update_from d
-role_member_edit_from named.RoleDelete d = role_delete_from d
-role_member_edit_from named.MemberAdd d = member_add_from d
-role_member_edit_from named.MemberRemove d = member_remove_from d
-role_member_edit_from named.MemberNick d = member_nick_from d
-role_member_edit_from named.MemberTimeout d = member_timeout_from d
-role_member_edit_from named.MemberRoleAdd d = member_role_add_from d
-role_member_edit_from named.MemberRoleRemove d = member_role_remove_from d
+role_member_edit_from named.RoleCreate d = and_then (role_from d) (λ body. Ok (edit.RoleCreate body))
+role_member_edit_from named.RoleUpdate d = and_then (role_from d) (λ body. Ok (edit.RoleUpdate body))
+role_member_edit_from named.RoleDelete d =
+    and_then (id_at (codes "role") d) (λ role. Ok (edit.RoleDelete role))
+role_member_edit_from named.MemberAdd d = and_then (member_add_from d) (λ e. Ok (edit.MemberAdd e))
+role_member_edit_from named.MemberRemove d =
+    and_then (id_at (codes "user") d) (λ user. Ok (edit.MemberRemove user))
+role_member_edit_from named.MemberNick d =
+    and_then (member_nick_from d) (λ e. Ok (edit.MemberNick e))
+role_member_edit_from named.MemberTimeout d =
+    and_then (member_timeout_from d) (λ e. Ok (edit.MemberTimeout e))
+role_member_edit_from named.MemberRoleAdd d =
+    and_then (held_role_from d) (λ held. Ok (edit.MemberRoleAdd held))
+role_member_edit_from named.MemberRoleRemove d =
+    and_then (held_role_from d) (λ held. Ok (edit.MemberRoleRemove held))
 
 -- ---- writing
 
 abbrev pub role_member_edit_name : RoleMemberEdit → RoleMemberEditName
-role_member_edit_name (RoleCreate role name perms position) = named.RoleCreate
-role_member_edit_name (RoleUpdate role name perms position) = named.RoleUpdate
-role_member_edit_name (RoleDelete role) = named.RoleDelete
-role_member_edit_name (MemberAdd user name bot at) = named.MemberAdd
-role_member_edit_name (MemberRemove user) = named.MemberRemove
-role_member_edit_name (MemberNick user nick) = named.MemberNick
-role_member_edit_name (MemberTimeout user until) = named.MemberTimeout
-role_member_edit_name (MemberRoleAdd user role) = named.MemberRoleAdd
-role_member_edit_name (MemberRoleRemove user role) = named.MemberRoleRemove
+role_member_edit_name (edit.RoleCreate body) = named.RoleCreate
+role_member_edit_name (edit.RoleUpdate body) = named.RoleUpdate
+role_member_edit_name (edit.RoleDelete role) = named.RoleDelete
+role_member_edit_name (edit.MemberAdd e) = named.MemberAdd
+role_member_edit_name (edit.MemberRemove user) = named.MemberRemove
+role_member_edit_name (edit.MemberNick e) = named.MemberNick
+role_member_edit_name (edit.MemberTimeout e) = named.MemberTimeout
+role_member_edit_name (edit.MemberRoleAdd held) = named.MemberRoleAdd
+role_member_edit_name (edit.MemberRoleRemove held) = named.MemberRoleRemove
 
-abbrev pub role_fields : ℕ → List ℕ → ℕ → ℕ → List (List ℕ × Data)
-role_fields role name perms position =
-    (codes "role", id_data role) ∷ (codes "name", string name) ∷ (codes "perms", id_data perms) ∷ (codes "position", count position) ∷ []
+abbrev pub role_fields : RoleBody → List (List ℕ × Data)
+role_fields body =
+    (codes "role", id_data body.role) ∷ (codes "name", string body.name)
+    ∷ (codes "perms", id_data body.perms) ∷ (codes "position", count body.position) ∷ []
 
-abbrev pub user_role_fields : ℕ → ℕ → List (List ℕ × Data)
-user_role_fields user role = (codes "user", id_data user) ∷ (codes "role", id_data role) ∷ []
+abbrev pub member_add_fields : MemberAdd → List (List ℕ × Data)
+member_add_fields e =
+    (codes "user", id_data e.user) ∷ (codes "name", string e.name)
+    ∷ (codes "bot", boolean e.bot) ∷ (codes "at", count e.at) ∷ []
+
+abbrev pub member_nick_fields : MemberNick → List (List ℕ × Data)
+member_nick_fields e = (codes "user", id_data e.user) ∷ (codes "nick", nullable string e.nick) ∷ []
+
+abbrev pub member_timeout_fields : MemberTimeout → List (List ℕ × Data)
+member_timeout_fields e =
+    (codes "user", id_data e.user) ∷ (codes "until", nullable count e.until) ∷ []
+
+abbrev pub held_role_fields : HeldRole → List (List ℕ × Data)
+held_role_fields held = (codes "user", id_data held.user) ∷ (codes "role", id_data held.role) ∷ []
 
 abbrev pub role_member_edit_fields : RoleMemberEdit → List (List ℕ × Data)
-role_member_edit_fields (RoleCreate role name perms position) = role_fields role name perms position
-role_member_edit_fields (RoleUpdate role name perms position) = role_fields role name perms position
-role_member_edit_fields (RoleDelete role) = (codes "role", id_data role) ∷ []
-role_member_edit_fields (MemberAdd user name bot at) =
-    (codes "user", id_data user) ∷ (codes "name", string name) ∷ (codes "bot", boolean bot) ∷ (codes "at", count at) ∷ []
-role_member_edit_fields (MemberRemove user) = (codes "user", id_data user) ∷ []
-role_member_edit_fields (MemberNick user nick) = (codes "user", id_data user) ∷ (codes "nick", nullable string nick) ∷ []
-role_member_edit_fields (MemberTimeout user until) = (codes "user", id_data user) ∷ (codes "until", nullable count until) ∷ []
-role_member_edit_fields (MemberRoleAdd user role) = user_role_fields user role
-role_member_edit_fields (MemberRoleRemove user role) = user_role_fields user role
+role_member_edit_fields (edit.RoleCreate body) = role_fields body
+role_member_edit_fields (edit.RoleUpdate body) = role_fields body
+role_member_edit_fields (edit.RoleDelete role) = (codes "role", id_data role) ∷ []
+role_member_edit_fields (edit.MemberAdd e) = member_add_fields e
+role_member_edit_fields (edit.MemberRemove user) = (codes "user", id_data user) ∷ []
+role_member_edit_fields (edit.MemberNick e) = member_nick_fields e
+role_member_edit_fields (edit.MemberTimeout e) = member_timeout_fields e
+role_member_edit_fields (edit.MemberRoleAdd held) = held_role_fields held
+role_member_edit_fields (edit.MemberRoleRemove held) = held_role_fields held

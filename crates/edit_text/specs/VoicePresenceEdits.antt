@@ -4,7 +4,9 @@ use Rattle.serde_json.specs.Data.{Data, boolean, string}
 use Rattle.json_view.specs.Fields.{and_then}
 use Rattle.guild_model.specs.Statuses.{status_name}
 use Rattle.voice_presence.specs.declared.VoicePresenceEdit.{VoicePresenceEdit}
-use Rattle.voice_presence.specs.declared.VoicePresenceEdit.TheVariants.{VoiceSet, PresenceSet}
+use Rattle.voice_presence.specs.declared.VoicePresenceEdit.TheVariants as edit
+use Rattle.voice_presence.specs.declared.voice_set.VoiceSet.{VoiceSet}
+use Rattle.voice_presence.specs.declared.presence_set.PresenceSet.{PresenceSet}
 use Rattle.edit_text.specs.declared.fault.LineFault.{LineFault}
 use Rattle.edit_text.specs.declared.names.VoicePresenceEditName.{VoicePresenceEditName}
 use Rattle.edit_text.specs.declared.names.VoicePresenceEditName.TheVariants as named
@@ -13,31 +15,40 @@ use Rattle.edit_text.specs.Members.{id_data, nullable}
 
 -- ---- reading
 
-abbrev pub voice_set_from : Data → Result VoicePresenceEdit LineFault
+abbrev pub voice_set_from : Data → Result VoiceSet LineFault
 voice_set_from d =
     and_then (id_at (codes "user") d) (λ user.
     and_then (nullable_id_at (codes "channel") d) (λ channel.
     and_then (flag_at (codes "mute") d) (λ mute.
     and_then (flag_at (codes "deaf") d) (λ deaf.
-    Ok (VoiceSet user channel mute deaf)))))
+    Ok (record { user = user; channel = channel; self_mute = mute; self_deaf = deaf })))))
 
-abbrev pub presence_set_from : Data → Result VoicePresenceEdit LineFault
+abbrev pub presence_set_from : Data → Result PresenceSet LineFault
 presence_set_from d =
     and_then (id_at (codes "user") d) (λ user.
     and_then (status_at (codes "status") d) (λ status.
-    Ok (PresenceSet user status)))
+    Ok (record { user = user; status = status })))
 
 abbrev pub voice_presence_edit_from : VoicePresenceEditName → Data → Result VoicePresenceEdit LineFault
-voice_presence_edit_from named.VoiceSet d = voice_set_from d
-voice_presence_edit_from named.PresenceSet d = presence_set_from d
+voice_presence_edit_from named.VoiceSet d = and_then (voice_set_from d) (λ e. Ok (edit.VoiceSet e))
+voice_presence_edit_from named.PresenceSet d =
+    and_then (presence_set_from d) (λ e. Ok (edit.PresenceSet e))
 
 -- ---- writing
 
 abbrev pub voice_presence_edit_name : VoicePresenceEdit → VoicePresenceEditName
-voice_presence_edit_name (VoiceSet user channel mute deaf) = named.VoiceSet
-voice_presence_edit_name (PresenceSet user status) = named.PresenceSet
+voice_presence_edit_name (edit.VoiceSet e) = named.VoiceSet
+voice_presence_edit_name (edit.PresenceSet e) = named.PresenceSet
+
+abbrev pub voice_set_fields : VoiceSet → List (List ℕ × Data)
+voice_set_fields e =
+    (codes "user", id_data e.user) ∷ (codes "channel", nullable id_data e.channel)
+    ∷ (codes "mute", boolean e.self_mute) ∷ (codes "deaf", boolean e.self_deaf) ∷ []
+
+abbrev pub presence_set_fields : PresenceSet → List (List ℕ × Data)
+presence_set_fields e =
+    (codes "user", id_data e.user) ∷ (codes "status", string (status_name e.status)) ∷ []
 
 abbrev pub voice_presence_edit_fields : VoicePresenceEdit → List (List ℕ × Data)
-voice_presence_edit_fields (VoiceSet user channel mute deaf) =
-    (codes "user", id_data user) ∷ (codes "channel", nullable id_data channel) ∷ (codes "mute", boolean mute) ∷ (codes "deaf", boolean deaf) ∷ []
-voice_presence_edit_fields (PresenceSet user status) = (codes "user", id_data user) ∷ (codes "status", string (status_name status)) ∷ []
+voice_presence_edit_fields (edit.VoiceSet e) = voice_set_fields e
+voice_presence_edit_fields (edit.PresenceSet e) = presence_set_fields e

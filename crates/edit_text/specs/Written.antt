@@ -34,9 +34,12 @@ step_name (Tick worker now) = step.Tick
 -- the fields after `step`, in the order in which they are read
 abbrev pub line_fields : Line → List (List ℕ × Data)
 line_fields (Bot token user name privileged) =
-    (codes "token", string token) ∷ (codes "user", id_data user) ∷ (codes "name", string name) ∷ (codes "privileged", count privileged) ∷ []
+    (codes "token", string token) ∷ (codes "user", id_data user) ∷ (codes "name", string name)
+    ∷ (codes "privileged", count privileged) ∷ []
 line_fields (Guild id) = (codes "id", id_data id) ∷ []
-line_fields (EditLine guild edit) = (codes "guild", id_data guild) ∷ (codes "do", string (name_text (edit_name edit))) ∷ edit_fields edit
+line_fields (EditLine guild edit) =
+    (codes "guild", id_data guild) ∷ (codes "do", string (name_text (edit_name edit)))
+    ∷ edit_fields edit
 line_fields (Look worker guild) = (codes "worker", count worker) ∷ (codes "guild", id_data guild) ∷ []
 line_fields (Open worker conn) = (codes "worker", count worker) ∷ (codes "conn", count conn) ∷ []
 line_fields (Frame conn text) = (codes "conn", count conn) ∷ (codes "text", string text) ∷ []
@@ -46,7 +49,8 @@ line_fields (Tick worker now) = (codes "worker", count worker) ∷ (codes "now",
 
 -- the object of a line; its keys are in byte order, whatever the order of its fields
 abbrev pub line_data : Line → Data
-line_data line = object (put_all no_members ((codes "step", string (step_text (step_name line))) ∷ line_fields line))
+line_data line =
+    object (put_all no_members ((codes "step", string (step_text (step_name line))) ∷ line_fields line))
 
 -- ---- which lines a reader allows
 
@@ -54,37 +58,39 @@ abbrev pub is_in_place : ℕ → Bool
 is_in_place position = nat_lt position (2 ^ 31)
 
 abbrev pub role_member_within : RoleMemberEdit → Bool
-role_member_within (RoleCreate role name perms position) = is_in_place position
-role_member_within (RoleUpdate role name perms position) = is_in_place position
+role_member_within (RoleCreate body) = is_in_place body.position
+role_member_within (RoleUpdate body) = is_in_place body.position
 role_member_within (RoleDelete role) = true
-role_member_within (MemberAdd user name bot at) = true
+role_member_within (MemberAdd e) = true
 role_member_within (MemberRemove user) = true
-role_member_within (MemberNick user nick) = true
-role_member_within (MemberTimeout user until) = true
-role_member_within (MemberRoleAdd user role) = true
-role_member_within (MemberRoleRemove user role) = true
+role_member_within (MemberNick e) = true
+role_member_within (MemberTimeout e) = true
+role_member_within (MemberRoleAdd held) = true
+role_member_within (MemberRoleRemove held) = true
 
 abbrev pub channel_within : ChannelEdit → Bool
-channel_within (ChannelCreate channel kind name parent position sync) = is_in_place position
-channel_within (ChannelUpdate channel name parent position) = is_in_place position
+channel_within (ChannelCreate e) = is_in_place e.position
+channel_within (ChannelUpdate e) = is_in_place e.position
 channel_within (ChannelDelete channel) = true
-channel_within (OverwriteSet channel id kind allow deny) = true
-channel_within (OverwriteDelete channel id kind) = true
+channel_within (OverwriteSet e) = true
+channel_within (OverwriteDelete e) = true
 
 -- embeds, attachments or components, of each at most 10
 abbrev pub are_few : ℕ → Bool
 are_few parts = nat_lt parts 11
 
 abbrev pub body_within : MessageBody → Bool
-body_within body = not (nat_lt 100 (length body.mentions)) && (are_few body.embeds && (are_few body.attachments && are_few body.components))
+body_within body =
+    not (nat_lt 100 (length body.mentions))
+    && (are_few body.embeds && (are_few body.attachments && are_few body.components))
 
 abbrev pub message_within : MessageEdit → Bool
-message_within (MessageCreate message place author body) = body_within body
-message_within (MessageUpdate message body) = body_within body
+message_within (MessageCreate e) = body_within e.body
+message_within (MessageUpdate e) = body_within e.body
 message_within (MessageDelete message) = true
-message_within (ReactionAdd message user emoji) = true
-message_within (ReactionRemove message user emoji) = true
-message_within (Typing place user at) = true
+message_within (ReactionAdd body) = true
+message_within (ReactionRemove body) = true
+message_within (Typing e) = true
 
 abbrev pub edit_within : Edit → Bool
 edit_within (edit.Guild e) = true
@@ -108,4 +114,5 @@ line_within guilds (Tick worker now) = nat_lt worker 4 && nat_lt now (2 ^ 53)
 
 -- whether the line may come next
 abbrev pub allows : StepReader → Line → Bool
-allows reader line = nat_lt reader.lines 1000000 && (is_allowed reader (step_name line) && line_within reader.guilds line)
+allows reader line =
+    nat_lt reader.lines 1000000 && (is_allowed reader (step_name line) && line_within reader.guilds line)

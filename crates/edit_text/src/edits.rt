@@ -1,11 +1,10 @@
-//! Edits by their names.
+//! Reads and writes the fields of edits, by their names.
 
 ghost use Rattle.std.specs.Prelude.{◌≡◌, OnOk};
-ghost use Rattle.serde_json.specs.View.{members_view};
 ghost use Rattle.json_line.specs.View.{view};
 ghost use Rattle.edit_text.specs.Fault.{UnlessMemory};
 ghost use Rattle.edit_text.specs.Fits.{EditFits};
-ghost use Rattle.edit_text.specs.Members.{put_all};
+ghost use Rattle.edit_text.specs.Members.{HasPut};
 ghost use Rattle.edit_text.specs.Edits.{edit_from, edit_name, edit_fields};
 
 mod channel;
@@ -22,20 +21,18 @@ use json_line::Node;
 use serde_json::{Map, Value};
 use std::alloc::{AllocError, Global};
 
-/// The edit of this name, from the fields of an object.
+/// Reads the edit of this name from the fields of an object.
 pub fn read(alloc: Global, name: EditName, object: &Node<'_>) -> Result<Edit, LineFault>
     ensures { UnlessMemory result (edit_from name (view object.now)) }
 {
-    match name {
-        EditName::Guild(name) => Ok(Edit::Guild(guild::read(alloc, name, object)?)),
-        EditName::RoleMember(name) => {
-            Ok(Edit::RoleMember(role_member::read(alloc, name, object)?))
-        }
-        EditName::Channel(name) => Ok(Edit::Channel(channel::read(alloc, name, object)?)),
-        EditName::Thread(name) => Ok(Edit::Thread(thread::read(alloc, name, object)?)),
-        EditName::VoicePresence(name) => { Ok(Edit::VoicePresence(voice::read(name, object)?)) }
-        EditName::Message(name) => Ok(Edit::Message(message::read(alloc, name, object)?)),
-    }
+    Ok(match name {
+        EditName::Guild(name) => Edit::Guild(guild::read(alloc, name, object)?),
+        EditName::RoleMember(name) => Edit::RoleMember(role_member::read(alloc, name, object)?),
+        EditName::Channel(name) => Edit::Channel(channel::read(alloc, name, object)?),
+        EditName::Thread(name) => Edit::Thread(thread::read(alloc, name, object)?),
+        EditName::VoicePresence(name) => Edit::VoicePresence(voice::read(name, object)?),
+        EditName::Message(name) => Edit::Message(message::read(alloc, name, object)?),
+    })
 }
 
 /// The name of an edit, as step files write it.
@@ -54,33 +51,16 @@ pub fn name_of(edit: &Edit) -> EditName
 
 /// Puts the fields of an edit into an object.
 pub fn put(alloc: Global, members: &mut Map<String, Value>, edit: &Edit) -> Result<(), AllocError>
-    ensures put { OnOk result (members_view members.new.entries ≡ put_all (members_view members.old.entries) (edit_fields edit.now)) }
+    ensures put { OnOk result
+        (HasPut members.old.entries members.new.entries (edit_fields edit.now)) }
     ensures fits { OnOk result (EditFits edit.now) }
 {
     match edit {
-        Edit::Guild(edit) => {
-            guild::put(alloc, members, edit)?;
-            Ok(())
-        }
-        Edit::RoleMember(edit) => {
-            role_member::put(alloc, members, edit)?;
-            Ok(())
-        }
-        Edit::Channel(edit) => {
-            channel::put(alloc, members, edit)?;
-            Ok(())
-        }
-        Edit::Thread(edit) => {
-            thread::put(alloc, members, edit)?;
-            Ok(())
-        }
-        Edit::VoicePresence(edit) => {
-            voice::put(alloc, members, edit)?;
-            Ok(())
-        }
-        Edit::Message(edit) => {
-            message::put(alloc, members, edit)?;
-            Ok(())
-        }
+        Edit::Guild(edit) => guild::put(alloc, members, edit),
+        Edit::RoleMember(edit) => role_member::put(alloc, members, edit),
+        Edit::Channel(edit) => channel::put(alloc, members, edit),
+        Edit::Thread(edit) => thread::put(alloc, members, edit),
+        Edit::VoicePresence(edit) => voice::put(alloc, members, edit),
+        Edit::Message(edit) => message::put(alloc, members, edit),
     }
 }

@@ -1,4 +1,4 @@
-//! Step files: what each line means, and the line of each step.
+//! Reads the lines of step files, and writes them.
 #![tactic(auto)]
 
 mod edits;

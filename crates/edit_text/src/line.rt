@@ -1,3 +1,5 @@
+//! The kinds of step files, and what a line says.
+
 use collections::Text;
 use edit_apply::Edit;
 use intent_set::Intents;
@@ -6,32 +8,32 @@ use snowflake_id::Snowflake;
 /// What a file of lines is for.
 #[derive(Clone, Copy, PartialEq, Eq, Debug)]
 pub enum FileKind {
-    /// All that comes to the server, in order.
+    /// Everything that reaches the server, in order.
     Run,
-    /// The edits of one source, beside which others may run.
+    /// The edits of one source, which runs beside others.
     Script,
 }
 
 /// What a line of a step file says.
 #[derive(Drop)]
 pub enum Line {
-    /// A bot that may connect, and the privileged intents that it may ask for.
+    /// Declares a bot and the privileged intents that it may ask for.
     Bot {
         token: Text,
         user: Snowflake,
         name: Text,
         privileged: Intents,
     },
-    /// A guild with an empty log.
+    /// Declares a guild, with an empty log.
     Guild {
         id: Snowflake,
     },
-    /// An edit comes to a guild's log.
+    /// Enters an edit into a guild's log.
     Edit {
         guild: Snowflake,
         edit: Edit,
     },
-    /// A worker reads what has come to a guild's log.
+    /// A worker handles the new entries of a guild's log.
     Look {
         worker: u8,
         guild: Snowflake,
@@ -46,7 +48,7 @@ pub enum Line {
         conn: u32,
         text: Text,
     },
-    /// A connection breaks.
+    /// A connection is lost.
     Lost {
         conn: u32,
     },
@@ -55,7 +57,7 @@ pub enum Line {
         conn: u32,
         code: u16,
     },
-    /// A worker's clock reaches a moment, in milliseconds.
+    /// A worker's clock goes to a moment, in milliseconds.
     Tick {
         worker: u8,
         now: u64,

@@ -1,3 +1,5 @@
+//! Reads a step file line by line.
+
 ghost use Rattle.std.specs.Prelude.{◌≡◌, ◌⊎◌, [], false};
 ghost use Rattle.edit_text.specs.Fault.{UnlessMemory};
 ghost use Rattle.edit_text.specs.Lines.{line_of, reader_after};
@@ -8,7 +10,7 @@ use json_line::Scratch;
 use std::alloc::Global;
 use std::marker::Model;
 
-/// What a reader of a file keeps between lines, with the memory that reading takes.
+/// A reader of a step file: what it keeps between lines, and the memory that reading takes.
 #[derive(Drop)]
 pub struct LineReader {
     reader: StepReader,
@@ -34,19 +36,18 @@ impl LineReader {
         }
     }
 
-    /// How many lines were read, the last one too where it was refused. One line more than a file
-    /// may have is counted, and none after it.
+    /// How many lines were read, with the last one also if it was refused. One line more than a
+    /// file may have is counted, and none after it.
     pub fn lines(&self) -> u64
         ensures { result ≡ self.now.lines }
     {
         self.reader.lines()
     }
 
-    /// Reads the next line of the file, without its line feed: nothing where it is blank. A line
-    /// that is refused is counted, and nothing else of it is kept. Want of memory changes nothing.
+    /// Reads the next line of the file, without its line feed. A blank line gives `None`. A refused
+    /// line is counted, and changes nothing else. If memory runs out, nothing changes.
     ///
-    /// A caller that gathers a line needs no more of it than [`crate::MAX_LINE_BYTES`] and one
-    /// byte.
+    /// A caller that gathers a line may stop after [`crate::MAX_LINE_BYTES`] and one byte.
     pub fn line(&mut self, alloc: Global, bytes: &[u8]) -> Result<Option<Line>, LineFault>
         ensures line { UnlessMemory result (line_of self.old bytes.now) }
         ensures after { (result ≡ Err LineFault.Memory) ⊎ (self.new ≡ reader_after self.old bytes.now) }

@@ -1,10 +1,10 @@
-//! The names of steps and of edits, and which of them may be used.
+//! The names of steps and of edits.
 
 ghost use Rattle.std.specs.Prelude.{◌≡◌};
-ghost use Rattle.edit_text.specs.Names.{first_named, step_named, connection_step_named, any_step_named, step_text, is_head, guild_edit_named, role_edit_named, member_edit_named, channel_edit_named, thread_edit_named, thread_state_edit_named, voice_presence_edit_named, message_edit_named, reaction_edit_named, edit_named, guild_edit_text, role_member_edit_text, channel_edit_text, thread_edit_text, voice_presence_edit_text, message_edit_text, name_text};
+ghost use Rattle.edit_text.specs.Names.{step_named, step_text, is_head, edit_named, guild_edit_text, role_member_edit_text, channel_edit_text, thread_edit_text, voice_presence_edit_text, message_edit_text, name_text};
 
 /// A step, by its name.
-#[derive(Clone, Copy, PartialEq, Eq, Debug)]
+#[derive(Clone, Copy)]
 pub enum StepName {
     Bot,
     Guild,
@@ -92,59 +92,32 @@ pub enum EditName {
     Message(MessageEditName),
 }
 
-#[tactic(auto, unfolding(crate::specs::Names::step_named))]
-fn step_named(name: &str) -> Option<StepName>
-    ensures { result ≡ step_named name.now }
-{
-    if name == "bot" {
-        return Some(StepName::Bot);
-    }
-    if name == "guild" {
-        return Some(StepName::Guild);
-    }
-    if name == "edit" {
-        return Some(StepName::Edit);
-    }
-    if name == "look" {
-        return Some(StepName::Look);
-    }
-    if name == "tick" {
-        return Some(StepName::Tick);
-    }
-    None
-}
-
-#[tactic(auto, unfolding(crate::specs::Names::connection_step_named))]
-fn connection_step_named(name: &str) -> Option<StepName>
-    ensures { result ≡ connection_step_named name.now }
-{
-    if name == "open" {
-        return Some(StepName::Open);
-    }
-    if name == "frame" {
-        return Some(StepName::Frame);
-    }
-    if name == "lost" {
-        return Some(StepName::Lost);
-    }
-    if name == "closed" {
-        return Some(StepName::Closed);
-    }
-    None
-}
-
 impl StepName {
-    /// The step of a name.
+    /// Every step.
+    pub const ALL: [StepName; 9] = [
+        StepName::Bot,
+        StepName::Guild,
+        StepName::Edit,
+        StepName::Look,
+        StepName::Open,
+        StepName::Frame,
+        StepName::Lost,
+        StepName::Closed,
+        StepName::Tick,
+    ];
+
+    /// The step of this name; `None` exactly if no step has it.
+    #[tactic(auto, unfolding(crate::specs::Names::step_named))]
     pub fn of(name: &str) -> Option<StepName>
-        ensures { result ≡ any_step_named name.now }
+        ensures { result ≡ step_named name.now }
     {
-        if let Some(step) = step_named(name) {
-            return Some(step);
-        }
-        connection_step_named(name)
+        StepName::ALL
+            .iter()
+            .copied()
+            .find(|step| name == step.text())
     }
 
-    /// The name of a step.
+    /// The name of the step.
     pub fn text(self) -> &'static str
         ensures { result.now ≡ step_text self }
     {
@@ -161,7 +134,7 @@ impl StepName {
         }
     }
 
-    /// Whether the lines of this step come before all others.
+    /// Whether the lines of this step stand before all others.
     pub fn is_head(self) -> bool
         ensures { result ≡ is_head self }
     {
@@ -169,173 +142,8 @@ impl StepName {
     }
 }
 
-#[tactic(auto, unfolding(crate::specs::Names::guild_edit_named))]
-fn guild_edit_named(name: &str) -> Option<GuildEditName>
-    ensures { result ≡ guild_edit_named name.now }
-{
-    if name == "guild_open" {
-        return Some(GuildEditName::GuildOpen);
-    }
-    if name == "guild_rename" {
-        return Some(GuildEditName::GuildRename);
-    }
-    if name == "guild_owner" {
-        return Some(GuildEditName::GuildOwner);
-    }
-    if name == "guild_outage" {
-        return Some(GuildEditName::GuildOutage);
-    }
-    if name == "guild_back" {
-        return Some(GuildEditName::GuildBack);
-    }
-    None
-}
-
-#[tactic(auto, unfolding(crate::specs::Names::role_edit_named))]
-fn role_edit_named(name: &str) -> Option<RoleMemberEditName>
-    ensures { result ≡ role_edit_named name.now }
-{
-    if name == "role_create" {
-        return Some(RoleMemberEditName::RoleCreate);
-    }
-    if name == "role_update" {
-        return Some(RoleMemberEditName::RoleUpdate);
-    }
-    if name == "role_delete" {
-        return Some(RoleMemberEditName::RoleDelete);
-    }
-    None
-}
-
-#[tactic(auto, unfolding(crate::specs::Names::member_edit_named))]
-fn member_edit_named(name: &str) -> Option<RoleMemberEditName>
-    ensures { result ≡ member_edit_named name.now }
-{
-    if name == "member_add" {
-        return Some(RoleMemberEditName::MemberAdd);
-    }
-    if name == "member_remove" {
-        return Some(RoleMemberEditName::MemberRemove);
-    }
-    if name == "member_nick" {
-        return Some(RoleMemberEditName::MemberNick);
-    }
-    if name == "member_timeout" {
-        return Some(RoleMemberEditName::MemberTimeout);
-    }
-    if name == "member_role_add" {
-        return Some(RoleMemberEditName::MemberRoleAdd);
-    }
-    if name == "member_role_remove" {
-        return Some(RoleMemberEditName::MemberRoleRemove);
-    }
-    None
-}
-
-#[tactic(auto, unfolding(crate::specs::Names::channel_edit_named))]
-fn channel_edit_named(name: &str) -> Option<ChannelEditName>
-    ensures { result ≡ channel_edit_named name.now }
-{
-    if name == "channel_create" {
-        return Some(ChannelEditName::ChannelCreate);
-    }
-    if name == "channel_update" {
-        return Some(ChannelEditName::ChannelUpdate);
-    }
-    if name == "channel_delete" {
-        return Some(ChannelEditName::ChannelDelete);
-    }
-    if name == "overwrite_set" {
-        return Some(ChannelEditName::OverwriteSet);
-    }
-    if name == "overwrite_delete" {
-        return Some(ChannelEditName::OverwriteDelete);
-    }
-    None
-}
-
-#[tactic(auto, unfolding(crate::specs::Names::thread_edit_named))]
-fn thread_edit_named(name: &str) -> Option<ThreadEditName>
-    ensures { result ≡ thread_edit_named name.now }
-{
-    if name == "thread_create" {
-        return Some(ThreadEditName::ThreadCreate);
-    }
-    if name == "thread_rename" {
-        return Some(ThreadEditName::ThreadRename);
-    }
-    if name == "thread_delete" {
-        return Some(ThreadEditName::ThreadDelete);
-    }
-    None
-}
-
-#[tactic(auto, unfolding(crate::specs::Names::thread_state_edit_named))]
-fn thread_state_edit_named(name: &str) -> Option<ThreadEditName>
-    ensures { result ≡ thread_state_edit_named name.now }
-{
-    if name == "thread_archive" {
-        return Some(ThreadEditName::ThreadArchive);
-    }
-    if name == "thread_unarchive" {
-        return Some(ThreadEditName::ThreadUnarchive);
-    }
-    if name == "thread_join" {
-        return Some(ThreadEditName::ThreadJoin);
-    }
-    if name == "thread_leave" {
-        return Some(ThreadEditName::ThreadLeave);
-    }
-    None
-}
-
-#[tactic(auto, unfolding(crate::specs::Names::voice_presence_edit_named))]
-fn voice_presence_edit_named(name: &str) -> Option<VoicePresenceEditName>
-    ensures { result ≡ voice_presence_edit_named name.now }
-{
-    if name == "voice_set" {
-        return Some(VoicePresenceEditName::VoiceSet);
-    }
-    if name == "presence_set" {
-        return Some(VoicePresenceEditName::PresenceSet);
-    }
-    None
-}
-
-#[tactic(auto, unfolding(crate::specs::Names::message_edit_named))]
-fn message_edit_named(name: &str) -> Option<MessageEditName>
-    ensures { result ≡ message_edit_named name.now }
-{
-    if name == "message_create" {
-        return Some(MessageEditName::MessageCreate);
-    }
-    if name == "message_update" {
-        return Some(MessageEditName::MessageUpdate);
-    }
-    if name == "message_delete" {
-        return Some(MessageEditName::MessageDelete);
-    }
-    None
-}
-
-#[tactic(auto, unfolding(crate::specs::Names::reaction_edit_named))]
-fn reaction_edit_named(name: &str) -> Option<MessageEditName>
-    ensures { result ≡ reaction_edit_named name.now }
-{
-    if name == "reaction_add" {
-        return Some(MessageEditName::ReactionAdd);
-    }
-    if name == "reaction_remove" {
-        return Some(MessageEditName::ReactionRemove);
-    }
-    if name == "typing" {
-        return Some(MessageEditName::Typing);
-    }
-    None
-}
-
 impl GuildEditName {
-    /// The name of an edit.
+    /// The name of the edit.
     pub fn text(self) -> &'static str
         ensures { result.now ≡ guild_edit_text self }
     {
@@ -350,7 +158,7 @@ impl GuildEditName {
 }
 
 impl RoleMemberEditName {
-    /// The name of an edit.
+    /// The name of the edit.
     pub fn text(self) -> &'static str
         ensures { result.now ≡ role_member_edit_text self }
     {
@@ -369,7 +177,7 @@ impl RoleMemberEditName {
 }
 
 impl ChannelEditName {
-    /// The name of an edit.
+    /// The name of the edit.
     pub fn text(self) -> &'static str
         ensures { result.now ≡ channel_edit_text self }
     {
@@ -384,7 +192,7 @@ impl ChannelEditName {
 }
 
 impl ThreadEditName {
-    /// The name of an edit.
+    /// The name of the edit.
     pub fn text(self) -> &'static str
         ensures { result.now ≡ thread_edit_text self }
     {
@@ -401,7 +209,7 @@ impl ThreadEditName {
 }
 
 impl VoicePresenceEditName {
-    /// The name of an edit.
+    /// The name of the edit.
     pub fn text(self) -> &'static str
         ensures { result.now ≡ voice_presence_edit_text self }
     {
@@ -413,7 +221,7 @@ impl VoicePresenceEditName {
 }
 
 impl MessageEditName {
-    /// The name of an edit.
+    /// The name of the edit.
     pub fn text(self) -> &'static str
         ensures { result.now ≡ message_edit_text self }
     {
@@ -429,41 +237,56 @@ impl MessageEditName {
 }
 
 impl EditName {
-    /// The edit of a name.
+    /// Every edit. Those of messages, voice states and presences, which come most often, are first.
+    pub const ALL: [EditName; 34] = [
+        EditName::Message(MessageEditName::MessageCreate),
+        EditName::Message(MessageEditName::MessageUpdate),
+        EditName::Message(MessageEditName::MessageDelete),
+        EditName::Message(MessageEditName::ReactionAdd),
+        EditName::Message(MessageEditName::ReactionRemove),
+        EditName::Message(MessageEditName::Typing),
+        EditName::VoicePresence(VoicePresenceEditName::VoiceSet),
+        EditName::VoicePresence(VoicePresenceEditName::PresenceSet),
+        EditName::Guild(GuildEditName::GuildOpen),
+        EditName::Guild(GuildEditName::GuildRename),
+        EditName::Guild(GuildEditName::GuildOwner),
+        EditName::Guild(GuildEditName::GuildOutage),
+        EditName::Guild(GuildEditName::GuildBack),
+        EditName::RoleMember(RoleMemberEditName::RoleCreate),
+        EditName::RoleMember(RoleMemberEditName::RoleUpdate),
+        EditName::RoleMember(RoleMemberEditName::RoleDelete),
+        EditName::RoleMember(RoleMemberEditName::MemberAdd),
+        EditName::RoleMember(RoleMemberEditName::MemberRemove),
+        EditName::RoleMember(RoleMemberEditName::MemberNick),
+        EditName::RoleMember(RoleMemberEditName::MemberTimeout),
+        EditName::RoleMember(RoleMemberEditName::MemberRoleAdd),
+        EditName::RoleMember(RoleMemberEditName::MemberRoleRemove),
+        EditName::Channel(ChannelEditName::ChannelCreate),
+        EditName::Channel(ChannelEditName::ChannelUpdate),
+        EditName::Channel(ChannelEditName::ChannelDelete),
+        EditName::Channel(ChannelEditName::OverwriteSet),
+        EditName::Channel(ChannelEditName::OverwriteDelete),
+        EditName::Thread(ThreadEditName::ThreadCreate),
+        EditName::Thread(ThreadEditName::ThreadRename),
+        EditName::Thread(ThreadEditName::ThreadArchive),
+        EditName::Thread(ThreadEditName::ThreadUnarchive),
+        EditName::Thread(ThreadEditName::ThreadDelete),
+        EditName::Thread(ThreadEditName::ThreadJoin),
+        EditName::Thread(ThreadEditName::ThreadLeave),
+    ];
+
+    /// The edit of this name; `None` exactly if no edit has it.
+    #[tactic(auto, unfolding(crate::specs::Names::edit_named))]
     pub fn of(name: &str) -> Option<EditName>
         ensures { result ≡ edit_named name.now }
     {
-        if let Some(edit) = guild_edit_named(name) {
-            return Some(EditName::Guild(edit));
-        }
-        if let Some(edit) = role_edit_named(name) {
-            return Some(EditName::RoleMember(edit));
-        }
-        if let Some(edit) = member_edit_named(name) {
-            return Some(EditName::RoleMember(edit));
-        }
-        if let Some(edit) = channel_edit_named(name) {
-            return Some(EditName::Channel(edit));
-        }
-        if let Some(edit) = thread_edit_named(name) {
-            return Some(EditName::Thread(edit));
-        }
-        if let Some(edit) = thread_state_edit_named(name) {
-            return Some(EditName::Thread(edit));
-        }
-        if let Some(edit) = voice_presence_edit_named(name) {
-            return Some(EditName::VoicePresence(edit));
-        }
-        if let Some(edit) = message_edit_named(name) {
-            return Some(EditName::Message(edit));
-        }
-        if let Some(edit) = reaction_edit_named(name) {
-            return Some(EditName::Message(edit));
-        }
-        None
+        EditName::ALL
+            .iter()
+            .copied()
+            .find(|edit| name == edit.text())
     }
 
-    /// The name of an edit.
+    /// The name of the edit.
     pub fn text(self) -> &'static str
         ensures { result.now ≡ name_text self }
     {

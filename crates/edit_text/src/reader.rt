@@ -1,3 +1,5 @@
+//! What a line is after the lines before it, and what is kept of it.
+
 ghost use Rattle.std.specs.Prelude.{◌≡◌, ◌⊎◌, [], false, OnOk, OnErr};
 ghost use Rattle.json_line.specs.View.{view};
 ghost use Rattle.edit_text.specs.Fault.{UnlessMemory};
@@ -18,13 +20,13 @@ pub const MAX_LINE_BYTES: usize = 65_536;
 /// The most lines that a file may have.
 pub const MAX_LINES: u64 = 1_000_000;
 
-/// What a reader of a file keeps between lines, and what a line is after these.
+/// What a reader of a file keeps between lines.
 #[derive(Drop)]
 pub struct StepReader {
     kind: FileKind,
-    // How many lines there were.
+    // How many lines were read.
     lines: u64,
-    // Whether one of them was no head line.
+    // Whether one of them was not a head line.
     stepped: bool,
     // The guilds of the head lines, each once.
     guilds: Seq<Snowflake>,
@@ -121,7 +123,8 @@ impl StepReader {
     }
 
     fn add_guild(&mut self, id: Snowflake) -> Result<(), AllocError>
-        ensures ok { OnOk result (self.new ≡ record self.old { guilds = with_guild id self.old.guilds }) }
+        ensures ok { OnOk result
+            (self.new ≡ record self.old { guilds = with_guild id self.old.guilds }) }
         ensures err { OnErr result (self.new ≡ self.old) }
     {
         if has_id(self.guilds.as_slice(), id) {

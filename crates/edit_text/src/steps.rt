@@ -1,4 +1,4 @@
-//! The fields of each step.
+//! Reads the fields of each step.
 
 ghost use Rattle.std.specs.Prelude.{◌≡◌, ◌^◌, codes};
 ghost use Rattle.json_line.specs.View.{view};
@@ -66,28 +66,19 @@ fn guild_from(guilds: &[Snowflake], object: &Node<'_>) -> Result<Line, LineFault
 fn worker_at(object: &Node<'_>) -> Result<u8, LineFault>
     ensures { result ≡ worker_at (view object.now) }
 {
-    match number_below(object, "worker", 4) {
-        Err(fault) => Err(fault),
-        Ok(worker) => Ok(worker as u8),
-    }
+    Ok(number_below(object, "worker", 4)? as u8)
 }
 
 fn connection_at(object: &Node<'_>) -> Result<u32, LineFault>
     ensures { result ≡ connection_at (view object.now) }
 {
-    match number_below(object, "conn", 1 << 32) {
-        Err(fault) => Err(fault),
-        Ok(conn) => Ok(conn as u32),
-    }
+    Ok(number_below(object, "conn", 1 << 32)? as u32)
 }
 
 fn code_at(object: &Node<'_>) -> Result<u16, LineFault>
     ensures { result ≡ number_below (2 ^ 16) (codes "code") (view object.now) }
 {
-    match number_below(object, "code", 1 << 16) {
-        Err(fault) => Err(fault),
-        Ok(code) => Ok(code as u16),
-    }
+    Ok(number_below(object, "code", 1 << 16)? as u16)
 }
 
 fn edit_line_from(alloc: Global, object: &Node<'_>) -> Result<Line, LineFault>
@@ -150,7 +141,7 @@ fn tick_from(object: &Node<'_>) -> Result<Line, LineFault>
     Ok(Line::Tick { worker, now })
 }
 
-/// The line of a step, from the fields of an object, where these guilds were named before.
+/// Reads the line of a step from the fields of an object, after the lines of these guilds.
 pub fn fields_from(
     alloc: Global,
     guilds: &[Snowflake],

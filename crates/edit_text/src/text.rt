@@ -1,15 +1,18 @@
-ghost use Rattle.std.specs.Prelude.{◌≡◌, ◌≤◌, length, true, Ok, Some, IfOk, OnOk, string_bytes};
-ghost use Rattle.serde_json.specs.View.{view, members_view};
+//! Writes the line of a step.
+
+ghost use Rattle.std.specs.Prelude.{◌≡◌, ◌<◌, ◌≤◌, ◌^◌, length, true, Ok, Some, IfOk, OnOk, string_bytes};
+ghost use Rattle.serde_json.specs.View.{view};
 ghost use Rattle.serde_json.specs.Written.{compact_text};
 ghost use Rattle.edit_text.specs.declared.reader.StepReader.{StepReader};
 ghost use Rattle.edit_text.specs.Fits.{IdFits, EditFits, ConnectionFits, LineFits};
-ghost use Rattle.edit_text.specs.Members.{put_all};
+ghost use Rattle.edit_text.specs.Members.{HasPut};
 ghost use Rattle.edit_text.specs.Lines.{line_of};
 ghost use Rattle.edit_text.specs.Written.{step_name, line_fields, line_data, allows};
 
 use crate::members::{put_id, put_intents, put_number, put_str, put_text};
 use crate::names::StepName;
 use crate::{Line, edits};
+use collections::Text;
 use edit_apply::Edit;
 use serde_json::{Map, Value};
 use snowflake_id::Snowflake;
@@ -21,7 +24,8 @@ fn put_edit(
     guild: Snowflake,
     edit: &Edit,
 ) -> Result<(), AllocError>
-    ensures put { OnOk result (members_view members.new.entries ≡ put_all (members_view members.old.entries) (line_fields (Line.Edit guild edit.now))) }
+    ensures put { OnOk result
+        (HasPut members.old.entries members.new.entries (line_fields (Line.Edit guild edit.now))) }
     ensures fits { OnOk result (IdFits guild × EditFits edit.now) }
 {
     put_id(alloc, members, "guild", guild)?;
@@ -30,15 +34,90 @@ fn put_edit(
     Ok(())
 }
 
+fn put_look(
+    alloc: Global,
+    members: &mut Map<String, Value>,
+    worker: u8,
+    guild: Snowflake,
+) -> Result<(), AllocError>
+    ensures put { OnOk result
+        (HasPut members.old.entries members.new.entries (line_fields (Line.Look worker guild))) }
+    ensures fits { OnOk result (IdFits guild) }
+{
+    put_number(alloc, members, "worker", u64::from(worker))?;
+    put_id(alloc, members, "guild", guild)?;
+    Ok(())
+}
+
 fn put_connection(
     alloc: Global,
     members: &mut Map<String, Value>,
     conn: u32,
 ) -> Result<(), AllocError>
-    ensures put { OnOk result (members_view members.new.entries ≡ put_all (members_view members.old.entries) (line_fields (Line.Lost conn))) }
+    ensures put { OnOk result
+        (HasPut members.old.entries members.new.entries (line_fields (Line.Lost conn))) }
     ensures fits { OnOk result (ConnectionFits conn) }
 {
     put_number(alloc, members, "conn", u64::from(conn))?;
+    Ok(())
+}
+
+fn put_open(
+    alloc: Global,
+    members: &mut Map<String, Value>,
+    worker: u8,
+    conn: u32,
+) -> Result<(), AllocError>
+    ensures put { OnOk result
+        (HasPut members.old.entries members.new.entries (line_fields (Line.Open worker conn))) }
+    ensures fits { OnOk result (ConnectionFits conn) }
+{
+    put_number(alloc, members, "worker", u64::from(worker))?;
+    put_connection(alloc, members, conn)?;
+    Ok(())
+}
+
+fn put_frame(
+    alloc: Global,
+    members: &mut Map<String, Value>,
+    conn: u32,
+    text: &Text,
+) -> Result<(), AllocError>
+    ensures put { OnOk result
+        (HasPut members.old.entries members.new.entries (line_fields (Line.Frame conn text.now))) }
+    ensures fits { OnOk result (ConnectionFits conn) }
+{
+    put_connection(alloc, members, conn)?;
+    put_text(alloc, members, "text", text)?;
+    Ok(())
+}
+
+fn put_closed(
+    alloc: Global,
+    members: &mut Map<String, Value>,
+    conn: u32,
+    code: u16,
+) -> Result<(), AllocError>
+    ensures put { OnOk result
+        (HasPut members.old.entries members.new.entries (line_fields (Line.Closed conn code))) }
+    ensures fits { OnOk result (ConnectionFits conn × (code < 2 ^ 16)) }
+{
+    put_connection(alloc, members, conn)?;
+    put_number(alloc, members, "code", u64::from(code))?;
+    Ok(())
+}
+
+fn put_tick(
+    alloc: Global,
+    members: &mut Map<String, Value>,
+    worker: u8,
+    now: u64,
+) -> Result<(), AllocError>
+    ensures put { OnOk result
+        (HasPut members.old.entries members.new.entries (line_fields (Line.Tick worker now))) }
+{
+    put_number(alloc, members, "worker", u64::from(worker))?;
+    put_number(alloc, members, "now", now)?;
     Ok(())
 }
 
@@ -60,7 +139,8 @@ impl Line {
     }
 
     fn put(&self, alloc: Global, members: &mut Map<String, Value>) -> Result<(), AllocError>
-        ensures put { OnOk result (members_view members.new.entries ≡ put_all (members_view members.old.entries) (line_fields self.now)) }
+        ensures put { OnOk result
+            (HasPut members.old.entries members.new.entries (line_fields self.now)) }
         ensures fits { OnOk result (LineFits self.now) }
     {
         match self {
@@ -76,43 +156,14 @@ impl Line {
                 put_intents(alloc, members, "privileged", *privileged)?;
                 Ok(())
             }
-            Line::Guild { id } => {
-                put_id(alloc, members, "id", *id)?;
-                Ok(())
-            }
-            Line::Edit { guild, edit } => {
-                put_edit(alloc, members, *guild, edit)?;
-                Ok(())
-            }
-            Line::Look { worker, guild } => {
-                put_number(alloc, members, "worker", u64::from(*worker))?;
-                put_id(alloc, members, "guild", *guild)?;
-                Ok(())
-            }
-            Line::Open { worker, conn } => {
-                put_number(alloc, members, "worker", u64::from(*worker))?;
-                put_connection(alloc, members, *conn)?;
-                Ok(())
-            }
-            Line::Frame { conn, text } => {
-                put_connection(alloc, members, *conn)?;
-                put_text(alloc, members, "text", text)?;
-                Ok(())
-            }
-            Line::Lost { conn } => {
-                put_connection(alloc, members, *conn)?;
-                Ok(())
-            }
-            Line::Closed { conn, code } => {
-                put_connection(alloc, members, *conn)?;
-                put_number(alloc, members, "code", u64::from(*code))?;
-                Ok(())
-            }
-            Line::Tick { worker, now } => {
-                put_number(alloc, members, "worker", u64::from(*worker))?;
-                put_number(alloc, members, "now", *now)?;
-                Ok(())
-            }
+            Line::Guild { id } => put_id(alloc, members, "id", *id),
+            Line::Edit { guild, edit } => put_edit(alloc, members, *guild, edit),
+            Line::Look { worker, guild } => put_look(alloc, members, *worker, *guild),
+            Line::Open { worker, conn } => put_open(alloc, members, *worker, *conn),
+            Line::Frame { conn, text } => put_frame(alloc, members, *conn, text),
+            Line::Lost { conn } => put_connection(alloc, members, *conn),
+            Line::Closed { conn, code } => put_closed(alloc, members, *conn, *code),
+            Line::Tick { worker, now } => put_tick(alloc, members, *worker, *now),
         }
     }
 
@@ -128,10 +179,12 @@ impl Line {
 
     /// The text of the line, without spaces and with its keys in byte order. Ids and permissions
     /// are written as texts, and a field without a value as null. A reader that allows the line
-    /// reads it back, where the text has at most 65,536 bytes.
+    /// reads it back if the text has at most 65,536 bytes.
     pub fn text(&self, alloc: Global) -> Result<String, AllocError>
         ensures text { IfOk result (λ text. string_bytes text ≡ compact_text (line_data self.now)) }
-        ensures reads_back { IfOk result (λ text. (reader : StepReader) → allows reader self.now ≡ true → length (string_bytes text) ≤ 65536 → line_of reader (string_bytes text) ≡ Ok (Some self.now)) }
+        ensures reads_back { IfOk result (λ text. (reader : StepReader) →
+            allows reader self.now ≡ true → length (string_bytes text) ≤ 65536 →
+            line_of reader (string_bytes text) ≡ Ok (Some self.now)) }
     {
         let value = self.value(alloc)?;
         value.to_string(alloc)

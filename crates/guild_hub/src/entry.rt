@@ -42,11 +42,17 @@ impl Entry {
         })
     }
 
+    /// The entry's edit, which all its owners share.
+    pub fn edit(&self) -> &Edit
+        ensures { result.now ≡ self.now }
+    {
+        &self.edit
+    }
+
     /// An edit of one's own that is equal to the entry's.
     pub fn copy(&self, alloc: Global) -> Result<Edit, AllocError>
         ensures { IfOk result (λ edit. edit ≡ self.now) }
     {
-        let edit: &Edit = &self.edit;
-        edit.copy(alloc)
+        self.edit().copy(alloc)
     }
 }

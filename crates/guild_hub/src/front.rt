@@ -7,6 +7,7 @@ ghost use Rattle.guild_hub.specs.Trims.{spine_of, IsTrimmed};
 
 use crate::entry::Entry;
 use crate::shown::Shown;
+use edit_apply::{judge, make};
 use guild_model::Guild;
 use std::alloc::{AllocError, Global};
 
@@ -18,7 +19,7 @@ pub struct Front {
 }
 
 impl Front {
-    /// Adds the entry that follows. An `Err` changes nothing.
+    /// Adds the entry that follows. A refused entry changes nothing, and neither does an `Err`.
     pub fn add(&mut self, alloc: Global, entry: &Entry) -> Result<(), AllocError>
         ensures record { OnOk result (self.new.record ≡ after self.old.record entry.now) }
         ensures accepted { OnOk result (self.new.accepted ≡ self.old.accepted + cond (accepts self.old.record entry.now) 1 0) }
@@ -27,11 +28,11 @@ impl Front {
         let Some(more) = self.accepted.checked_add(1) else {
             return Err(AllocError);
         };
-        let edit = entry.copy(alloc)?;
-        let verdict = edit_apply::apply(alloc, &mut self.record, edit)?;
-        if verdict.is_ok() {
-            self.accepted = more;
+        if judge(&self.record, entry.edit()).is_err() {
+            return Ok(());
         }
+        make(alloc, &mut self.record, entry.copy(alloc)?)?;
+        self.accepted = more;
         Ok(())
     }
 }

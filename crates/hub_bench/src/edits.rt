@@ -2,7 +2,7 @@
 ghost use Rattle.std.specs.Prelude.{◌≡◌, false, IfOk};
 
 use collections::Text;
-use edit_apply::{Edit, GuildEdit};
+use edit_apply::{Edit, GuildEdit, GuildOpen};
 use guild_hub::HubWriter;
 use guild_model::Moment;
 use perm_bits::Perms;
@@ -19,13 +19,13 @@ fn open(alloc: Global) -> Result<Edit, AllocError> {
         Ok(at) => at,
         Err(_) => return Err(AllocError),
     };
-    Ok(Edit::Guild(GuildEdit::GuildOpen {
+    Ok(Edit::Guild(GuildEdit::GuildOpen(GuildOpen {
         name: Text::new(alloc, "den")?,
         owner: Snowflake(5),
         owner_name: Text::new(alloc, "ann")?,
         perms: Perms::NONE,
         at,
-    }))
+    })))
 }
 
 // An outage that begins, and in every other place one that ends.

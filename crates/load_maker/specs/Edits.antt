@@ -5,6 +5,7 @@ use Rattle.guild_model.specs.declared.channel.OverwriteKind.TheVariants as overw
 use Rattle.guild_model.specs.declared.thread.ThreadKind.{ThreadKind}
 use Rattle.guild_model.specs.declared.thread.ThreadKind.TheVariants as thread
 use Rattle.role_member_edit.specs.declared.RoleMemberEdit.TheVariants.{RoleCreate, RoleUpdate, MemberAdd, MemberNick, MemberRoleAdd, MemberRoleRemove}
+use Rattle.role_member_edit.specs.declared.held_role.HeldRole.{HeldRole}
 use Rattle.channel_edit.specs.declared.ChannelEdit.TheVariants.{ChannelCreate, OverwriteSet}
 use Rattle.thread_edit.specs.declared.ThreadEdit.TheVariants.{ThreadCreate, ThreadArchive, ThreadUnarchive}
 use Rattle.message_edit.specs.declared.MessageEdit.TheVariants.{MessageCreate}
@@ -26,19 +27,30 @@ rename name = Guild (GuildRename name)
 -- ---- entries 0 to 15: the guild, three bots, four roles, four channels, four members
 
 abbrev pub open_guild : Edit
-open_guild = Guild (GuildOpen (codes "g") 100 (codes "o") 1024 0)
+open_guild =
+    Guild (GuildOpen (record { name = codes "g"; owner = 100; owner_name = codes "o"; perms = 1024; at = 0 }))
 
 abbrev pub add_bot : ℕ → Edit
-add_bot bot = RoleMember (MemberAdd bot (bot_name bot) true 0)
+add_bot bot = RoleMember (MemberAdd (record { user = bot; name = bot_name bot; bot = true; at = 0 }))
 
 abbrev pub create_role : ℕ → Edit
-create_role role = RoleMember (RoleCreate role (codes "r") 0 0)
+create_role role =
+    RoleMember (RoleCreate (record { role = role; name = codes "r"; perms = 0; position = 0 }))
 
 abbrev pub create_channel : ℕ → Edit
-create_channel id = Channel (ChannelCreate id channel.Text (codes "c") None 0 false)
+create_channel id =
+    Channel (ChannelCreate (record {
+      channel = id;
+      kind = channel.Text;
+      name = codes "c";
+      parent = None;
+      position = 0;
+      sync = false;
+    }))
 
 abbrev pub add_user : ℕ → Edit
-add_user user = RoleMember (MemberAdd user (codes "u") false 0)
+add_user user =
+    RoleMember (MemberAdd (record { user = user; name = codes "u"; bot = false; at = 0 }))
 
 unfoldable pub setup : ℕ → ℕ → Edit
 setup guild j =
@@ -58,16 +70,27 @@ drawn_channel guild r = guild + 10 + r % 4
 abbrev pub set_overwrite : ℕ → ℕ → Edit
 set_overwrite guild r =
     let choice = r / 32 % 3 in
-    Channel (OverwriteSet (drawn_channel guild r) (guild + r / 4 % 5) overwrite.Role
-    (if choice == 0 then 1024 else 0)
-    (if choice == 1 then 1024 else 0))
+    Channel (OverwriteSet (record {
+      channel = drawn_channel guild r;
+      id = guild + r / 4 % 5;
+      kind = overwrite.Role;
+      allow = if choice == 0 then 1024 else 0;
+      deny = if choice == 1 then 1024 else 0;
+    }))
 
 abbrev pub drawn_kind : ℕ → ThreadKind
 drawn_kind r = if r / 4 % 2 == 0 then thread.Public else thread.Private
 
 abbrev pub create_thread : ℕ → ℕ → ℕ → Edit
 create_thread guild n r =
-    Thread (ThreadCreate (guild + 1000 + n) (drawn_channel guild r) (drawn_kind r) (codes "t") 101 0)
+    Thread (ThreadCreate (record {
+      thread = guild + 1000 + n;
+      parent = drawn_channel guild r;
+      kind = drawn_kind r;
+      name = codes "t";
+      owner = 101;
+      at = 0;
+    }))
 
 -- nothing, VIEW_CHANNEL, MANAGE_THREADS or ADMINISTRATOR
 abbrev pub drawn_perms : ℕ → ℕ
@@ -78,12 +101,22 @@ drawn_perms choice =
     else 8))
 
 abbrev pub update_role : ℕ → ℕ → Edit
-update_role guild r = RoleMember (RoleUpdate (guild + 1 + r % 4) (codes "r") (drawn_perms (r / 4 % 4)) 0)
+update_role guild r =
+    RoleMember (RoleUpdate (record {
+      role = guild + 1 + r % 4;
+      name = codes "r";
+      perms = drawn_perms (r / 4 % 4);
+      position = 0;
+    }))
 
 abbrev pub create_message : ℕ → ℕ → ℕ → Edit
 create_message guild n r =
-    Message (MessageCreate (guild + 5000 + n) (drawn_channel guild r) 101
-    (record { content = codes "m"; mentions = []; embeds = 0; attachments = 0; components = 0 }))
+    Message (MessageCreate (record {
+      message = guild + 5000 + n;
+      place = drawn_channel guild r;
+      author = 101;
+      body = record { content = codes "m"; mentions = []; embeds = 0; attachments = 0; components = 0 };
+    }))
 
 abbrev pub archive_thread : ℕ → ℕ → Edit
 archive_thread guild n = Thread (ThreadArchive (guild + 1000 + n))
@@ -94,14 +127,13 @@ unarchive_or_rename guild n =
     if n % 2 == 0 then rename (codes "n") else Thread (ThreadUnarchive (guild + 1000 + n))
 
 abbrev pub set_nick : ℕ → Edit
-set_nick r = RoleMember (MemberNick (101 + r % 4) (Some (codes "k")))
+set_nick r = RoleMember (MemberNick (record { user = 101 + r % 4; nick = Some (codes "k") }))
 
 -- a bot is given a role in an even round, and in the odd one after it loses the role
 abbrev pub change_role : ℕ → ℕ → Edit
 change_role guild n =
-    let bot = 1 + n / 2 % 3 in
-    let role = guild + 1 + n / 2 % 4 in
-    if n % 2 == 0 then RoleMember (MemberRoleAdd bot role) else RoleMember (MemberRoleRemove bot role)
+    let held : HeldRole = record { user = 1 + n / 2 % 3; role = guild + 1 + n / 2 % 4 } in
+    RoleMember (if n % 2 == 0 then MemberRoleAdd held else MemberRoleRemove held)
 
 unfoldable pub turn : ℕ → ℕ → ℕ → ℕ → Edit
 turn guild kind n r =

@@ -1,13 +1,16 @@
-//! The first entries of a guild's log: the guild opens, and its bots, roles, channels and members come.
+//! The first entries of a guild's log: the guild opens, and its bots, roles, channels and
+//! members are added.
 
 ghost use Rattle.std.specs.Prelude.{◌≡◌, IfOk};
 ghost use Rattle.load_maker.specs.Edits.{open_guild, add_bot, create_role, create_channel, add_user, setup};
 
 use crate::ids::{bot_name, id_in, user_id};
+use channel_edit::ChannelCreate;
 use collections::Text;
-use edit_apply::{ChannelEdit, Edit, GuildEdit, RoleMemberEdit};
+use edit_apply::{ChannelEdit, Edit, GuildEdit, GuildOpen, RoleMemberEdit};
 use guild_model::{ChannelKind, Moment};
 use perm_bits::Perms;
+use role_member_edit::{MemberAdd, RoleBody};
 use snowflake_id::Snowflake;
 use std::alloc::{AllocError, Global};
 
@@ -23,63 +26,63 @@ fn open_guild(alloc: Global) -> Result<Edit, AllocError>
 {
     let name = Text::new(alloc, "g")?;
     let owner_name = Text::new(alloc, "o")?;
-    Ok(Edit::Guild(GuildEdit::GuildOpen {
+    Ok(Edit::Guild(GuildEdit::GuildOpen(GuildOpen {
         name,
         owner: user_id(100),
         owner_name,
         perms: Perms::VIEW_CHANNEL,
         at: start(),
-    }))
+    })))
 }
 
 fn add_bot(alloc: Global, bot: u32) -> Result<Edit, AllocError>
     ensures { IfOk result (λ edit. edit ≡ add_bot bot) }
 {
     let name = bot_name(alloc, bot)?;
-    Ok(Edit::RoleMember(RoleMemberEdit::MemberAdd {
+    Ok(Edit::RoleMember(RoleMemberEdit::MemberAdd(MemberAdd {
         user: user_id(bot),
         name,
         bot: true,
         at: start(),
-    }))
+    })))
 }
 
 fn create_role(alloc: Global, role: Snowflake) -> Result<Edit, AllocError>
     ensures { IfOk result (λ edit. edit ≡ create_role role) }
 {
     let name = Text::new(alloc, "r")?;
-    Ok(Edit::RoleMember(RoleMemberEdit::RoleCreate {
+    Ok(Edit::RoleMember(RoleMemberEdit::RoleCreate(RoleBody {
         role,
         name,
         perms: Perms::NONE,
         position: 0,
-    }))
+    })))
 }
 
 fn create_channel(alloc: Global, channel: Snowflake) -> Result<Edit, AllocError>
     ensures { IfOk result (λ edit. edit ≡ create_channel channel) }
 {
     let name = Text::new(alloc, "c")?;
-    Ok(Edit::Channel(ChannelEdit::ChannelCreate {
+    Ok(Edit::Channel(ChannelEdit::ChannelCreate(ChannelCreate {
         channel,
         kind: ChannelKind::Text,
         name,
         parent: None,
         position: 0,
         sync: false,
-    }))
+    })))
 }
 
 fn add_user(alloc: Global, user: u32) -> Result<Edit, AllocError>
     ensures { IfOk result (λ edit. edit ≡ add_user user) }
 {
     let name = Text::new(alloc, "u")?;
-    Ok(Edit::RoleMember(RoleMemberEdit::MemberAdd {
+    Ok(Edit::RoleMember(RoleMemberEdit::MemberAdd(MemberAdd {
         user: user_id(user),
         name,
         bot: false,
         at: start(),
-    }))
+    })))
 }
 
 /// The entry with this place, below 16.

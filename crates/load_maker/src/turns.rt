@@ -5,16 +5,20 @@ ghost use Rattle.load_maker.specs.Edits.{rename, drawn_channel, set_overwrite, d
 
 use crate::ids::{id_in, user_id};
 use crate::setup::start;
+use channel_edit::OverwriteSet;
 use collections::{Seq, Text};
 use edit_apply::{
     ChannelEdit, Edit, GuildEdit, MessageBody, MessageEdit, RoleMemberEdit, ThreadEdit,
 };
 use guild_model::{OverwriteKind, PartCount, ThreadKind};
+use message_edit::MessageCreate;
 use perm_bits::Perms;
+use role_member_edit::{HeldRole, MemberNick, RoleBody};
 use snowflake_id::Snowflake;
 use std::alloc::{AllocError, Global};
+use thread_edit::ThreadCreate;
 
-/// The guild has another name.
+/// Renames the guild.
 pub(crate) fn rename(alloc: Global, name: &str) -> Result<Edit, AllocError>
     ensures { IfOk result (λ edit. edit ≡ rename name.now) }
 {
@@ -36,13 +40,13 @@ fn set_overwrite(guild: u32, draw: u32) -> Edit
         1 => (Perms::NONE, Perms::VIEW_CHANNEL),
         _ => (Perms::NONE, Perms::NONE),
     };
-    Edit::Channel(ChannelEdit::OverwriteSet {
+    Edit::Channel(ChannelEdit::OverwriteSet(OverwriteSet {
         channel: drawn_channel(guild, draw),
         id: id_in(guild, draw / 4 % 5),
         kind: OverwriteKind::Role,
         allow,
         deny,
-    })
+    }))
 }
 
 fn drawn_kind(draw: u32) -> ThreadKind
@@ -66,14 +70,14 @@ fn create_thread(alloc: Global, guild: u32, round: u16, draw: u32) -> Result<Edi
     ensures { IfOk result (λ edit. edit ≡ create_thread guild round draw) }
 {
     let name = Text::new(alloc, "t")?;
-    Ok(Edit::Thread(ThreadEdit::ThreadCreate {
+    Ok(Edit::Thread(ThreadEdit::ThreadCreate(ThreadCreate {
         thread: thread_id(guild, round),
         parent: drawn_channel(guild, draw),
         kind: drawn_kind(draw),
         name,
         owner: user_id(101),
         at: start(),
-    }))
+    })))
 }
 
 fn drawn_perms(choice: u32) -> Perms
@@ -91,19 +95,19 @@ fn update_role(alloc: Global, guild: u32, draw: u32) -> Result<Edit, AllocError>
     ensures { IfOk result (λ edit. edit ≡ update_role guild draw) }
 {
     let name = Text::new(alloc, "r")?;
-    Ok(Edit::RoleMember(RoleMemberEdit::RoleUpdate {
+    Ok(Edit::RoleMember(RoleMemberEdit::RoleUpdate(RoleBody {
         role: id_in(guild, 1 + draw % 4),
         name,
         perms: drawn_perms(draw / 4 % 4),
         position: 0,
-    }))
+    })))
 }
 
 fn create_message(alloc: Global, guild: u32, round: u16, draw: u32) -> Result<Edit, AllocError>
     ensures { IfOk result (λ edit. edit ≡ create_message guild round draw) }
 {
     let content = Text::new(alloc, "m")?;
-    Ok(Edit::Message(MessageEdit::MessageCreate {
+    Ok(Edit::Message(MessageEdit::MessageCreate(MessageCreate {
         message: id_in(guild, 5000 + u32::from(round)),
         place: drawn_channel(guild, draw),
         author: user_id(101),
@@ -114,7 +118,7 @@ fn create_message(alloc: Global, guild: u32, round: u16, draw: u32) -> Result<Ed
             attachments: PartCount::NONE,
             components: PartCount::NONE,
         },
-    }))
+    })))
 }
 
 fn archive_thread(guild: u32, round: u16) -> Edit
@@ -140,22 +144,24 @@ fn set_nick(alloc: Global, draw: u32) -> Result<Edit, AllocError>
     ensures { IfOk result (λ edit. edit ≡ set_nick draw) }
 {
     let nick = Text::new(alloc, "k")?;
-    Ok(Edit::RoleMember(RoleMemberEdit::MemberNick {
+    Ok(Edit::RoleMember(RoleMemberEdit::MemberNick(MemberNick {
         user: user_id(101 + draw % 4),
         nick: Some(nick),
-    }))
+    })))
 }
 
 fn change_role(guild: u32, round: u16) -> Edit
     ensures { result ≡ change_role guild round }
 {
     let pair = u32::from(round / 2);
-    let user = user_id(1 + pair % 3);
-    let role = id_in(guild, 1 + pair % 4);
+    let held = HeldRole {
+        user: user_id(1 + pair % 3),
+        role: id_in(guild, 1 + pair % 4),
+    };
     Edit::RoleMember(if round % 2 == 0 {
-        RoleMemberEdit::MemberRoleAdd { user, role }
+        RoleMemberEdit::MemberRoleAdd(held)
     } else {
-        RoleMemberEdit::MemberRoleRemove { user, role }
+        RoleMemberEdit::MemberRoleRemove(held)
     })
 }
 

@@ -13,7 +13,8 @@ use Rattle.guild_model.specs.Consistent.{IsConsistent, is_place}
 use Rattle.guild_model.specs.Tests.{outcome, unknown_member, too_long}
 use Rattle.guild_model.proofs.Tests.{first_passes, not_refused, passed}
 use Rattle.guild_model.proofs.Kept.{messages_changed}
-use Rattle.message_edit.specs.declared.body.MessageBody.{MessageBody}
+use Rattle.message_edit.specs.declared.message_create.MessageCreate.{MessageCreate}
+use Rattle.message_edit.specs.declared.message_update.MessageUpdate.{MessageUpdate}
 use Rattle.message_edit.specs.Places.{unknown_place, wrong_place, archived_place, no_place, unknown_mention}
 use Rattle.message_edit.specs.Messages.{taken, message_create_verdict, with_head, message_updated, message_deleted}
 
@@ -31,16 +32,18 @@ place_there : (g : Record) (place : ℕ) → no_place g place ≡ None → is_pl
 place_there g place e =
     passed (is_place g place) UnknownChannel (first_passes (unknown_place g place) (wrong_place g place ∷ archived_place g place ∷ []) e).0
 
-pub may_come : (g : Record) (message place author : ℕ) (body : MessageBody) → message_create_verdict g message place author body ≡ None
-    → (find_head message g.messages ≡ None) × (is_place g place ≡ true)
-may_come g message place author body e =
-    let long = too_long 2000 body.content in
-    let mention = unknown_mention g body.mentions in
-    let first = first_passes (no_place g place) (unknown_member g author ∷ mention ∷ taken g message ∷ long ∷ []) e in
-    let second = first_passes (unknown_member g author) (mention ∷ taken g message ∷ long ∷ []) first.1 in
-    let third = first_passes mention (taken g message ∷ long ∷ []) second.1 in
-    let free = not_refused (has_head message g.messages) IdTaken (first_passes (taken g message) (long ∷ []) third.1).0 in
-    (is_none (find_head message g.messages) free, place_there g place first.0)
+pub may_come : (g : Record) (edit : MessageCreate) → message_create_verdict g edit ≡ None
+    → (find_head edit.message g.messages ≡ None) × (is_place g edit.place ≡ true)
+may_come g edit e =
+    let author = unknown_member g edit.author in
+    let mention = unknown_mention g edit.body.mentions in
+    let id = taken g edit.message in
+    let long = too_long 2000 edit.body.content in
+    let first = first_passes (no_place g edit.place) (author ∷ mention ∷ id ∷ long ∷ []) e in
+    let second = first_passes author (mention ∷ id ∷ long ∷ []) first.1 in
+    let third = first_passes mention (id ∷ long ∷ []) second.1 in
+    let free = not_refused (has_head edit.message g.messages) IdTaken (first_passes id (long ∷ []) third.1).0 in
+    (is_none (find_head edit.message g.messages) free, place_there g edit.place first.0)
 
 module _ (g : Record) (is_open : g.opened ≡ true) (h : IsConsistent g) where
   abbrev Stands : MessageHead → Type 0
@@ -54,8 +57,8 @@ module _ (g : Record) (is_open : g.opened ≡ true) (h : IsConsistent g) where
   head_came head there =
       messages_changed g is_open h (arrived head g.messages) (All-push Stands _ head (all_if (nat_lt (length g.messages) 16384) g.messages h.places) there)
 
-  pub updated : (message : ℕ) (mentions : List ℕ) → IsConsistent (message_updated g message mentions)
-  updated message mentions = messages_changed g is_open h _ (All-changed head_id Stands message (with_mentions mentions) g.messages (λ m there. there) h.places)
+  pub updated : (edit : MessageUpdate) → IsConsistent (message_updated g edit)
+  updated edit = messages_changed g is_open h _ (All-changed head_id Stands edit.message (with_mentions edit.body.mentions) g.messages (λ m there. there) h.places)
 
   pub deleted : (message : ℕ) → IsConsistent (message_deleted g message)
   deleted message = messages_changed g is_open h _ (All-filter (λ m. not (head_id m == message)) Stands g.messages h.places)

@@ -1,5 +1,5 @@
 -- An edit of messages leaves a record well.
-use Rattle.std.proofs.Common.{◌≡◌, ℕ, not, true, List, Option, Some, None, refl, ap}
+use Rattle.std.proofs.Common.{◌≡◌, not, true, List, Option, Some, None, refl, ap}
 use Rattle.std.specs.Prelude.{◌==◌, option_map, is_some}
 use Rattle.collections.specs.ById.{find_id}
 use Rattle.guild_model.specs.declared.user.User.{User}
@@ -11,7 +11,8 @@ use Rattle.guild_model.specs.Ascending.{IsAscending, IsWell}
 use Rattle.guild_model.proofs.Recent.{recent_left, recent_more, recent_changed}
 use Rattle.message_edit.specs.declared.MessageEdit.{MessageEdit}
 use Rattle.message_edit.specs.declared.MessageEdit.TheVariants.{MessageCreate, MessageUpdate, MessageDelete, ReactionAdd, ReactionRemove, Typing}
-use Rattle.message_edit.specs.Messages.{member_user, with_head, written_by}
+use Rattle.message_edit.specs.declared.message_create.MessageCreate as message_create
+use Rattle.message_edit.specs.Messages.{member_user, new_head, with_head, written_by}
 use Rattle.message_edit.specs.MessageEdits.{message_verdict, message_applied}
 use Rattle.message_edit.proofs.Kept.{may_come, head_came, updated, deleted}
 
@@ -33,26 +34,25 @@ head_well : (g : Record) (head : MessageHead) → g.opened ≡ true → IsWell g
 head_well g head o w free there =
     record { ascending = with_messages g _ (recent_more head g.messages (ap is_some free) w.ascending.messages) w.ascending; consistent = head_came g o w.consistent head there }
 
-written_well : (g : Record) (author : Option User) (message place : ℕ) (mentions : List ℕ) → g.opened ≡ true → IsWell g → find_head message g.messages ≡ None → is_place g place ≡ true
-    → IsWell (written_by g author message place mentions)
-written_well g None message place mentions o w free there = w
-written_well g (Some author) message place mentions o w free there =
-    head_well g (record { id = message; place = place; author = author; mentions = mentions }) o w free there
+written_well : (g : Record) (edit : message_create.MessageCreate) (author : Option User) → g.opened ≡ true → IsWell g → find_head edit.message g.messages ≡ None → is_place g edit.place ≡ true
+    → IsWell (written_by g edit author)
+written_well g edit None o w free there = w
+written_well g edit (Some author) o w free there = head_well g (new_head edit author) o w free there
 
 pub well : (g : Record) (edit : MessageEdit) → g.opened ≡ true → IsWell g → message_verdict g edit ≡ None → IsWell (message_applied g edit)
-well g (MessageCreate message place author body) o w e =
-    let may = may_come g message place author body e in
-    written_well g (option_map member_user (find_id member_id author g.members)) message place body.mentions o w may.0 may.1
-well g (MessageUpdate message body) o w e =
+well g (MessageCreate edit) o w e =
+    let may = may_come g edit e in
+    written_well g edit (option_map member_user (find_id member_id edit.author g.members)) o w may.0 may.1
+well g (MessageUpdate edit) o w e =
     record {
-      ascending = with_messages g _ (recent_changed message (with_mentions body.mentions) g.messages (λ h. refl) w.ascending.messages) w.ascending;
-      consistent = updated g o w.consistent message body.mentions;
+      ascending = with_messages g _ (recent_changed edit.message (with_mentions edit.body.mentions) g.messages (λ h. refl) w.ascending.messages) w.ascending;
+      consistent = updated g o w.consistent edit;
     }
 well g (MessageDelete message) o w e =
     record {
       ascending = with_messages g _ (recent_left (λ h. not (head_id h == message)) g.messages w.ascending.messages) w.ascending;
       consistent = deleted g o w.consistent message;
     }
-well g (ReactionAdd message user emoji) o w e = w
-well g (ReactionRemove message user emoji) o w e = w
-well g (Typing place user at) o w e = w
+well g (ReactionAdd reaction) o w e = w
+well g (ReactionRemove reaction) o w e = w
+well g (Typing edit) o w e = w

@@ -8,18 +8,18 @@ use Rattle.message_edit.specs.Messages.{message_create_verdict, message_created,
 
 -- why an edit of an open guild is refused, if it is
 abbrev pub message_verdict : Record → MessageEdit → Option Verdict
-message_verdict g (MessageCreate message place author body) = message_create_verdict g message place author body
-message_verdict g (MessageUpdate message body) = message_update_verdict g message body
+message_verdict g (MessageCreate edit) = message_create_verdict g edit
+message_verdict g (MessageUpdate edit) = message_update_verdict g edit
 message_verdict g (MessageDelete message) = message_delete_verdict g message
-message_verdict g (ReactionAdd message user emoji) = reaction_verdict g message user emoji
-message_verdict g (ReactionRemove message user emoji) = reaction_verdict g message user emoji
-message_verdict g (Typing place user at) = typing_verdict g place user
+message_verdict g (ReactionAdd reaction) = reaction_verdict g reaction
+message_verdict g (ReactionRemove reaction) = reaction_verdict g reaction
+message_verdict g (Typing edit) = typing_verdict g edit
 
 -- the record after an edit that is not refused: it keeps no reactions, and not who types
 abbrev pub message_applied : Record → MessageEdit → Record
-message_applied g (MessageCreate message place author body) = message_created g message place author body.mentions
-message_applied g (MessageUpdate message body) = message_updated g message body.mentions
+message_applied g (MessageCreate edit) = message_created g edit
+message_applied g (MessageUpdate edit) = message_updated g edit
 message_applied g (MessageDelete message) = message_deleted g message
-message_applied g (ReactionAdd message user emoji) = g
-message_applied g (ReactionRemove message user emoji) = g
-message_applied g (Typing place user at) = g
+message_applied g (ReactionAdd reaction) = g
+message_applied g (ReactionRemove reaction) = g
+message_applied g (Typing edit) = g

@@ -1,3 +1,5 @@
+//! What a message says.
+
 ghost use Rattle.std.specs.Prelude.{◌≡◌, IfOk};
 
 use collections::{Seq, Text};
@@ -5,12 +7,12 @@ use guild_model::PartCount;
 use snowflake_id::Snowflake;
 use std::alloc::{AllocError, Global};
 
-/// What a message says (Message Resource, Message Object). Of its embeds, attachments and components
-/// the numbers are kept.
+/// What a message says (Message Resource, Message Object). Its embeds, attachments and components are
+/// only counted.
 #[derive(Drop)]
 pub struct MessageBody {
     pub content: Text,
-    /// The mentioned users, in the order of the message; one may stand twice.
+    /// The mentioned users, in the order of the message. A user may stand twice.
     pub mentions: Seq<Snowflake>,
     pub embeds: PartCount,
     pub attachments: PartCount,

@@ -15,80 +15,48 @@ pub mod reaction;
 pub mod typing;
 
 pub use body::MessageBody;
-use collections::Text;
-use guild_model::{Guild, Moment, Verdict};
+use guild_model::{Guild, Verdict};
+pub use message_create::MessageCreate;
+pub use message_update::MessageUpdate;
+pub use reaction::ReactionBody;
 use snowflake_id::Snowflake;
 use std::alloc::{AllocError, Global};
+pub use typing::Typing;
 
 /// An edit of a guild's messages, of reactions to them, or of who types.
 #[derive(Drop)]
 pub enum MessageEdit {
-    /// A message comes, in a channel or a thread.
-    MessageCreate {
-        message: Snowflake,
-        place: Snowflake,
-        author: Snowflake,
-        body: MessageBody,
-    },
-    /// A message has another body.
-    MessageUpdate {
-        message: Snowflake,
-        body: MessageBody,
-    },
-    /// A message goes.
-    MessageDelete {
-        message: Snowflake,
-    },
-    /// A user reacts to a message. Reactions are not kept.
-    ReactionAdd {
-        message: Snowflake,
-        user: Snowflake,
-        emoji: Text,
-    },
-    /// A user takes a reaction back.
-    ReactionRemove {
-        message: Snowflake,
-        user: Snowflake,
-        emoji: Text,
-    },
-    /// A user types, in a channel or a thread.
-    Typing {
-        place: Snowflake,
-        user: Snowflake,
-        at: Moment,
-    },
+    /// Creates a message in a channel or a thread.
+    MessageCreate(MessageCreate),
+    /// Replaces the body of a message.
+    MessageUpdate(MessageUpdate),
+    /// Deletes a message.
+    MessageDelete { message: Snowflake },
+    /// Adds a user's reaction to a message. Reactions are not kept.
+    ReactionAdd(ReactionBody),
+    /// Removes a user's reaction from a message.
+    ReactionRemove(ReactionBody),
+    /// Says that a user types in a channel or a thread.
+    Typing(Typing),
 }
 
-/// Why an edit of an open guild is refused: the first of its tests that fails. Takes no memory.
+/// Refuses an edit of an open guild with the verdict of its first test that fails. Does not
+/// allocate.
 pub fn check(guild: &Guild, edit: &MessageEdit) -> Result<(), Verdict>
     ensures { result ≡ outcome (message_verdict guild.now edit.now) }
 {
     match edit {
-        MessageEdit::MessageCreate {
-            message,
-            place,
-            author,
-            body,
-        } => message_create::check(guild, *message, *place, *author, body),
-        MessageEdit::MessageUpdate { message, body } => {
-            message_update::check(guild, *message, body)
-        }
+        MessageEdit::MessageCreate(edit) => message_create::check(guild, edit),
+        MessageEdit::MessageUpdate(edit) => message_update::check(guild, edit),
         MessageEdit::MessageDelete { message } => message_delete::check(guild, *message),
-        MessageEdit::ReactionAdd {
-            message,
-            user,
-            emoji,
-        } => reaction::check(guild, *message, *user, emoji),
-        MessageEdit::ReactionRemove {
-            message,
-            user,
-            emoji,
-        } => reaction::check(guild, *message, *user, emoji),
-        MessageEdit::Typing { place, user, .. } => typing::check(guild, *place, *user),
+        MessageEdit::ReactionAdd(reaction) => reaction::check(guild, reaction),
+        MessageEdit::ReactionRemove(reaction) => reaction::check(guild, reaction),
+        MessageEdit::Typing(edit) => typing::check(guild, edit),
     }
 }
 
-/// Makes an edit that [`check`] does not refuse. Want of memory leaves the record as before.
+/// Makes an edit that [`check`] does not refuse. If it runs out of memory, the record stays as it
+/// was.
 pub fn apply(alloc: Global, guild: &mut Guild, edit: MessageEdit) -> Result<(), AllocError>
     requires open { guild.old.opened ≡ true }
     requires accepted { message_verdict guild.old edit ≡ None }
@@ -96,20 +64,14 @@ pub fn apply(alloc: Global, guild: &mut Guild, edit: MessageEdit) -> Result<(), 
     ensures err { OnErr result (guild.new ≡ guild.old) }
 {
     match edit {
-        MessageEdit::MessageCreate {
-            message,
-            place,
-            author,
-            body,
-        } => message_create::apply(alloc, guild, message, place, author, body),
-        MessageEdit::MessageUpdate { message, body } => {
-            Ok(message_update::apply(guild, message, body))
-        }
-        MessageEdit::MessageDelete { message } => Ok(message_delete::apply(guild, message)),
-        MessageEdit::ReactionAdd { .. }
-        | MessageEdit::ReactionRemove { .. }
-        | MessageEdit::Typing { .. } => Ok(()),
+        MessageEdit::MessageCreate(edit) => message_create::apply(alloc, guild, edit)?,
+        MessageEdit::MessageUpdate(edit) => message_update::apply(guild, edit),
+        MessageEdit::MessageDelete { message } => message_delete::apply(guild, message),
+        MessageEdit::ReactionAdd(reaction) => drop(reaction),
+        MessageEdit::ReactionRemove(reaction) => drop(reaction),
+        MessageEdit::Typing(_) => {}
     }
+    Ok(())
 }
 
 impl MessageEdit {
@@ -118,47 +80,16 @@ impl MessageEdit {
         ensures { IfOk result (λ copy. copy ≡ self.now) }
     {
         Ok(match self {
-            MessageEdit::MessageCreate {
-                message,
-                place,
-                author,
-                body,
-            } => MessageEdit::MessageCreate {
-                message: *message,
-                place: *place,
-                author: *author,
-                body: body.copy(alloc)?,
-            },
-            MessageEdit::MessageUpdate { message, body } => MessageEdit::MessageUpdate {
-                message: *message,
-                body: body.copy(alloc)?,
-            },
+            MessageEdit::MessageCreate(edit) => MessageEdit::MessageCreate(edit.copy(alloc)?),
+            MessageEdit::MessageUpdate(edit) => MessageEdit::MessageUpdate(edit.copy(alloc)?),
             MessageEdit::MessageDelete { message } => {
                 MessageEdit::MessageDelete { message: *message }
             }
-            MessageEdit::ReactionAdd {
-                message,
-                user,
-                emoji,
-            } => MessageEdit::ReactionAdd {
-                message: *message,
-                user: *user,
-                emoji: emoji.copy(alloc)?,
-            },
-            MessageEdit::ReactionRemove {
-                message,
-                user,
-                emoji,
-            } => MessageEdit::ReactionRemove {
-                message: *message,
-                user: *user,
-                emoji: emoji.copy(alloc)?,
-            },
-            MessageEdit::Typing { place, user, at } => MessageEdit::Typing {
-                place: *place,
-                user: *user,
-                at: *at,
-            },
+            MessageEdit::ReactionAdd(reaction) => MessageEdit::ReactionAdd(reaction.copy(alloc)?),
+            MessageEdit::ReactionRemove(reaction) => {
+                MessageEdit::ReactionRemove(reaction.copy(alloc)?)
+            }
+            MessageEdit::Typing(edit) => MessageEdit::Typing(*edit),
         })
     }
 }

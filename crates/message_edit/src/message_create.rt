@@ -1,5 +1,5 @@
-//! `message_create`: a message comes; the oldest kept one goes where there is no room for it (Gateway
-//! Events, Message Create).
+//! `message_create`: creates a message, and drops the oldest kept message where there is no room for it
+//! (Gateway Events, Message Create).
 
 ghost use Rattle.std.specs.Prelude.{◌≡◌, None, true, OnOk, OnErr, IfOk, option_map};
 ghost use Rattle.collections.specs.ById.{find_id};
@@ -16,24 +16,42 @@ use guild_model::{Guild, MessageHead, User, Verdict, limits, rules};
 use snowflake_id::Snowflake;
 use std::alloc::{AllocError, Global};
 
+/// A new message.
+#[derive(Drop)]
+pub struct MessageCreate {
+    pub message: Snowflake,
+    /// The channel or the thread that it is created in.
+    pub place: Snowflake,
+    pub author: Snowflake,
+    pub body: MessageBody,
+}
+
+impl MessageCreate {
+    /// An edit that is equal to this.
+    pub fn copy(&self, alloc: Global) -> Result<MessageCreate, AllocError>
+        ensures { IfOk result (λ copy. copy ≡ self.now) }
+    {
+        Ok(MessageCreate {
+            message: self.message,
+            place: self.place,
+            author: self.author,
+            body: self.body.copy(alloc)?,
+        })
+    }
+}
+
 /// Refused in this order: `UnknownChannel`, `WrongType` and `Archived` for the place, `UnknownMember`
 /// for the author, then for a mentioned user, `IdTaken` where a kept message has the id, `TooLong`.
-pub fn check(
-    guild: &Guild,
-    message: Snowflake,
-    place: Snowflake,
-    author: Snowflake,
-    body: &MessageBody,
-) -> Result<(), Verdict>
-    ensures { result ≡ outcome (message_create_verdict guild.now message place author body.now) }
+pub fn check(guild: &Guild, edit: &MessageCreate) -> Result<(), Verdict>
+    ensures { result ≡ outcome (message_create_verdict guild.now edit.now) }
 {
-    takes_words(guild, place)?;
-    rules::knows_member(guild, author)?;
-    knows_mentioned(guild, body.mentions.as_slice())?;
-    if guild.messages.contains(message) {
+    takes_words(guild, edit.place)?;
+    rules::knows_member(guild, edit.author)?;
+    knows_mentioned(guild, edit.body.mentions.as_slice())?;
+    if guild.messages.contains(edit.message) {
         return Err(Verdict::IdTaken);
     }
-    rules::within(&body.content, limits::CONTENT_BYTES)
+    rules::within(&edit.body.content, limits::CONTENT_BYTES)
 }
 
 fn author_of(alloc: Global, guild: &Guild, author: Snowflake) -> Result<Option<User>, AllocError>
@@ -56,29 +74,22 @@ fn keep(guild: &mut Guild, head: MessageHead) -> Result<(), AllocError>
     Ok(())
 }
 
-/// Keeps the message as the newest, with its author as the member is. Want of memory leaves the
-/// record as before.
-pub fn apply(
-    alloc: Global,
-    guild: &mut Guild,
-    message: Snowflake,
-    place: Snowflake,
-    author: Snowflake,
-    body: MessageBody,
-) -> Result<(), AllocError>
+/// Keeps the message as the newest, with the user that its author now is. If it runs out of memory,
+/// the record stays as it was.
+pub fn apply(alloc: Global, guild: &mut Guild, edit: MessageCreate) -> Result<(), AllocError>
     requires open { guild.old.opened ≡ true }
-    requires accepted { message_create_verdict guild.old message place author body ≡ None }
-    ensures ok { OnOk result (guild.new ≡ message_created guild.old message place author body.mentions) }
+    requires accepted { message_create_verdict guild.old edit ≡ None }
+    ensures ok { OnOk result (guild.new ≡ message_created guild.old edit) }
     ensures err { OnErr result (guild.new ≡ guild.old) }
 {
-    match author_of(alloc, guild, author)? {
+    match author_of(alloc, guild, edit.author)? {
         Some(author) => keep(
             guild,
             MessageHead {
-                id: message,
-                place,
+                id: edit.message,
+                place: edit.place,
                 author,
-                mentions: body.mentions,
+                mentions: edit.body.mentions,
             },
         ),
         None => Ok(()),

@@ -1,4 +1,4 @@
-//! `message_delete`: a message goes (Gateway Events, Message Delete).
+//! `message_delete`: deletes a message (Gateway Events, Message Delete).
 
 ghost use Rattle.std.specs.Prelude.{◌≡◌, true};
 ghost use Rattle.guild_model.specs.Tests.{outcome};
@@ -14,7 +14,7 @@ pub fn check(guild: &Guild, message: Snowflake) -> Result<(), Verdict>
     rules::knows_message(guild, message)
 }
 
-/// Takes the message away.
+/// Removes the message.
 pub fn apply(guild: &mut Guild, message: Snowflake)
     requires { guild.old.opened ≡ true }
     ensures { guild.new ≡ message_deleted guild.old message }

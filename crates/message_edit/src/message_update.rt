@@ -1,7 +1,7 @@
-//! `message_update`: a message has another body, of which its mentions are kept (Gateway Events,
-//! Message Update).
+//! `message_update`: replaces the body of a message. The record keeps only the mentions (Gateway
+//! Events, Message Update).
 
-ghost use Rattle.std.specs.Prelude.{◌≡◌, true};
+ghost use Rattle.std.specs.Prelude.{◌≡◌, true, IfOk};
 ghost use Rattle.guild_model.specs.Tests.{outcome};
 ghost use Rattle.message_edit.specs.Messages.{message_update_verdict, message_updated};
 
@@ -9,20 +9,42 @@ use crate::body::MessageBody;
 use crate::place::knows_mentioned;
 use guild_model::{Guild, Verdict, limits, rules};
 use snowflake_id::Snowflake;
+use std::alloc::{AllocError, Global};
 
-/// Refused in this order: `UnknownMessage`, `UnknownMember` for a mentioned user, `TooLong`.
-pub fn check(guild: &Guild, message: Snowflake, body: &MessageBody) -> Result<(), Verdict>
-    ensures { result ≡ outcome (message_update_verdict guild.now message body.now) }
-{
-    rules::knows_message(guild, message)?;
-    knows_mentioned(guild, body.mentions.as_slice())?;
-    rules::within(&body.content, limits::CONTENT_BYTES)
+/// The new body of a message.
+#[derive(Drop)]
+pub struct MessageUpdate {
+    pub message: Snowflake,
+    pub body: MessageBody,
 }
 
-/// Sets whom the message mentions.
-pub fn apply(guild: &mut Guild, message: Snowflake, body: MessageBody)
-    requires { guild.old.opened ≡ true }
-    ensures { guild.new ≡ message_updated guild.old message body.mentions }
+impl MessageUpdate {
+    /// An edit that is equal to this.
+    pub fn copy(&self, alloc: Global) -> Result<MessageUpdate, AllocError>
+        ensures { IfOk result (λ copy. copy ≡ self.now) }
+    {
+        Ok(MessageUpdate {
+            message: self.message,
+            body: self.body.copy(alloc)?,
+        })
+    }
+}
+
+/// Refused in this order: `UnknownMessage`, `UnknownMember` for a mentioned user, `TooLong`.
+pub fn check(guild: &Guild, edit: &MessageUpdate) -> Result<(), Verdict>
+    ensures { result ≡ outcome (message_update_verdict guild.now edit.now) }
 {
-    guild.messages.set_mentions(message, body.mentions);
+    rules::knows_message(guild, edit.message)?;
+    knows_mentioned(guild, edit.body.mentions.as_slice())?;
+    rules::within(&edit.body.content, limits::CONTENT_BYTES)
+}
+
+/// Replaces the mentions of the message.
+pub fn apply(guild: &mut Guild, edit: MessageUpdate)
+    requires { guild.old.opened ≡ true }
+    ensures { guild.new ≡ message_updated guild.old edit }
+{
+    guild
+        .messages
+        .set_mentions(edit.message, edit.body.mentions);
 }

@@ -38,7 +38,7 @@ fn archived(guild: &Guild, place: Snowflake) -> bool
     }
 }
 
-/// Refused in this order: `UnknownChannel` where the place is neither a channel nor a thread,
+/// Refuses, in this order: `UnknownChannel` where the place is neither a channel nor a thread,
 /// `WrongType` where it is a category or a forum, `Archived` where it is an archived thread.
 pub fn takes_words(guild: &Guild, place: Snowflake) -> Result<(), Verdict>
     ensures { result ≡ outcome (no_place guild.now place) }
@@ -61,7 +61,7 @@ fn all_members(guild: &Guild, users: &[Snowflake]) -> bool
     users.iter().all(|user| guild.members.contains(user.0))
 }
 
-/// Refuses mentions of users of whom one is no member.
+/// Refuses mentions that contain a user who is not a member.
 pub fn knows_mentioned(guild: &Guild, mentions: &[Snowflake]) -> Result<(), Verdict>
     ensures { result ≡ outcome (unknown_mention guild.now mentions.now) }
 {

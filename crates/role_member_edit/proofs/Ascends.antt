@@ -1,5 +1,5 @@
 -- The lists of a record still ascend after each edit of roles and members.
-use Rattle.std.proofs.Common.{◌≡◌, ℕ, Bool, not, List, Option, refl}
+use Rattle.std.proofs.Common.{◌≡◌, ℕ, not, List, Option, refl}
 use Rattle.std.specs.Prelude.{◌==◌}
 use Rattle.std.proofs.lemmas.List.Elements.{All-filter, All-map, All-weaker}
 use Rattle.collections.proofs.Ids.{IsById-put, IsById-changed}
@@ -11,6 +11,7 @@ use Rattle.guild_model.specs.declared.channel.Channel.{Channel}
 use Rattle.guild_model.specs.Record.{Record, own_id, role_id, member_id, overwrite_id, channel_id, thread_id, thread_member_id, voice_id, presence_id}
 use Rattle.guild_model.specs.Ascending.{IsAscending, HasOrderedOverwrites, HasInOrder, HoldsInOrder}
 use Rattle.guild_model.specs.Changes.{without_role, without_role_overwrite}
+use Rattle.role_member_edit.specs.declared.member_add.MemberAdd.{MemberAdd}
 use Rattle.role_member_edit.specs.Roles.{with_role_set, role_deleted}
 use Rattle.role_member_edit.specs.Members.{new_member, member_added, without_user, member_removed, with_member_changed, with_nick, with_timeout}
 use Rattle.role_member_edit.specs.HeldRoles.{with_role}
@@ -49,15 +50,15 @@ module _ (g : Record) (a : IsAscending g) where
     messages = a.messages;
   }
 
-  pub added : (user : ℕ) (name : List ℕ) (bot : Bool) (at : ℕ) → IsAscending (member_added g user name bot at)
-  added user name bot at = record {
+  pub added : (edit : MemberAdd) → IsAscending (member_added g edit)
+  added edit = record {
     roles = a.roles;
-    members = IsById-put member_id (new_member user name bot at) g.members a.members;
+    members = IsById-put member_id (new_member edit.user edit.name edit.bot edit.at) g.members a.members;
     channels = a.channels;
     threads = a.threads;
     voices = a.voices;
     presences = a.presences;
-    held = All-put member_id HoldsInOrder (new_member user name bot at) g.members tt a.held;
+    held = All-put member_id HoldsInOrder (new_member edit.user edit.name edit.bot edit.at) g.members tt a.held;
     overwrites = a.overwrites;
     joined = a.joined;
     messages = a.messages;

@@ -17,6 +17,8 @@ use Rattle.guild_model.specs.Tests.{refused_if, unknown_role, unknown_member}
 use Rattle.guild_model.proofs.Tests.{first_passes, not_refused, passed}
 use Rattle.guild_model.specs.Changes.{without_role, without_role_overwrite}
 use Rattle.guild_model.proofs.Kept.{members_changed}
+use Rattle.role_member_edit.specs.declared.member_add.MemberAdd.{MemberAdd}
+use Rattle.role_member_edit.specs.declared.held_role.HeldRole.{HeldRole}
 use Rattle.role_member_edit.specs.Roles.{everyone_role, role_delete_verdict, role_deleted}
 use Rattle.role_member_edit.specs.Members.{owner_stays, member_remove_verdict, new_member, member_added, without_user, member_removed, with_member_changed, with_nick, with_timeout}
 use Rattle.role_member_edit.specs.HeldRoles.{holds, member_role_add_verdict, member_role_added, with_role, with_roles, held_with}
@@ -30,19 +32,19 @@ remove_other g user e =
     let rest = (first_passes (unknown_member g user) (owner_stays g user ∷ []) e).1 in
     not_refused (user == g.owner) OwnerStays (first_passes (owner_stays g user) [] rest).0
 
-a_role : (g : Record) (user role : ℕ) → member_role_add_verdict g user role ≡ None → (has_id role_id role g.roles ≡ true) × ((role == g.id) ≡ false)
-a_role g user role e =
-    let held = refused_if (holds g user role) IdTaken in
-    let first = first_passes (everyone_role g role) (unknown_member g user ∷ unknown_role g role ∷ held ∷ []) e in
-    let second = first_passes (unknown_member g user) (unknown_role g role ∷ held ∷ []) first.1 in
-    let third = first_passes (unknown_role g role) (held ∷ []) second.1 in
-    (passed (has_id role_id role g.roles) UnknownRole third.0, not_refused (role == g.id) EveryoneRole first.0)
+a_role : (g : Record) (edit : HeldRole) → member_role_add_verdict g edit ≡ None → (has_id role_id edit.role g.roles ≡ true) × ((edit.role == g.id) ≡ false)
+a_role g edit e =
+    let held = refused_if (holds g edit.user edit.role) IdTaken in
+    let first = first_passes (everyone_role g edit.role) (unknown_member g edit.user ∷ unknown_role g edit.role ∷ held ∷ []) e in
+    let second = first_passes (unknown_member g edit.user) (unknown_role g edit.role ∷ held ∷ []) first.1 in
+    let third = first_passes (unknown_role g edit.role) (held ∷ []) second.1 in
+    (passed (has_id role_id edit.role g.roles) UnknownRole third.0, not_refused (edit.role == g.id) EveryoneRole first.0)
 
 -- a member is given the roles that it holds and one more
-pub given_as : (g : Record) (user role : ℕ) (roles : List ℕ) → roles ≡ held_with g user role → with_member_changed g user (with_roles roles) ≡ member_role_added g user role
-given_as g user role roles e =
-    let same : changed_id member_id user (with_roles roles) g.members ≡ changed_id member_id user (with_role role) g.members =
-    changed_alike member_id user _ _ g.members (λ m found. rw (e, found) refl) in
+pub given_as : (g : Record) (edit : HeldRole) (roles : List ℕ) → roles ≡ held_with g edit.user edit.role → with_member_changed g edit.user (with_roles roles) ≡ member_role_added g edit
+given_as g edit roles e =
+    let same : changed_id member_id edit.user (with_roles roles) g.members ≡ changed_id member_id edit.user (with_role edit.role) g.members =
+    changed_alike member_id edit.user _ _ g.members (λ m found. rw (e, found) refl) in
     ap (λ ms. record g { members = ms }) same
 
 module _ (g : Record) (is_open : g.opened ≡ true) (h : IsConsistent g) where
@@ -63,8 +65,8 @@ module _ (g : Record) (is_open : g.opened ≡ true) (h : IsConsistent g) where
       members_changed g is_open h _ (λ user there. has-kept member_id n user g.members there)
       (λ user role m found holds. found_put (member_id n == user) m n (find_id member_id user g.members) new (λ e role. h.held user role m e) (sym (find-put member_id n user g.members) ∙ found) role holds)
 
-  pub added : (user : ℕ) (name : List ℕ) (bot : Bool) (at : ℕ) → IsConsistent (member_added g user name bot at)
-  added user name bot at = member_set (new_member user name bot at) (λ role holds. absurd (cc))
+  pub added : (edit : MemberAdd) → IsConsistent (member_added g edit)
+  added edit = member_set (new_member edit.user edit.name edit.bot edit.at) (λ role holds. absurd (cc))
 
   found_changed : (b : Bool) (f : Member → Member) (m : Member) (o : Option Member) → ((m : Member) → Holds m → Holds (f m)) → ((m : Member) → o ≡ Some m → Holds m) → (if b then option_map f o else o) ≡ Some m → Holds m
   found_changed true f m None keeps old e = absurd (cc)
@@ -90,8 +92,8 @@ module _ (g : Record) (is_open : g.opened ≡ true) (h : IsConsistent g) where
       by_test true e either = let same : role ≡ other = grind (arith, nat_tests) in subst IsRole same is
       by_test false e either = old other either
 
-  pub given : (user role : ℕ) → member_role_add_verdict g user role ≡ None → IsConsistent (member_role_added g user role)
-  given user role accepted = member_changed user (with_role role) (λ m. refl) (holds_more role (a_role g user role accepted))
+  pub given : (edit : HeldRole) → member_role_add_verdict g edit ≡ None → IsConsistent (member_role_added g edit)
+  given edit accepted = member_changed edit.user (with_role edit.role) (λ m. refl) (holds_more edit.role (a_role g edit accepted))
 
   holds_less : (role : ℕ) (m : Member) → Holds m → Holds (without_role role m)
   holds_less role m old other holds = old other (has-left own_id role other m.roles holds).1

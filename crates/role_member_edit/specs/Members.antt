@@ -1,4 +1,4 @@
--- Members that come, change and go (Guild Resource, Guild Member Object).
+-- Members that are added, changed and removed (Guild Resource, Guild Member Object).
 use Rattle.std.specs.Prelude.{ℕ, ◌==◌, length, List, [], ◌∷◌, map, Bool, Option, Some, None}
 use Rattle.collections.specs.ById.{put_id, without_id, changed_id, has_id}
 use Rattle.guild_model.specs.declared.member.Member.{Member}
@@ -7,18 +7,33 @@ use Rattle.guild_model.specs.declared.verdict.Verdict.{Verdict}
 use Rattle.guild_model.specs.declared.verdict.Verdict.TheVariants.{IdTaken, OwnerStays}
 use Rattle.guild_model.specs.Record.{Record, member_id, thread_member_id, voice_id, presence_id}
 use Rattle.guild_model.specs.Tests.{refused_if, first_of, too_long, too_many, unknown_member}
+use Rattle.role_member_edit.specs.declared.member_add.MemberAdd.{MemberAdd}
+use Rattle.role_member_edit.specs.declared.member_nick.MemberNick.{MemberNick}
+use Rattle.role_member_edit.specs.declared.member_timeout.MemberTimeout.{MemberTimeout}
 
 -- member_add: a member without roles
-abbrev pub member_add_verdict : Record → ℕ → List ℕ → Option Verdict
-member_add_verdict g user name = first_of (refused_if (has_id member_id user g.members) IdTaken ∷ too_many 1000 (length g.members) ∷ too_long 100 name ∷ [])
+abbrev pub member_add_verdict : Record → MemberAdd → Option Verdict
+member_add_verdict g edit = first_of (
+    refused_if (has_id member_id edit.user g.members) IdTaken
+    ∷ too_many 1000 (length g.members)
+    ∷ too_long 100 edit.name
+    ∷ [])
 
 abbrev pub new_member : ℕ → List ℕ → Bool → ℕ → Member
-new_member user name bot at = record { user = record { id = user; name = name; bot = bot }; nick = None; roles = []; joined = at; timeout = None }
+new_member user name bot at = record {
+  user = record { id = user; name = name; bot = bot };
+  nick = None;
+  roles = [];
+  joined = at;
+  timeout = None;
+}
 
-abbrev pub member_added : Record → ℕ → List ℕ → Bool → ℕ → Record
-member_added g user name bot at = record g { members = put_id member_id (new_member user name bot at) g.members }
+abbrev pub member_added : Record → MemberAdd → Record
+member_added g edit = record g {
+  members = put_id member_id (new_member edit.user edit.name edit.bot edit.at) g.members;
+}
 
--- member_remove: the user goes from all lists but the overwrites
+-- member_remove: the user is removed from all lists but the overwrites
 abbrev pub owner_stays : Record → ℕ → Option Verdict
 owner_stays g user = refused_if (user == g.owner) OwnerStays
 
@@ -44,21 +59,21 @@ abbrev pub nick_verdict : Option (List ℕ) → Option Verdict
 nick_verdict None = None
 nick_verdict (Some nick) = too_long 32 nick
 
-abbrev pub member_nick_verdict : Record → ℕ → Option (List ℕ) → Option Verdict
-member_nick_verdict g user nick = first_of (unknown_member g user ∷ nick_verdict nick ∷ [])
+abbrev pub member_nick_verdict : Record → MemberNick → Option Verdict
+member_nick_verdict g edit = first_of (unknown_member g edit.user ∷ nick_verdict edit.nick ∷ [])
 
 abbrev pub with_nick : Option (List ℕ) → Member → Member
 with_nick nick m = record m { nick = nick }
 
-abbrev pub member_nicked : Record → ℕ → Option (List ℕ) → Record
-member_nicked g user nick = with_member_changed g user (with_nick nick)
+abbrev pub member_nicked : Record → MemberNick → Record
+member_nicked g edit = with_member_changed g edit.user (with_nick edit.nick)
 
 -- member_timeout
-abbrev pub member_timeout_verdict : Record → ℕ → Option Verdict
-member_timeout_verdict g user = unknown_member g user
+abbrev pub member_timeout_verdict : Record → MemberTimeout → Option Verdict
+member_timeout_verdict g edit = unknown_member g edit.user
 
 abbrev pub with_timeout : Option ℕ → Member → Member
 with_timeout until m = record m { timeout = until }
 
-abbrev pub member_timed_out : Record → ℕ → Option ℕ → Record
-member_timed_out g user until = with_member_changed g user (with_timeout until)
+abbrev pub member_timed_out : Record → MemberTimeout → Record
+member_timed_out g edit = with_member_changed g edit.user (with_timeout edit.until)

@@ -10,24 +10,24 @@ use Rattle.role_member_edit.specs.HeldRoles.{member_role_add_verdict, member_rol
 
 -- why an edit of an open guild is refused, if it is
 abbrev pub role_member_verdict : Record → RoleMemberEdit → Option Verdict
-role_member_verdict g (RoleCreate role name perms position) = role_create_verdict g role name
-role_member_verdict g (RoleUpdate role name perms position) = role_update_verdict g role name
+role_member_verdict g (RoleCreate edit) = role_create_verdict g edit
+role_member_verdict g (RoleUpdate edit) = role_update_verdict g edit
 role_member_verdict g (RoleDelete role) = role_delete_verdict g role
-role_member_verdict g (MemberAdd user name bot at) = member_add_verdict g user name
+role_member_verdict g (MemberAdd edit) = member_add_verdict g edit
 role_member_verdict g (MemberRemove user) = member_remove_verdict g user
-role_member_verdict g (MemberNick user nick) = member_nick_verdict g user nick
-role_member_verdict g (MemberTimeout user until) = member_timeout_verdict g user
-role_member_verdict g (MemberRoleAdd user role) = member_role_add_verdict g user role
-role_member_verdict g (MemberRoleRemove user role) = member_role_remove_verdict g user role
+role_member_verdict g (MemberNick edit) = member_nick_verdict g edit
+role_member_verdict g (MemberTimeout edit) = member_timeout_verdict g edit
+role_member_verdict g (MemberRoleAdd edit) = member_role_add_verdict g edit
+role_member_verdict g (MemberRoleRemove edit) = member_role_remove_verdict g edit
 
 -- the record after an edit that is not refused
 abbrev pub role_member_applied : Record → RoleMemberEdit → Record
-role_member_applied g (RoleCreate role name perms position) = role_created g role name perms position
-role_member_applied g (RoleUpdate role name perms position) = role_updated g role name perms position
+role_member_applied g (RoleCreate edit) = role_created g edit
+role_member_applied g (RoleUpdate edit) = role_updated g edit
 role_member_applied g (RoleDelete role) = role_deleted g role
-role_member_applied g (MemberAdd user name bot at) = member_added g user name bot at
+role_member_applied g (MemberAdd edit) = member_added g edit
 role_member_applied g (MemberRemove user) = member_removed g user
-role_member_applied g (MemberNick user nick) = member_nicked g user nick
-role_member_applied g (MemberTimeout user until) = member_timed_out g user until
-role_member_applied g (MemberRoleAdd user role) = member_role_added g user role
-role_member_applied g (MemberRoleRemove user role) = member_role_removed g user role
+role_member_applied g (MemberNick edit) = member_nicked g edit
+role_member_applied g (MemberTimeout edit) = member_timed_out g edit
+role_member_applied g (MemberRoleAdd edit) = member_role_added g edit
+role_member_applied g (MemberRoleRemove edit) = member_role_removed g edit

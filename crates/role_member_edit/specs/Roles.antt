@@ -1,5 +1,6 @@
--- Roles that come, change and go (Guild Resource, Create, Modify and Delete Guild Role).
-use Rattle.std.specs.Prelude.{ℕ, ◌==◌, length, List, [], ◌∷◌, map, Option}
+-- Roles that are created, replaced and deleted (Guild Resource, Create, Modify and Delete Guild
+-- Role).
+use Rattle.std.specs.Prelude.{ℕ, ◌==◌, length, [], ◌∷◌, map, Option}
 use Rattle.collections.specs.ById.{put_id, without_id, has_id}
 use Rattle.guild_model.specs.declared.role.Role.{Role}
 use Rattle.guild_model.specs.declared.verdict.Verdict.{Verdict}
@@ -7,6 +8,7 @@ use Rattle.guild_model.specs.declared.verdict.Verdict.TheVariants.{IdTaken, Ever
 use Rattle.guild_model.specs.Record.{Record, role_id}
 use Rattle.guild_model.specs.Tests.{refused_if, first_of, too_long, too_many, unknown_role}
 use Rattle.guild_model.specs.Changes.{without_role, without_role_overwrite}
+use Rattle.role_member_edit.specs.declared.role_body.RoleBody.{RoleBody}
 
 abbrev pub role_taken : Record → ℕ → Option Verdict
 role_taken g role = refused_if (has_id role_id role g.roles) IdTaken
@@ -18,21 +20,34 @@ everyone_role g role = refused_if (role == g.id) EveryoneRole
 abbrev pub with_role_set : Record → Role → Record
 with_role_set g role = record g { roles = put_id role_id role g.roles }
 
--- role_create
-abbrev pub role_create_verdict : Record → ℕ → List ℕ → Option Verdict
-role_create_verdict g role name = first_of (role_taken g role ∷ too_many 250 (length g.roles) ∷ too_long 100 name ∷ [])
+-- the role that an edit states
+abbrev pub role_of : RoleBody → Role
+role_of body = record {
+  id = body.role;
+  name = body.name;
+  permissions = body.perms;
+  position = body.position;
+}
 
-abbrev pub role_created : Record → ℕ → List ℕ → ℕ → ℕ → Record
-role_created g role name perms position = with_role_set g (record { id = role; name = name; permissions = perms; position = position })
+-- role_create
+abbrev pub role_create_verdict : Record → RoleBody → Option Verdict
+role_create_verdict g edit = first_of (
+    role_taken g edit.role
+    ∷ too_many 250 (length g.roles)
+    ∷ too_long 100 edit.name
+    ∷ [])
+
+abbrev pub role_created : Record → RoleBody → Record
+role_created g edit = with_role_set g (role_of edit)
 
 -- role_update
-abbrev pub role_update_verdict : Record → ℕ → List ℕ → Option Verdict
-role_update_verdict g role name = first_of (unknown_role g role ∷ too_long 100 name ∷ [])
+abbrev pub role_update_verdict : Record → RoleBody → Option Verdict
+role_update_verdict g edit = first_of (unknown_role g edit.role ∷ too_long 100 edit.name ∷ [])
 
-abbrev pub role_updated : Record → ℕ → List ℕ → ℕ → ℕ → Record
-role_updated g role name perms position = with_role_set g (record { id = role; name = name; permissions = perms; position = position })
+abbrev pub role_updated : Record → RoleBody → Record
+role_updated g edit = with_role_set g (role_of edit)
 
--- role_delete: the role goes from the members that hold it, and its overwrites go
+-- role_delete: the members that hold the role lose it, and its overwrites are deleted
 abbrev pub role_delete_verdict : Record → ℕ → Option Verdict
 role_delete_verdict g role = first_of (everyone_role g role ∷ unknown_role g role ∷ [])
 

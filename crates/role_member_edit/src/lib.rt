@@ -5,75 +5,48 @@ ghost use Rattle.std.specs.Prelude.{◌≡◌, None, true, IfOk, OnOk, OnErr};
 ghost use Rattle.guild_model.specs.Tests.{outcome};
 ghost use Rattle.role_member_edit.specs.RoleMember.{role_member_verdict, role_member_applied};
 
+pub mod held_role;
 pub mod member_add;
 pub mod member_nick;
 pub mod member_remove;
 pub mod member_role_add;
 pub mod member_role_remove;
 pub mod member_timeout;
+pub mod role_body;
 pub mod role_create;
 pub mod role_delete;
 pub mod role_update;
 
-use collections::Text;
-use guild_model::member::copy_text;
-use guild_model::{Guild, Moment, Verdict};
-use perm_bits::Perms;
+use guild_model::{Guild, Verdict};
+pub use held_role::HeldRole;
+pub use member_add::MemberAdd;
+pub use member_nick::MemberNick;
+pub use member_timeout::MemberTimeout;
+pub use role_body::RoleBody;
 use snowflake_id::Snowflake;
 use std::alloc::{AllocError, Global};
 
 /// An edit of a guild's roles or members.
 #[derive(Drop)]
 pub enum RoleMemberEdit {
-    /// A role comes.
-    RoleCreate {
-        role: Snowflake,
-        name: Text,
-        perms: Perms,
-        position: u32,
-    },
-    /// A role, @everyone too, has another name, other permissions and another position.
-    RoleUpdate {
-        role: Snowflake,
-        name: Text,
-        perms: Perms,
-        position: u32,
-    },
-    /// A role goes, also from members and overwrites.
-    RoleDelete {
-        role: Snowflake,
-    },
-    /// A user becomes a member, without roles.
-    MemberAdd {
-        user: Snowflake,
-        name: Text,
-        bot: bool,
-        at: Moment,
-    },
-    /// A user is a member no longer.
-    MemberRemove {
-        user: Snowflake,
-    },
-    /// A member has another nickname, or none.
-    MemberNick {
-        user: Snowflake,
-        nick: Option<Text>,
-    },
-    /// A member's timeout has another end, or there is none.
-    MemberTimeout {
-        user: Snowflake,
-        until: Option<Moment>,
-    },
-    /// A member is given a role.
-    MemberRoleAdd {
-        user: Snowflake,
-        role: Snowflake,
-    },
-    /// A role is taken from a member.
-    MemberRoleRemove {
-        user: Snowflake,
-        role: Snowflake,
-    },
+    /// Creates a role.
+    RoleCreate(RoleBody),
+    /// Replaces a role's name, permissions and position, also those of `@everyone`.
+    RoleUpdate(RoleBody),
+    /// Deletes a role and its overwrites, and takes it from the members that hold it.
+    RoleDelete { role: Snowflake },
+    /// Adds a member, without roles.
+    MemberAdd(MemberAdd),
+    /// Removes a member.
+    MemberRemove { user: Snowflake },
+    /// Sets or clears a member's nickname.
+    MemberNick(MemberNick),
+    /// Sets or clears the end of a member's timeout.
+    MemberTimeout(MemberTimeout),
+    /// Gives a member a role.
+    MemberRoleAdd(HeldRole),
+    /// Takes a role from a member.
+    MemberRoleRemove(HeldRole),
 }
 
 /// Why an edit of an open guild is refused: the first of its tests that fails. Takes no memory.
@@ -81,23 +54,20 @@ pub fn check(guild: &Guild, edit: &RoleMemberEdit) -> Result<(), Verdict>
     ensures { result ≡ outcome (role_member_verdict guild.now edit.now) }
 {
     match edit {
-        RoleMemberEdit::RoleCreate { role, name, .. } => role_create::check(guild, *role, name),
-        RoleMemberEdit::RoleUpdate { role, name, .. } => role_update::check(guild, *role, name),
+        RoleMemberEdit::RoleCreate(edit) => role_create::check(guild, edit),
+        RoleMemberEdit::RoleUpdate(edit) => role_update::check(guild, edit),
         RoleMemberEdit::RoleDelete { role } => role_delete::check(guild, *role),
-        RoleMemberEdit::MemberAdd { user, name, .. } => member_add::check(guild, *user, name),
+        RoleMemberEdit::MemberAdd(edit) => member_add::check(guild, edit),
         RoleMemberEdit::MemberRemove { user } => member_remove::check(guild, *user),
-        RoleMemberEdit::MemberNick { user, nick } => member_nick::check(guild, *user, nick),
-        RoleMemberEdit::MemberTimeout { user, .. } => member_timeout::check(guild, *user),
-        RoleMemberEdit::MemberRoleAdd { user, role } => {
-            member_role_add::check(guild, *user, *role)
-        }
-        RoleMemberEdit::MemberRoleRemove { user, role } => {
-            member_role_remove::check(guild, *user, *role)
-        }
+        RoleMemberEdit::MemberNick(edit) => member_nick::check(guild, edit),
+        RoleMemberEdit::MemberTimeout(edit) => member_timeout::check(guild, edit),
+        RoleMemberEdit::MemberRoleAdd(edit) => member_role_add::check(guild, edit),
+        RoleMemberEdit::MemberRoleRemove(edit) => member_role_remove::check(guild, edit),
     }
 }
 
-/// Makes an edit that [`check`] does not refuse. Want of memory leaves the record as before.
+/// Makes an edit that [`check`] does not refuse. If it runs out of memory, the record stays as it
+/// was.
 pub fn apply(alloc: Global, guild: &mut Guild, edit: RoleMemberEdit) -> Result<(), AllocError>
     requires open { guild.old.opened ≡ true }
     requires accepted { role_member_verdict guild.old edit ≡ None }
@@ -105,37 +75,17 @@ pub fn apply(alloc: Global, guild: &mut Guild, edit: RoleMemberEdit) -> Result<(
     ensures err { OnErr result (guild.new ≡ guild.old) }
 {
     match edit {
-        RoleMemberEdit::RoleCreate {
-            role,
-            name,
-            perms,
-            position,
-        } => role_create::apply(guild, role, name, perms, position),
-        RoleMemberEdit::RoleUpdate {
-            role,
-            name,
-            perms,
-            position,
-        } => Ok(role_update::apply(guild, role, name, perms, position)),
-        RoleMemberEdit::RoleDelete { role } => Ok(role_delete::apply(guild, role)),
-        RoleMemberEdit::MemberAdd {
-            user,
-            name,
-            bot,
-            at,
-        } => member_add::apply(alloc, guild, user, name, bot, at),
-        RoleMemberEdit::MemberRemove { user } => Ok(member_remove::apply(guild, user)),
-        RoleMemberEdit::MemberNick { user, nick } => Ok(member_nick::apply(guild, user, nick)),
-        RoleMemberEdit::MemberTimeout { user, until } => {
-            Ok(member_timeout::apply(guild, user, until))
-        }
-        RoleMemberEdit::MemberRoleAdd { user, role } => {
-            member_role_add::apply(alloc, guild, user, role)
-        }
-        RoleMemberEdit::MemberRoleRemove { user, role } => {
-            Ok(member_role_remove::apply(guild, user, role))
-        }
+        RoleMemberEdit::RoleCreate(edit) => role_create::apply(guild, edit)?,
+        RoleMemberEdit::RoleUpdate(edit) => role_update::apply(guild, edit),
+        RoleMemberEdit::RoleDelete { role } => role_delete::apply(guild, role),
+        RoleMemberEdit::MemberAdd(edit) => member_add::apply(alloc, guild, edit)?,
+        RoleMemberEdit::MemberRemove { user } => member_remove::apply(guild, user),
+        RoleMemberEdit::MemberNick(edit) => member_nick::apply(guild, edit),
+        RoleMemberEdit::MemberTimeout(edit) => member_timeout::apply(guild, edit),
+        RoleMemberEdit::MemberRoleAdd(edit) => member_role_add::apply(alloc, guild, edit)?,
+        RoleMemberEdit::MemberRoleRemove(edit) => member_role_remove::apply(guild, edit),
     }
+    Ok(())
 }
 
 impl RoleMemberEdit {
@@ -144,57 +94,15 @@ impl RoleMemberEdit {
         ensures { IfOk result (λ copy. copy ≡ self.now) }
     {
         Ok(match self {
-            RoleMemberEdit::RoleCreate {
-                role,
-                name,
-                perms,
-                position,
-            } => RoleMemberEdit::RoleCreate {
-                role: *role,
-                name: name.copy(alloc)?,
-                perms: *perms,
-                position: *position,
-            },
-            RoleMemberEdit::RoleUpdate {
-                role,
-                name,
-                perms,
-                position,
-            } => RoleMemberEdit::RoleUpdate {
-                role: *role,
-                name: name.copy(alloc)?,
-                perms: *perms,
-                position: *position,
-            },
+            RoleMemberEdit::RoleCreate(edit) => RoleMemberEdit::RoleCreate(edit.copy(alloc)?),
+            RoleMemberEdit::RoleUpdate(edit) => RoleMemberEdit::RoleUpdate(edit.copy(alloc)?),
             RoleMemberEdit::RoleDelete { role } => RoleMemberEdit::RoleDelete { role: *role },
-            RoleMemberEdit::MemberAdd {
-                user,
-                name,
-                bot,
-                at,
-            } => RoleMemberEdit::MemberAdd {
-                user: *user,
-                name: name.copy(alloc)?,
-                bot: *bot,
-                at: *at,
-            },
+            RoleMemberEdit::MemberAdd(edit) => RoleMemberEdit::MemberAdd(edit.copy(alloc)?),
             RoleMemberEdit::MemberRemove { user } => RoleMemberEdit::MemberRemove { user: *user },
-            RoleMemberEdit::MemberNick { user, nick } => RoleMemberEdit::MemberNick {
-                user: *user,
-                nick: copy_text(alloc, nick)?,
-            },
-            RoleMemberEdit::MemberTimeout { user, until } => RoleMemberEdit::MemberTimeout {
-                user: *user,
-                until: *until,
-            },
-            RoleMemberEdit::MemberRoleAdd { user, role } => RoleMemberEdit::MemberRoleAdd {
-                user: *user,
-                role: *role,
-            },
-            RoleMemberEdit::MemberRoleRemove { user, role } => RoleMemberEdit::MemberRoleRemove {
-                user: *user,
-                role: *role,
-            },
+            RoleMemberEdit::MemberNick(edit) => RoleMemberEdit::MemberNick(edit.copy(alloc)?),
+            RoleMemberEdit::MemberTimeout(edit) => RoleMemberEdit::MemberTimeout(*edit),
+            RoleMemberEdit::MemberRoleAdd(edit) => RoleMemberEdit::MemberRoleAdd(*edit),
+            RoleMemberEdit::MemberRoleRemove(edit) => RoleMemberEdit::MemberRoleRemove(*edit),
         })
     }
 }

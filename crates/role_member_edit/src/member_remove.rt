@@ -1,5 +1,5 @@
-//! `member_remove`: a user is a member no longer; it leaves its threads and its voice channel, and
-//! its presence goes. Overwrites of it stay (Gateway Events, Guild Member Remove).
+//! `member_remove`: removes a member, also from threads, from voice and from the presences. Its
+//! overwrites stay (Gateway Events, Guild Member Remove).
 
 ghost use Rattle.std.specs.Prelude.{◌≡◌, None, true, refl};
 ghost use Rattle.guild_model.specs.Tests.{outcome};
@@ -20,7 +20,7 @@ pub fn check(guild: &Guild, user: Snowflake) -> Result<(), Verdict>
     Ok(())
 }
 
-/// A user is no longer in a thread.
+/// Removes a user from a thread.
 #[derive(Clone, Copy)]
 struct WithoutUser(Snowflake);
 
@@ -34,7 +34,7 @@ impl Change<Thread> for WithoutUser {
     ghost keeps_key = { λ change t. refl };
 }
 
-/// Takes the user from all lists.
+/// Removes the user from all lists but the overwrites.
 pub fn apply(guild: &mut Guild, user: Snowflake)
     requires open { guild.old.opened ≡ true }
     requires accepted { member_remove_verdict guild.old user ≡ None }

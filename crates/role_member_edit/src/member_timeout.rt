@@ -1,5 +1,5 @@
-//! `member_timeout`: a member's timeout has another end, or there is none (Gateway Events, Guild
-//! Member Update).
+//! `member_timeout`: sets or clears the end of a member's timeout (Gateway Events, Guild Member
+//! Update).
 
 ghost use Rattle.std.specs.Prelude.{◌≡◌, None, true, refl};
 ghost use Rattle.guild_model.specs.Tests.{outcome};
@@ -9,11 +9,18 @@ use collections::Change;
 use guild_model::{Guild, Member, Moment, Verdict, rules};
 use snowflake_id::Snowflake;
 
+/// The end of a member's timeout, or none.
+#[derive(Clone, Copy)]
+pub struct MemberTimeout {
+    pub user: Snowflake,
+    pub until: Option<Moment>,
+}
+
 /// Refused with `UnknownMember`.
-pub fn check(guild: &Guild, user: Snowflake) -> Result<(), Verdict>
-    ensures { result ≡ outcome (member_timeout_verdict guild.now user) }
+pub fn check(guild: &Guild, edit: &MemberTimeout) -> Result<(), Verdict>
+    ensures { result ≡ outcome (member_timeout_verdict guild.now edit.now) }
 {
-    rules::knows_member(guild, user)
+    rules::knows_member(guild, edit.user)
 }
 
 #[derive(Drop)]
@@ -32,10 +39,12 @@ impl Change<Member> for SetTimeout {
 }
 
 /// Sets the end of the timeout.
-pub fn apply(guild: &mut Guild, user: Snowflake, until: Option<Moment>)
+pub fn apply(guild: &mut Guild, edit: MemberTimeout)
     requires open { guild.old.opened ≡ true }
-    requires accepted { member_timeout_verdict guild.old user ≡ None }
-    ensures { guild.new ≡ member_timed_out guild.old user until }
+    requires accepted { member_timeout_verdict guild.old edit ≡ None }
+    ensures { guild.new ≡ member_timed_out guild.old edit }
 {
-    guild.members.change(user.0, SetTimeout { until });
+    guild
+        .members
+        .change(edit.user.0, SetTimeout { until: edit.until });
 }

@@ -1,44 +1,31 @@
-//! `role_create`: a role comes (Gateway Events, Guild Role Create).
+//! `role_create`: creates a role (Gateway Events, Guild Role Create).
 
 ghost use Rattle.std.specs.Prelude.{◌≡◌, None, true, OnOk, OnErr};
 ghost use Rattle.guild_model.specs.Tests.{outcome};
 ghost use Rattle.role_member_edit.specs.Roles.{role_create_verdict, role_created};
 
-use collections::Text;
-use guild_model::{Guild, Role, Verdict, limits, rules};
-use perm_bits::Perms;
-use snowflake_id::Snowflake;
+use crate::role_body::RoleBody;
+use guild_model::{Guild, Verdict, limits, rules};
 use std::alloc::AllocError;
 
-/// Refused in this order: `IdTaken` where the role is there, `TooMany`, `TooLong` for the name.
-pub fn check(guild: &Guild, role: Snowflake, name: &Text) -> Result<(), Verdict>
-    ensures { result ≡ outcome (role_create_verdict guild.now role name.now) }
+/// Refused in this order: `IdTaken` where the role exists, `TooMany`, `TooLong` for the name.
+pub fn check(guild: &Guild, edit: &RoleBody) -> Result<(), Verdict>
+    ensures { result ≡ outcome (role_create_verdict guild.now edit.now) }
 {
-    if guild.roles.contains(role.0) {
+    if guild.roles.contains(edit.role.0) {
         return Err(Verdict::IdTaken);
     }
     rules::has_room(guild.roles.len(), limits::ROLES)?;
-    rules::within(name, limits::NAME_BYTES)
+    rules::within(&edit.name, limits::NAME_BYTES)
 }
 
-/// Adds the role. Want of memory leaves the record as before.
-pub fn apply(
-    guild: &mut Guild,
-    role: Snowflake,
-    name: Text,
-    perms: Perms,
-    position: u32,
-) -> Result<(), AllocError>
+/// Adds the role. If it runs out of memory, the record stays as it was.
+pub fn apply(guild: &mut Guild, edit: RoleBody) -> Result<(), AllocError>
     requires open { guild.old.opened ≡ true }
-    requires accepted { role_create_verdict guild.old role name ≡ None }
-    ensures ok { OnOk result (guild.new ≡ role_created guild.old role name perms position) }
+    requires accepted { role_create_verdict guild.old edit ≡ None }
+    ensures ok { OnOk result (guild.new ≡ role_created guild.old edit) }
     ensures err { OnErr result (guild.new ≡ guild.old) }
 {
-    guild.roles.insert(Role {
-        id: role,
-        name,
-        permissions: perms,
-        position,
-    })?;
+    guild.roles.insert(edit.role())?;
     Ok(())
 }

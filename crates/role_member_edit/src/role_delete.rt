@@ -1,5 +1,5 @@
-//! `role_delete`: a role goes, also from the members that hold it, and its overwrites go (Gateway
-//! Events, Guild Role Delete).
+//! `role_delete`: deletes a role and its overwrites, and takes it from the members that hold it
+//! (Gateway Events, Guild Role Delete).
 
 ghost use Rattle.std.specs.Prelude.{◌≡◌, None, true};
 ghost use Rattle.guild_model.specs.Tests.{outcome};
@@ -27,7 +27,7 @@ pub fn check(guild: &Guild, role: Snowflake) -> Result<(), Verdict>
     rules::knows_role(guild, role)
 }
 
-/// Takes the role away.
+/// Deletes the role and its overwrites, and takes it from the members that hold it.
 pub fn apply(guild: &mut Guild, role: Snowflake)
     requires open { guild.old.opened ≡ true }
     requires accepted { role_delete_verdict guild.old role ≡ None }

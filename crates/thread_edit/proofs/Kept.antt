@@ -19,15 +19,19 @@ use Rattle.guild_model.specs.Record.{Record, member_id, channel_id, thread_id, t
 use Rattle.guild_model.specs.Consistent.{IsConsistent, has_threads, is_parent, is_place}
 use Rattle.guild_model.specs.Tests.{refused_if, too_long, too_many, unknown_member, unknown_channel}
 use Rattle.guild_model.proofs.Tests.{first_passes, not_refused, passed}
-use Rattle.thread_edit.specs.Threads.{takes_thread, takes_there, unknown_thread, not_active, wrong_kind, too_many_active, thread_create_verdict, new_thread_member, new_thread, thread_created, thread_changed, with_thread_name, stands_elsewhere, thread_deleted}
+use Rattle.thread_edit.specs.declared.thread_create.ThreadCreate.{ThreadCreate}
+use Rattle.thread_edit.specs.declared.thread_join.ThreadJoin.{ThreadJoin}
+use Rattle.thread_edit.specs.declared.thread_leave.ThreadLeave.{ThreadLeave}
+use Rattle.thread_edit.specs.declared.thread_rename.ThreadRename.{ThreadRename}
+use Rattle.thread_edit.specs.Threads.{takes_thread, takes_there, unknown_thread, not_active, wrong_kind, too_many_active, thread_create_verdict, new_thread_member, new_thread, thread_created, thread_changed, thread_renamed, with_thread_name, stands_elsewhere, thread_deleted}
 use Rattle.thread_edit.specs.Archives.{with_archived}
-use Rattle.thread_edit.specs.ThreadMembers.{is_in_thread, thread_join_verdict, with_joined, thread_joined, with_left, members_with, with_members}
+use Rattle.thread_edit.specs.ThreadMembers.{is_in_thread, thread_join_verdict, with_joined, thread_joined, with_left, thread_left, members_with, with_members}
 
 -- what the tests let through
-record MayCome (g : Record) (thread parent owner : ℕ) : Type 0 where
-  free : is_place g thread ≡ false
-  fits : is_parent (find_id channel_id parent g.channels) ≡ true
-  member : has_id member_id owner g.members ≡ true
+record MayCome (g : Record) (edit : ThreadCreate) : Type 0 where
+  free : is_place g edit.thread ≡ false
+  fits : is_parent (find_id channel_id edit.parent g.channels) ≡ true
+  member : has_id member_id edit.owner g.members ≡ true
 
 takes_has : (c : ChannelKind) (kind : ThreadKind) → takes_thread c kind ≡ true → has_threads c ≡ true
 takes_has channel.Text kind e = refl
@@ -41,32 +45,36 @@ takes_parent : (kind : ThreadKind) (o : Option Channel) → takes_there kind o �
 takes_parent kind None e = absurd (cc)
 takes_parent kind (Some c) e = takes_has c.kind kind e
 
-may_come : (g : Record) (thread parent : ℕ) (kind : ThreadKind) (name : List ℕ) (owner : ℕ) → thread_create_verdict g thread parent kind name owner ≡ None → MayCome g thread parent owner
-may_come g thread parent kind name owner e =
-    let limits = too_many_active g ∷ too_many 4096 (length g.threads) ∷ too_long 100 name ∷ [] in
-    let first = first_passes (refused_if (is_place g thread) IdTaken) (unknown_channel g parent ∷ wrong_kind g parent kind ∷ unknown_member g owner ∷ limits) e in
-    let second = first_passes (unknown_channel g parent) (wrong_kind g parent kind ∷ unknown_member g owner ∷ limits) first.1 in
-    let third = first_passes (wrong_kind g parent kind) (unknown_member g owner ∷ limits) second.1 in
-    let fourth = first_passes (unknown_member g owner) limits third.1 in
-    let there = find_id channel_id parent g.channels in
+may_come : (g : Record) (edit : ThreadCreate) → thread_create_verdict g edit ≡ None → MayCome g edit
+may_come g edit e =
+    let limits = too_many_active g ∷ too_many 4096 (length g.threads) ∷ too_long 100 edit.name ∷ [] in
+    let channel = unknown_channel g edit.parent in
+    let kind = wrong_kind g edit.parent edit.kind in
+    let owner = unknown_member g edit.owner in
+    let first = first_passes (refused_if (is_place g edit.thread) IdTaken) (channel ∷ kind ∷ owner ∷ limits) e in
+    let second = first_passes channel (kind ∷ owner ∷ limits) first.1 in
+    let third = first_passes kind (owner ∷ limits) second.1 in
+    let fourth = first_passes owner limits third.1 in
+    let there = find_id channel_id edit.parent g.channels in
     record {
-      free = not_refused (is_place g thread) IdTaken first.0;
-      fits = takes_parent kind there (passed (takes_there kind there) WrongType third.0);
-      member = passed (has_id member_id owner g.members) UnknownMember fourth.0;
+      free = not_refused (is_place g edit.thread) IdTaken first.0;
+      fits = takes_parent edit.kind there (passed (takes_there edit.kind there) WrongType third.0);
+      member = passed (has_id member_id edit.owner g.members) UnknownMember fourth.0;
     }
 
-may_join : (g : Record) (thread user : ℕ) → thread_join_verdict g thread user ≡ None → has_id member_id user g.members ≡ true
-may_join g thread user e =
-    let rest = not_active g thread ∷ refused_if (is_in_thread g thread user) InThread ∷ [] in
-    let first = first_passes (unknown_thread g thread) (unknown_member g user ∷ rest) e in
-    let second = first_passes (unknown_member g user) rest first.1 in
-    passed (has_id member_id user g.members) UnknownMember second.0
+may_join : (g : Record) (edit : ThreadJoin) → thread_join_verdict g edit ≡ None → has_id member_id edit.user g.members ≡ true
+may_join g edit e =
+    let rest = not_active g edit.thread ∷ refused_if (is_in_thread g edit.thread edit.user) InThread ∷ [] in
+    let first = first_passes (unknown_thread g edit.thread) (unknown_member g edit.user ∷ rest) e in
+    let second = first_passes (unknown_member g edit.user) rest first.1 in
+    passed (has_id member_id edit.user g.members) UnknownMember second.0
 
--- a thread is given those that are in it and one more
-pub joined_as : (g : Record) (thread : ℕ) (m : ThreadMember) (ms : List ThreadMember) → ms ≡ members_with g thread m → thread_changed g thread (with_members ms) ≡ thread_joined g thread m.user m.joined
-joined_as g thread m ms e =
-    let same : changed_id thread_id thread (with_members ms) g.threads ≡ changed_id thread_id thread (with_joined m.user m.joined) g.threads =
-    changed_alike thread_id thread _ _ g.threads (λ t found. rw (e, found) refl) in
+-- a thread is given its members and one more
+pub joined_as : (g : Record) (edit : ThreadJoin) (ms : List ThreadMember) → ms ≡ members_with g edit.thread (new_thread_member edit.user edit.at)
+    → thread_changed g edit.thread (with_members ms) ≡ thread_joined g edit
+joined_as g edit ms e =
+    let same : changed_id thread_id edit.thread (with_members ms) g.threads ≡ changed_id thread_id edit.thread (with_joined edit.user edit.at) g.threads =
+    changed_alike thread_id edit.thread _ _ g.threads (λ t found. rw (e, found) refl) in
     ap (λ ts. record g { threads = ts }) same
 
 module _ (g : Record) (is_open : g.opened ≡ true) (h : IsConsistent g) where
@@ -113,21 +121,21 @@ module _ (g : Record) (is_open : g.opened ≡ true) (h : IsConsistent g) where
   fits_put true t n o new old e = let same : n ≡ t = cc in subst Fits same new
   fits_put false t n o new old e = old e
 
-  fits_new : (thread parent : ℕ) (kind : ThreadKind) (name : List ℕ) (owner at : ℕ) → MayCome g thread parent owner → Fits (new_thread thread parent kind name owner at)
-  fits_new thread parent kind name owner at may = record { parent = may.fits; joined = λ user there. by_test user (owner == user) refl there }
+  fits_new : (edit : ThreadCreate) → MayCome g edit → Fits (new_thread edit)
+  fits_new edit may = record { parent = may.fits; joined = λ user there. by_test user (edit.owner == user) refl there }
     where
-      by_test : (user : ℕ) (b : Bool) → (owner == user) ≡ b → is_some (if b then Some (new_thread_member owner at) else None) ≡ true → has_id member_id user g.members ≡ true
-      by_test user true e there = let same : owner ≡ user = grind (arith, nat_tests) in subst (λ (u : ℕ). has_id member_id u g.members ≡ true) same may.member
+      by_test : (user : ℕ) (b : Bool) → (edit.owner == user) ≡ b → is_some (if b then Some (new_thread_member edit.owner edit.at) else None) ≡ true → has_id member_id user g.members ≡ true
+      by_test user true e there = let same : edit.owner ≡ user = grind (arith, nat_tests) in subst (λ (u : ℕ). has_id member_id u g.members ≡ true) same may.member
       by_test user false e there = absurd (cc)
 
-  pub thread_came : (thread parent : ℕ) (kind : ThreadKind) (name : List ℕ) (owner at : ℕ) → thread_create_verdict g thread parent kind name owner ≡ None → IsConsistent (thread_created g thread parent kind name owner at)
-  thread_came thread parent kind name owner at accepted =
-      let n : Thread = new_thread thread parent kind name owner at in
-      let may = may_come g thread parent kind name owner accepted in
-      let free = or_parts (has_id channel_id thread g.channels) (has_id thread_id thread g.threads) may.free in
+  pub thread_came : (edit : ThreadCreate) → thread_create_verdict g edit ≡ None → IsConsistent (thread_created g edit)
+  thread_came edit accepted =
+      let n : Thread = new_thread edit in
+      let may = may_come g edit accepted in
+      let free = or_parts (has_id channel_id edit.thread g.channels) (has_id thread_id edit.thread g.threads) may.free in
       threads_changed (put_id thread_id n g.threads) g.messages
-      (λ id t found. fits_put (thread == id) t n (find_id thread_id id g.threads) (fits_new thread parent kind name owner at may) (fits id t) (sym (find-put thread_id n id g.threads) ∙ found))
-      (λ id there. has-put thread_id n id g.threads ∙ apart_from thread id free.0 there)
+      (λ id t found. fits_put (edit.thread == id) t n (find_id thread_id id g.threads) (fits_new edit may) (fits id t) (sym (find-put thread_id n id g.threads) ∙ found))
+      (λ id there. has-put thread_id n id g.threads ∙ apart_from edit.thread id free.0 there)
       (still_placed (put_id thread_id n g.threads) (λ id there. has-kept thread_id n id g.threads there))
     where
       apart_from : (thread id : ℕ) → has_id channel_id thread g.channels ≡ false → has_id channel_id id g.channels ≡ true → ((thread == id) || has_id thread_id id g.threads) ≡ false
@@ -150,8 +158,8 @@ module _ (g : Record) (is_open : g.opened ≡ true) (h : IsConsistent g) where
       (λ id there. has-changed thread_id at f same id g.threads ∙ h.apart id there)
       (still_placed (changed_id thread_id at f g.threads) (λ id there. has-changed thread_id at f same id g.threads ∙ there))
 
-  pub renamed : (thread : ℕ) (name : List ℕ) → IsConsistent (thread_changed g thread (with_thread_name name))
-  renamed thread name = changed thread (with_thread_name name) (λ t. refl) (λ t old. record { parent = old.parent; joined = old.joined })
+  pub renamed : (edit : ThreadRename) → IsConsistent (thread_renamed g edit)
+  renamed edit = changed edit.thread (with_thread_name edit.name) (λ t. refl) (λ t old. record { parent = old.parent; joined = old.joined })
 
   pub archived : (thread : ℕ) (is : Bool) → IsConsistent (thread_changed g thread (with_archived is))
   archived thread is = changed thread (with_archived is) (λ t. refl) (λ t old. record { parent = old.parent; joined = old.joined })
@@ -167,8 +175,8 @@ module _ (g : Record) (is_open : g.opened ≡ true) (h : IsConsistent g) where
       by_test other true e either = let same : user ≡ other = grind (arith, nat_tests) in subst (λ (u : ℕ). has_id member_id u g.members ≡ true) same is
       by_test other false e either = old.joined other either
 
-  pub user_joined : (thread user at : ℕ) → thread_join_verdict g thread user ≡ None → IsConsistent (thread_joined g thread user at)
-  user_joined thread user at accepted = changed thread (with_joined user at) (λ t. refl) (joined_more user at (may_join g thread user accepted))
+  pub user_joined : (edit : ThreadJoin) → thread_join_verdict g edit ≡ None → IsConsistent (thread_joined g edit)
+  user_joined edit accepted = changed edit.thread (with_joined edit.user edit.at) (λ t. refl) (joined_more edit.user edit.at (may_join g edit accepted))
 
   joined_less : (user : ℕ) (t : Thread) → Fits t → Fits (with_left user t)
   joined_less user t old = record {
@@ -176,8 +184,8 @@ module _ (g : Record) (is_open : g.opened ≡ true) (h : IsConsistent g) where
     joined = λ other there. old.joined other (has-left thread_member_id user other t.members there).1;
   }
 
-  pub user_left : (thread user : ℕ) → IsConsistent (thread_changed g thread (with_left user))
-  user_left thread user = changed thread (with_left user) (λ t. refl) (joined_less user)
+  pub user_left : (edit : ThreadLeave) → IsConsistent (thread_left g edit)
+  user_left edit = changed edit.thread (with_left edit.user) (λ t. refl) (joined_less edit.user)
 
   -- a thread goes
   module _ (thread : ℕ) where

@@ -10,20 +10,20 @@ use Rattle.thread_edit.specs.ThreadMembers.{thread_join_verdict, thread_joined, 
 
 -- why an edit of an open guild is refused, if it is
 abbrev pub thread_verdict : Record → ThreadEdit → Option Verdict
-thread_verdict g (ThreadCreate thread parent kind name owner at) = thread_create_verdict g thread parent kind name owner
-thread_verdict g (ThreadRename thread name) = thread_rename_verdict g thread name
+thread_verdict g (ThreadCreate edit) = thread_create_verdict g edit
+thread_verdict g (ThreadRename edit) = thread_rename_verdict g edit
 thread_verdict g (ThreadArchive thread) = thread_archive_verdict g thread
 thread_verdict g (ThreadUnarchive thread) = thread_unarchive_verdict g thread
 thread_verdict g (ThreadDelete thread) = thread_delete_verdict g thread
-thread_verdict g (ThreadJoin thread user at) = thread_join_verdict g thread user
-thread_verdict g (ThreadLeave thread user) = thread_leave_verdict g thread user
+thread_verdict g (ThreadJoin edit) = thread_join_verdict g edit
+thread_verdict g (ThreadLeave edit) = thread_leave_verdict g edit
 
 -- the record after an edit that is not refused
 abbrev pub thread_applied : Record → ThreadEdit → Record
-thread_applied g (ThreadCreate thread parent kind name owner at) = thread_created g thread parent kind name owner at
-thread_applied g (ThreadRename thread name) = thread_renamed g thread name
+thread_applied g (ThreadCreate edit) = thread_created g edit
+thread_applied g (ThreadRename edit) = thread_renamed g edit
 thread_applied g (ThreadArchive thread) = thread_archived g thread
 thread_applied g (ThreadUnarchive thread) = thread_unarchived g thread
 thread_applied g (ThreadDelete thread) = thread_deleted g thread
-thread_applied g (ThreadJoin thread user at) = thread_joined g thread user at
-thread_applied g (ThreadLeave thread user) = thread_left g thread user
+thread_applied g (ThreadJoin edit) = thread_joined g edit
+thread_applied g (ThreadLeave edit) = thread_left g edit

@@ -1,4 +1,5 @@
--- Threads that come, change and go (Channels Resource, Start Thread without Message; Threads, Active & Archived Threads).
+-- Threads that are created, changed and deleted (Channels Resource, Start Thread without Message; Threads,
+-- Active & Archived Threads).
 use Rattle.std.specs.Prelude.{ℕ, ◌==◌, length, List, [], ◌∷◌, filter, Bool, true, false, not, ◌||◌, Option, Some, None}
 use Rattle.std.specs.List.{count_by}
 use Rattle.std.specs.Option.{option_map_or}
@@ -17,6 +18,8 @@ use Rattle.guild_model.specs.Record.{Record, channel_id, thread_id}
 use Rattle.guild_model.specs.Consistent.{is_place}
 use Rattle.guild_model.specs.Sight.{is_private}
 use Rattle.guild_model.specs.Tests.{refused_if, first_of, too_long, too_many, unknown_member, unknown_channel}
+use Rattle.thread_edit.specs.declared.thread_create.ThreadCreate.{ThreadCreate}
+use Rattle.thread_edit.specs.declared.thread_rename.ThreadRename.{ThreadRename}
 
 abbrev pub is_public : ThreadKind → Bool
 is_public thread.Public = true
@@ -28,7 +31,7 @@ is_announcement thread.Announcement = true
 is_announcement thread.Public = false
 is_announcement thread.Private = false
 
--- the types of threads that a channel of each type has (Threads, Thread Types)
+-- the types of threads that a channel of each type may have (Threads, Thread Types)
 abbrev pub takes_thread : ChannelKind → ThreadKind → Bool
 takes_thread channel.Text kind = is_public kind || is_private kind
 takes_thread channel.Announcement kind = is_announcement kind
@@ -47,7 +50,7 @@ is_active t = not t.archived
 abbrev pub active_threads : Record → ℕ
 active_threads g = count_by is_active g.threads
 
--- whether the thread is there and archived
+-- whether the thread exists and is archived
 abbrev pub is_archived : Record → ℕ → Bool
 is_archived g thread = option_map_or (λ (t : Thread). t.archived) (find_id thread_id thread g.threads) false
 
@@ -65,48 +68,48 @@ abbrev pub too_many_active : Record → Option Verdict
 too_many_active g = too_many 1000 (active_threads g)
 
 -- thread_create: an active thread with its owner in it
-abbrev pub thread_create_verdict : Record → ℕ → ℕ → ThreadKind → List ℕ → ℕ → Option Verdict
-thread_create_verdict g thread parent kind name owner = first_of (
-    refused_if (is_place g thread) IdTaken
-    ∷ unknown_channel g parent
-    ∷ wrong_kind g parent kind
-    ∷ unknown_member g owner
+abbrev pub thread_create_verdict : Record → ThreadCreate → Option Verdict
+thread_create_verdict g edit = first_of (
+    refused_if (is_place g edit.thread) IdTaken
+    ∷ unknown_channel g edit.parent
+    ∷ wrong_kind g edit.parent edit.kind
+    ∷ unknown_member g edit.owner
     ∷ too_many_active g
     ∷ too_many 4096 (length g.threads)
-    ∷ too_long 100 name
+    ∷ too_long 100 edit.name
     ∷ [])
 
 abbrev pub new_thread_member : ℕ → ℕ → ThreadMember
 new_thread_member user at = record { user = user; joined = at }
 
-abbrev pub new_thread : ℕ → ℕ → ThreadKind → List ℕ → ℕ → ℕ → Thread
-new_thread thread parent kind name owner at = record {
-  id = thread;
-  kind = kind;
-  name = name;
-  parent = parent;
-  owner = owner;
+abbrev pub new_thread : ThreadCreate → Thread
+new_thread edit = record {
+  id = edit.thread;
+  kind = edit.kind;
+  name = edit.name;
+  parent = edit.parent;
+  owner = edit.owner;
   archived = false;
-  members = new_thread_member owner at ∷ [];
+  members = new_thread_member edit.owner edit.at ∷ [];
 }
 
-abbrev pub thread_created : Record → ℕ → ℕ → ThreadKind → List ℕ → ℕ → ℕ → Record
-thread_created g thread parent kind name owner at = record g { threads = put_id thread_id (new_thread thread parent kind name owner at) g.threads }
+abbrev pub thread_created : Record → ThreadCreate → Record
+thread_created g edit = record g { threads = put_id thread_id (new_thread edit) g.threads }
 
 abbrev pub thread_changed : Record → ℕ → (Thread → Thread) → Record
 thread_changed g thread change = record g { threads = changed_id thread_id thread change g.threads }
 
 -- thread_rename
-abbrev pub thread_rename_verdict : Record → ℕ → List ℕ → Option Verdict
-thread_rename_verdict g thread name = first_of (unknown_thread g thread ∷ not_active g thread ∷ too_long 100 name ∷ [])
+abbrev pub thread_rename_verdict : Record → ThreadRename → Option Verdict
+thread_rename_verdict g edit = first_of (unknown_thread g edit.thread ∷ not_active g edit.thread ∷ too_long 100 edit.name ∷ [])
 
 abbrev pub with_thread_name : List ℕ → Thread → Thread
 with_thread_name name t = record t { name = name }
 
-abbrev pub thread_renamed : Record → ℕ → List ℕ → Record
-thread_renamed g thread name = thread_changed g thread (with_thread_name name)
+abbrev pub thread_renamed : Record → ThreadRename → Record
+thread_renamed g edit = thread_changed g edit.thread (with_thread_name edit.name)
 
--- thread_delete: with the thread go the messages in it
+-- thread_delete: the messages in the thread are deleted with it
 abbrev pub thread_delete_verdict : Record → ℕ → Option Verdict
 thread_delete_verdict g thread = unknown_thread g thread
 

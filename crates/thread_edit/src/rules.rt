@@ -1,4 +1,4 @@
-//! Tests that several edits of threads share; an edit calls its tests in order and stops at the
+//! Tests that several edits of threads share. An edit calls its tests in order and stops at the
 //! first refusal.
 
 ghost use Rattle.std.specs.Prelude.{◌≡◌};
@@ -9,7 +9,7 @@ ghost use Rattle.thread_edit.specs.ThreadMembers.{is_in_thread};
 use guild_model::{Guild, Verdict, limits, rules};
 use snowflake_id::Snowflake;
 
-/// Refuses a thread that the guild does not have. A channel is no thread.
+/// Refuses a thread that the guild does not have. A channel is not a thread.
 pub fn knows_thread(guild: &Guild, thread: Snowflake) -> Result<(), Verdict>
     ensures { result ≡ outcome (unknown_thread guild.now thread) }
 {
@@ -19,7 +19,7 @@ pub fn knows_thread(guild: &Guild, thread: Snowflake) -> Result<(), Verdict>
     Ok(())
 }
 
-/// Whether a thread is archived; one that is not there is not.
+/// Whether a thread exists and is archived.
 pub fn archived(guild: &Guild, thread: Snowflake) -> bool
     ensures { result ≡ is_archived guild.now thread }
 {
@@ -39,7 +39,7 @@ pub fn is_active(guild: &Guild, thread: Snowflake) -> Result<(), Verdict>
     Ok(())
 }
 
-/// Whether a user is in a thread; nobody is in one that is not there.
+/// Whether a thread exists and a user is in it.
 pub fn in_thread(guild: &Guild, thread: Snowflake, user: Snowflake) -> bool
     ensures { result ≡ is_in_thread guild.now thread user }
 {
@@ -57,7 +57,7 @@ fn count_active(guild: &Guild) -> usize
     threads.iter().filter(|thread| !thread.archived).count()
 }
 
-/// Refuses one more active thread where there are as many as there may be.
+/// Refuses one more active thread in a guild that has as many as it may have.
 pub fn has_room_for_active(guild: &Guild) -> Result<(), Verdict>
     ensures { result ≡ outcome (too_many_active guild.now) }
 {

@@ -1,4 +1,4 @@
-//! `thread_archive`: a thread is archived (Gateway Events, Thread Update; Threads, Active & Archived
+//! `thread_archive`: archives a thread (Gateway Events, Thread Update; Threads, Active & Archived
 //! Threads).
 
 ghost use Rattle.std.specs.Prelude.{◌≡◌, true, refl};
@@ -18,7 +18,7 @@ pub fn check(guild: &Guild, thread: Snowflake) -> Result<(), Verdict>
     is_active(guild, thread)
 }
 
-/// A thread is archived, or active again.
+/// Archives a thread, or makes it active again.
 #[derive(Clone, Copy)]
 pub struct SetArchived(pub bool);
 

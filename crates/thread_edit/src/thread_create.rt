@@ -1,4 +1,4 @@
-//! `thread_create`: an active thread comes, with its owner in it (Gateway Events, Thread Create).
+//! `thread_create`: creates an active thread with its owner in it (Gateway Events, Thread Create).
 
 ghost use Rattle.std.specs.Prelude.{◌≡◌, ◌∷◌, [], None, true, OnOk, OnErr, IfOk};
 ghost use Rattle.guild_model.specs.Tests.{outcome};
@@ -14,7 +14,35 @@ use guild_model::{
 use snowflake_id::Snowflake;
 use std::alloc::{AllocError, Global};
 
-/// Whether a channel of a type has threads of another (Threads, Thread Types).
+/// The new thread, and the moment at which its owner joins it.
+#[derive(Drop)]
+pub struct ThreadCreate {
+    pub thread: Snowflake,
+    /// The channel that the thread is created in.
+    pub parent: Snowflake,
+    pub kind: ThreadKind,
+    pub name: Text,
+    pub owner: Snowflake,
+    pub at: Moment,
+}
+
+impl ThreadCreate {
+    /// An edit that is equal to this.
+    pub fn copy(&self, alloc: Global) -> Result<ThreadCreate, AllocError>
+        ensures { IfOk result (λ copy. copy ≡ self.now) }
+    {
+        Ok(ThreadCreate {
+            thread: self.thread,
+            parent: self.parent,
+            kind: self.kind,
+            name: self.name.copy(alloc)?,
+            owner: self.owner,
+            at: self.at,
+        })
+    }
+}
+
+/// Whether a channel of this type may have threads of that type (Threads, Thread Types).
 pub fn takes(parent: ChannelKind, kind: ThreadKind) -> bool
     ensures { result ≡ takes_thread parent kind }
 {
@@ -45,30 +73,23 @@ fn fits_parent(guild: &Guild, parent: Snowflake, kind: ThreadKind) -> Result<(),
 }
 
 /// Refused in this order: `IdTaken` where a channel or a thread has the id, `UnknownChannel` for the
-/// parent, `WrongType` where that has no threads of this type, `UnknownMember` for the owner,
+/// parent, `WrongType` where that may not have threads of this type, `UnknownMember` for the owner,
 /// `TooMany` active threads, `TooMany` threads, `TooLong` for the name.
-pub fn check(
-    guild: &Guild,
-    thread: Snowflake,
-    parent: Snowflake,
-    kind: ThreadKind,
-    name: &Text,
-    owner: Snowflake,
-) -> Result<(), Verdict>
-    ensures { result ≡ outcome (thread_create_verdict guild.now thread parent kind name.now owner) }
+pub fn check(guild: &Guild, edit: &ThreadCreate) -> Result<(), Verdict>
+    ensures { result ≡ outcome (thread_create_verdict guild.now edit.now) }
 {
-    if guild.has_place(thread) {
+    if guild.has_place(edit.thread) {
         return Err(Verdict::IdTaken);
     }
-    rules::knows_channel(guild, parent)?;
-    fits_parent(guild, parent, kind)?;
-    rules::knows_member(guild, owner)?;
+    rules::knows_channel(guild, edit.parent)?;
+    fits_parent(guild, edit.parent, edit.kind)?;
+    rules::knows_member(guild, edit.owner)?;
     has_room_for_active(guild)?;
     rules::has_room(guild.threads.len(), limits::THREADS)?;
-    rules::within(name, limits::NAME_BYTES)
+    rules::within(&edit.name, limits::NAME_BYTES)
 }
 
-// Those in a new thread: its owner.
+// The members of a new thread: its owner.
 fn first_members(
     alloc: Global,
     owner: Snowflake,
@@ -84,29 +105,20 @@ fn first_members(
     Ok(members)
 }
 
-/// Adds the thread. Want of memory leaves the record as before.
-pub fn apply(
-    alloc: Global,
-    guild: &mut Guild,
-    thread: Snowflake,
-    parent: Snowflake,
-    kind: ThreadKind,
-    name: Text,
-    owner: Snowflake,
-    at: Moment,
-) -> Result<(), AllocError>
+/// Adds the thread. If it runs out of memory, the record stays as it was.
+pub fn apply(alloc: Global, guild: &mut Guild, edit: ThreadCreate) -> Result<(), AllocError>
     requires open { guild.old.opened ≡ true }
-    requires accepted { thread_create_verdict guild.old thread parent kind name owner ≡ None }
-    ensures ok { OnOk result (guild.new ≡ thread_created guild.old thread parent kind name owner at) }
+    requires accepted { thread_create_verdict guild.old edit ≡ None }
+    ensures ok { OnOk result (guild.new ≡ thread_created guild.old edit) }
     ensures err { OnErr result (guild.new ≡ guild.old) }
 {
-    let members = first_members(alloc, owner, at)?;
+    let members = first_members(alloc, edit.owner, edit.at)?;
     guild.threads.insert(Thread {
-        id: thread,
-        kind,
-        name,
-        parent,
-        owner,
+        id: edit.thread,
+        kind: edit.kind,
+        name: edit.name,
+        parent: edit.parent,
+        owner: edit.owner,
         archived: false,
         members,
     })?;

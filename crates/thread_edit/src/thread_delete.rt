@@ -1,4 +1,4 @@
-//! `thread_delete`: a thread goes, with the messages in it (Gateway Events, Thread Delete).
+//! `thread_delete`: deletes a thread and the messages in it (Gateway Events, Thread Delete).
 
 ghost use Rattle.std.specs.Prelude.{◌≡◌, true};
 ghost use Rattle.guild_model.specs.Tests.{outcome};
@@ -15,7 +15,7 @@ pub fn check(guild: &Guild, thread: Snowflake) -> Result<(), Verdict>
     knows_thread(guild, thread)
 }
 
-/// Takes the thread and its messages away.
+/// Removes the thread and its messages.
 pub fn apply(guild: &mut Guild, thread: Snowflake)
     requires { guild.old.opened ≡ true }
     ensures { guild.new ≡ thread_deleted guild.old thread }

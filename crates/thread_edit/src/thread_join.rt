@@ -1,4 +1,4 @@
-//! `thread_join`: a user joins a thread (Gateway Events, Thread Members Update).
+//! `thread_join`: adds a user to a thread (Gateway Events, Thread Members Update).
 
 ghost use Rattle.std.specs.Prelude.{◌≡◌, None, true, refl, OnOk, OnErr, IfOk};
 ghost use Rattle.guild_model.specs.Tests.{outcome};
@@ -10,14 +10,22 @@ use guild_model::{Guild, Moment, Thread, ThreadMember, Verdict, rules};
 use snowflake_id::Snowflake;
 use std::alloc::{AllocError, Global};
 
+/// The user who joins a thread, and when.
+#[derive(Clone, Copy, Drop, PartialEq, Eq, Debug)]
+pub struct ThreadJoin {
+    pub thread: Snowflake,
+    pub user: Snowflake,
+    pub at: Moment,
+}
+
 /// Refused in this order: `UnknownThread`, `UnknownMember`, `Archived`, `InThread`.
-pub fn check(guild: &Guild, thread: Snowflake, user: Snowflake) -> Result<(), Verdict>
-    ensures { result ≡ outcome (thread_join_verdict guild.now thread user) }
+pub fn check(guild: &Guild, edit: &ThreadJoin) -> Result<(), Verdict>
+    ensures { result ≡ outcome (thread_join_verdict guild.now edit.now) }
 {
-    knows_thread(guild, thread)?;
-    rules::knows_member(guild, user)?;
-    is_active(guild, thread)?;
-    if in_thread(guild, thread, user) {
+    knows_thread(guild, edit.thread)?;
+    rules::knows_member(guild, edit.user)?;
+    is_active(guild, edit.thread)?;
+    if in_thread(guild, edit.thread, edit.user) {
         return Err(Verdict::InThread);
     }
     Ok(())
@@ -38,7 +46,7 @@ impl Change<Thread> for SetMembers {
     ghost keeps_key = { λ change t. refl };
 }
 
-// Those in a thread, with one more.
+// The members of a thread and one more.
 fn grown_members(
     alloc: Global,
     guild: &Guild,
@@ -55,21 +63,18 @@ fn grown_members(
     Ok(members)
 }
 
-/// Puts the user into the thread. Want of memory leaves the record as before.
-pub fn apply(
-    alloc: Global,
-    guild: &mut Guild,
-    thread: Snowflake,
-    user: Snowflake,
-    at: Moment,
-) -> Result<(), AllocError>
+/// Adds the user to the thread. If it runs out of memory, the record stays as it was.
+pub fn apply(alloc: Global, guild: &mut Guild, edit: ThreadJoin) -> Result<(), AllocError>
     requires open { guild.old.opened ≡ true }
-    requires accepted { thread_join_verdict guild.old thread user ≡ None }
-    ensures ok { OnOk result (guild.new ≡ thread_joined guild.old thread user at) }
+    requires accepted { thread_join_verdict guild.old edit ≡ None }
+    ensures ok { OnOk result (guild.new ≡ thread_joined guild.old edit) }
     ensures err { OnErr result (guild.new ≡ guild.old) }
 {
-    let member = ThreadMember { user, joined: at };
-    let members = grown_members(alloc, guild, thread, member)?;
-    guild.threads.change(thread.0, SetMembers { members });
+    let member = ThreadMember {
+        user: edit.user,
+        joined: edit.at,
+    };
+    let members = grown_members(alloc, guild, edit.thread, member)?;
+    guild.threads.change(edit.thread.0, SetMembers { members });
     Ok(())
 }

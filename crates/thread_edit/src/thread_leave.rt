@@ -1,4 +1,4 @@
-//! `thread_leave`: a user leaves a thread (Gateway Events, Thread Members Update).
+//! `thread_leave`: removes a user from a thread (Gateway Events, Thread Members Update).
 
 ghost use Rattle.std.specs.Prelude.{◌≡◌, true, refl};
 ghost use Rattle.guild_model.specs.Tests.{outcome};
@@ -9,19 +9,26 @@ use collections::Change;
 use guild_model::{Guild, Thread, Verdict};
 use snowflake_id::Snowflake;
 
+/// The user who leaves a thread.
+#[derive(Clone, Copy, Drop, PartialEq, Eq, Debug)]
+pub struct ThreadLeave {
+    pub thread: Snowflake,
+    pub user: Snowflake,
+}
+
 /// Refused in this order: `UnknownThread`, `Archived`, `NotInThread`.
-pub fn check(guild: &Guild, thread: Snowflake, user: Snowflake) -> Result<(), Verdict>
-    ensures { result ≡ outcome (thread_leave_verdict guild.now thread user) }
+pub fn check(guild: &Guild, edit: &ThreadLeave) -> Result<(), Verdict>
+    ensures { result ≡ outcome (thread_leave_verdict guild.now edit.now) }
 {
-    knows_thread(guild, thread)?;
-    is_active(guild, thread)?;
-    if !in_thread(guild, thread, user) {
+    knows_thread(guild, edit.thread)?;
+    is_active(guild, edit.thread)?;
+    if !in_thread(guild, edit.thread, edit.user) {
         return Err(Verdict::NotInThread);
     }
     Ok(())
 }
 
-/// A user is no longer in a thread.
+/// Removes a user from a thread.
 #[derive(Clone, Copy)]
 struct Left(Snowflake);
 
@@ -35,10 +42,10 @@ impl Change<Thread> for Left {
     ghost keeps_key = { λ change t. refl };
 }
 
-/// Takes the user out of the thread.
-pub fn apply(guild: &mut Guild, thread: Snowflake, user: Snowflake)
+/// Removes the user from the thread.
+pub fn apply(guild: &mut Guild, edit: ThreadLeave)
     requires { guild.old.opened ≡ true }
-    ensures { guild.new ≡ thread_left guild.old thread user }
+    ensures { guild.new ≡ thread_left guild.old edit }
 {
-    guild.threads.change(thread.0, Left(user));
+    guild.threads.change(edit.thread.0, Left(edit.user));
 }

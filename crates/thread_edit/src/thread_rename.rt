@@ -1,6 +1,6 @@
-//! `thread_rename`: a thread has another name (Gateway Events, Thread Update).
+//! `thread_rename`: renames a thread (Gateway Events, Thread Update).
 
-ghost use Rattle.std.specs.Prelude.{◌≡◌, true, refl};
+ghost use Rattle.std.specs.Prelude.{◌≡◌, true, refl, IfOk};
 ghost use Rattle.guild_model.specs.Tests.{outcome};
 ghost use Rattle.thread_edit.specs.Threads.{thread_rename_verdict, thread_renamed, with_thread_name};
 
@@ -8,14 +8,34 @@ use crate::rules::{is_active, knows_thread};
 use collections::{Change, Text};
 use guild_model::{Guild, Thread, Verdict, limits, rules};
 use snowflake_id::Snowflake;
+use std::alloc::{AllocError, Global};
+
+/// The new name of a thread.
+#[derive(Drop)]
+pub struct ThreadRename {
+    pub thread: Snowflake,
+    pub name: Text,
+}
+
+impl ThreadRename {
+    /// An edit that is equal to this.
+    pub fn copy(&self, alloc: Global) -> Result<ThreadRename, AllocError>
+        ensures { IfOk result (λ copy. copy ≡ self.now) }
+    {
+        Ok(ThreadRename {
+            thread: self.thread,
+            name: self.name.copy(alloc)?,
+        })
+    }
+}
 
 /// Refused in this order: `UnknownThread`, `Archived`, `TooLong` for the name.
-pub fn check(guild: &Guild, thread: Snowflake, name: &Text) -> Result<(), Verdict>
-    ensures { result ≡ outcome (thread_rename_verdict guild.now thread name.now) }
+pub fn check(guild: &Guild, edit: &ThreadRename) -> Result<(), Verdict>
+    ensures { result ≡ outcome (thread_rename_verdict guild.now edit.now) }
 {
-    knows_thread(guild, thread)?;
-    is_active(guild, thread)?;
-    rules::within(name, limits::NAME_BYTES)
+    knows_thread(guild, edit.thread)?;
+    is_active(guild, edit.thread)?;
+    rules::within(&edit.name, limits::NAME_BYTES)
 }
 
 #[derive(Drop)]
@@ -34,9 +54,11 @@ impl Change<Thread> for SetName {
 }
 
 /// Sets the name.
-pub fn apply(guild: &mut Guild, thread: Snowflake, name: Text)
+pub fn apply(guild: &mut Guild, edit: ThreadRename)
     requires { guild.old.opened ≡ true }
-    ensures { guild.new ≡ thread_renamed guild.old thread name }
+    ensures { guild.new ≡ thread_renamed guild.old edit }
 {
-    guild.threads.change(thread.0, SetName { name });
+    guild
+        .threads
+        .change(edit.thread.0, SetName { name: edit.name });
 }

@@ -1,5 +1,5 @@
-//! `thread_unarchive`: a thread is active again (Gateway Events, Thread Update; Threads, Active &
-//! Archived Threads).
+//! `thread_unarchive`: makes an archived thread active again (Gateway Events, Thread Update; Threads,
+//! Active & Archived Threads).
 
 ghost use Rattle.std.specs.Prelude.{◌≡◌, true};
 ghost use Rattle.guild_model.specs.Tests.{outcome};

@@ -1,5 +1,5 @@
 -- The lists of a record still ascend after each edit of voice states and presences.
-use Rattle.std.proofs.Common.{ℕ, Bool, List, Option, Some, None}
+use Rattle.std.proofs.Common.{ℕ, List, Option, Some, None}
 use Rattle.collections.specs.ById.{IsById}
 use Rattle.collections.proofs.Ids.{IsById-put}
 use Rattle.collections.proofs.Finds.{IsById-without}
@@ -8,7 +8,8 @@ use Rattle.guild_model.specs.declared.presence.Presence.{Presence}
 use Rattle.guild_model.specs.declared.voice.Voice.{Voice}
 use Rattle.guild_model.specs.Record.{Record, voice_id, presence_id}
 use Rattle.guild_model.specs.Ascending.{IsAscending}
-use Rattle.voice_presence.specs.Voices.{new_voice, voice_was_set}
+use Rattle.voice_presence.specs.declared.voice_set.VoiceSet.{VoiceSet}
+use Rattle.voice_presence.specs.Voices.{new_voice, with_voice}
 use Rattle.voice_presence.specs.Presences.{new_presence, with_activity}
 
 module _ (g : Record) (a : IsAscending g) where
@@ -40,9 +41,9 @@ module _ (g : Record) (a : IsAscending g) where
     messages = a.messages;
   }
 
-  pub voice_set : (user : ℕ) (channel : Option ℕ) (mute deaf : Bool) → IsAscending (voice_was_set g user channel mute deaf)
-  voice_set user None mute deaf = with_voices _ (IsById-without voice_id user g.voices a.voices)
-  voice_set user (Some channel) mute deaf = with_voices _ (IsById-put voice_id (new_voice user channel mute deaf) g.voices a.voices)
+  pub voice_set : (edit : VoiceSet) (channel : Option ℕ) → IsAscending (with_voice g edit channel)
+  voice_set edit None = with_voices _ (IsById-without voice_id edit.user g.voices a.voices)
+  voice_set edit (Some channel) = with_voices _ (IsById-put voice_id (new_voice edit channel) g.voices a.voices)
 
   pub presence_set : (user : ℕ) (activity : Option Activity) → IsAscending (with_activity g user activity)
   presence_set user None = with_presences _ (IsById-without presence_id user g.presences a.presences)

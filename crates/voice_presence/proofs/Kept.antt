@@ -14,8 +14,9 @@ use Rattle.guild_model.specs.Consistent.{IsConsistent}
 use Rattle.guild_model.specs.Tests.{refused_if, unknown_member, unknown_channel}
 use Rattle.guild_model.proofs.Tests.{first_passes, passed}
 use Rattle.guild_model.proofs.Kept.{voices_changed, presences_changed}
-use Rattle.voice_presence.specs.Voices.{has_voice_there, no_voice_channel, voice_set_verdict, new_voice, voice_joined, voice_left}
-use Rattle.voice_presence.specs.Presences.{presence_set_verdict, new_presence, with_activity}
+use Rattle.voice_presence.specs.declared.voice_set.VoiceSet.{VoiceSet}
+use Rattle.voice_presence.specs.Voices.{has_voice_there, no_voice_channel, no_channel_for_voice, voice_set_verdict, new_voice, voice_joined, voice_left}
+use Rattle.voice_presence.specs.Presences.{new_presence, with_activity}
 
 -- what the tests let through
 member_there : (g : Record) (user : ℕ) → unknown_member g user ≡ None → has_id member_id user g.members ≡ true
@@ -26,10 +27,13 @@ channel_there g channel e =
     let known = (first_passes (unknown_channel g channel) (refused_if (not (has_voice_there (find_id channel_id channel g.channels))) WrongType ∷ []) e).0 in
     passed (has_id channel_id channel g.channels) UnknownChannel known
 
-both_there : (g : Record) (user channel : ℕ) → voice_set_verdict g user (Some channel) ≡ None → (has_id member_id user g.members ≡ true) × (has_id channel_id channel g.channels ≡ true)
-both_there g user channel e =
-    let first = first_passes (unknown_member g user) (no_voice_channel g channel ∷ []) e in
-    (member_there g user first.0, channel_there g channel (first_passes (no_voice_channel g channel) [] first.1).0)
+both_there : (g : Record) (edit : VoiceSet) (channel : ℕ) → edit.channel ≡ Some channel → voice_set_verdict g edit ≡ None
+    → (has_id member_id edit.user g.members ≡ true) × (has_id channel_id channel g.channels ≡ true)
+both_there g edit channel is e =
+    let takes = no_channel_for_voice g edit.user edit.channel in
+    let first = first_passes (unknown_member g edit.user) (takes ∷ []) e in
+    let second = first_passes takes [] first.1 in
+    (member_there g edit.user first.0, channel_there g channel (subst (λ (o : Option ℕ). no_channel_for_voice g edit.user o ≡ None) is second.0))
 
 module _ (g : Record) (is_open : g.opened ≡ true) (h : IsConsistent g) where
   -- a voice state of a member, in a channel
@@ -40,19 +44,22 @@ module _ (g : Record) (is_open : g.opened ≡ true) (h : IsConsistent g) where
   found_put true user v n o new old e = let same : n ≡ v = cc in subst (Stands user) same (new refl)
   found_put false user v n o new old e = old e
 
-  pub voice_came : (user channel : ℕ) (mute deaf : Bool) → voice_set_verdict g user (Some channel) ≡ None → IsConsistent (voice_joined g user channel mute deaf)
-  voice_came user channel mute deaf accepted =
-      let n : Voice = new_voice user channel mute deaf in
-      let there = both_there g user channel accepted in
+  pub voice_came : (edit : VoiceSet) (channel : ℕ) → edit.channel ≡ Some channel → voice_set_verdict g edit ≡ None → IsConsistent (voice_joined g (new_voice edit channel))
+  voice_came edit channel is accepted =
+      let n : Voice = new_voice edit channel in
+      let there = both_there g edit channel is accepted in
       voices_changed g is_open h _
-      (λ id v found. found_put (user == id) id v n (find_id voice_id id g.voices) (λ is. let same : user ≡ id = grind (arith, nat_tests) in (subst (λ (u : ℕ). has_id member_id u g.members ≡ true) same there.0, there.1)) (h.voices id v) (sym (find-put voice_id n id g.voices) ∙ found))
+      (λ id v found. found_put (edit.user == id) id v n (find_id voice_id id g.voices) (stands id there) (h.voices id v) (sym (find-put voice_id n id g.voices) ∙ found))
+    where
+      stands : (id : ℕ) → Stands edit.user (new_voice edit channel) → (edit.user == id) ≡ true → Stands id (new_voice edit channel)
+      stands id there same = let user : edit.user ≡ id = grind (arith, nat_tests) in subst (λ (u : ℕ). Stands u (new_voice edit channel)) user there
 
   pub voice_gone : (user : ℕ) → IsConsistent (voice_left g user)
   voice_gone user =
       voices_changed g is_open h _
       (λ id v found. h.voices id v (found-without voice_id user id g.voices v found).1)
 
-  pub presence_came : (user : ℕ) (activity : Activity) → presence_set_verdict g user ≡ None → IsConsistent (with_activity g user (Some activity))
+  pub presence_came : (user : ℕ) (activity : Activity) → unknown_member g user ≡ None → IsConsistent (with_activity g user (Some activity))
   presence_came user activity accepted =
       let n : Presence = new_presence user activity in
       let there = member_there g user accepted in

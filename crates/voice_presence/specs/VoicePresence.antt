@@ -9,10 +9,10 @@ use Rattle.voice_presence.specs.Presences.{presence_set_verdict, presence_was_se
 
 -- why an edit of an open guild is refused, if it is
 abbrev pub voice_presence_verdict : Record → VoicePresenceEdit → Option Verdict
-voice_presence_verdict g (VoiceSet user channel mute deaf) = voice_set_verdict g user channel
-voice_presence_verdict g (PresenceSet user status) = presence_set_verdict g user
+voice_presence_verdict g (VoiceSet edit) = voice_set_verdict g edit
+voice_presence_verdict g (PresenceSet edit) = presence_set_verdict g edit
 
 -- the record after an edit that is not refused
 abbrev pub voice_presence_applied : Record → VoicePresenceEdit → Record
-voice_presence_applied g (VoiceSet user channel mute deaf) = voice_was_set g user channel mute deaf
-voice_presence_applied g (PresenceSet user status) = presence_was_set g user status
+voice_presence_applied g (VoiceSet edit) = voice_was_set g edit
+voice_presence_applied g (PresenceSet edit) = presence_was_set g edit

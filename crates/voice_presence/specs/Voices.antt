@@ -9,6 +9,7 @@ use Rattle.guild_model.specs.declared.verdict.Verdict.{Verdict}
 use Rattle.guild_model.specs.declared.verdict.Verdict.TheVariants.{NotInVoice, WrongType}
 use Rattle.guild_model.specs.Record.{Record, channel_id, voice_id}
 use Rattle.guild_model.specs.Tests.{refused_if, first_of, unknown_member, unknown_channel}
+use Rattle.voice_presence.specs.declared.voice_set.VoiceSet.{VoiceSet}
 
 -- members speak in channels of these types (Channels Resource, Channel Types)
 abbrev pub has_voice : ChannelKind → Bool
@@ -29,25 +30,31 @@ not_in_voice g user = refused_if (not (has_id voice_id user g.voices)) NotInVoic
 
 -- who joins finds a channel for it
 abbrev pub no_voice_channel : Record → ℕ → Option Verdict
-no_voice_channel g channel = first_of (unknown_channel g channel ∷ refused_if (not (has_voice_there (find_id channel_id channel g.channels))) WrongType ∷ [])
+no_voice_channel g channel = first_of (
+    unknown_channel g channel
+    ∷ refused_if (not (has_voice_there (find_id channel_id channel g.channels))) WrongType
+    ∷ [])
 
 abbrev pub no_channel_for_voice : Record → ℕ → Option ℕ → Option Verdict
 no_channel_for_voice g user None = not_in_voice g user
 no_channel_for_voice g user (Some channel) = no_voice_channel g channel
 
 -- voice_set: in a channel, or in none
-abbrev pub voice_set_verdict : Record → ℕ → Option ℕ → Option Verdict
-voice_set_verdict g user channel = first_of (unknown_member g user ∷ no_channel_for_voice g user channel ∷ [])
+abbrev pub voice_set_verdict : Record → VoiceSet → Option Verdict
+voice_set_verdict g edit = first_of (unknown_member g edit.user ∷ no_channel_for_voice g edit.user edit.channel ∷ [])
 
-abbrev pub new_voice : ℕ → ℕ → Bool → Bool → Voice
-new_voice user channel mute deaf = record { user = user; channel = channel; self_mute = mute; self_deaf = deaf }
+abbrev pub new_voice : VoiceSet → ℕ → Voice
+new_voice edit channel = record { user = edit.user; channel = channel; self_mute = edit.self_mute; self_deaf = edit.self_deaf }
 
-abbrev pub voice_joined : Record → ℕ → ℕ → Bool → Bool → Record
-voice_joined g user channel mute deaf = record g { voices = put_id voice_id (new_voice user channel mute deaf) g.voices }
+abbrev pub voice_joined : Record → Voice → Record
+voice_joined g voice = record g { voices = put_id voice_id voice g.voices }
 
 abbrev pub voice_left : Record → ℕ → Record
 voice_left g user = record g { voices = without_id voice_id user g.voices }
 
-abbrev pub voice_was_set : Record → ℕ → Option ℕ → Bool → Bool → Record
-voice_was_set g user None mute deaf = voice_left g user
-voice_was_set g user (Some channel) mute deaf = voice_joined g user channel mute deaf
+abbrev pub with_voice : Record → VoiceSet → Option ℕ → Record
+with_voice g edit None = voice_left g edit.user
+with_voice g edit (Some channel) = voice_joined g (new_voice edit channel)
+
+abbrev pub voice_was_set : Record → VoiceSet → Record
+voice_was_set g edit = with_voice g edit edit.channel

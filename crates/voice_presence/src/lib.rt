@@ -9,40 +9,33 @@ ghost use Rattle.voice_presence.specs.VoicePresence.{voice_presence_verdict, voi
 pub mod presence_set;
 pub mod voice_set;
 
-use guild_model::{Guild, Status, Verdict};
-use snowflake_id::Snowflake;
-use std::alloc::{AllocError, Global};
+use guild_model::{Guild, Verdict};
+pub use presence_set::PresenceSet;
+use std::alloc::AllocError;
+pub use voice_set::VoiceSet;
 
 /// An edit of a member's voice state or presence.
 #[derive(Clone, Copy, Drop, PartialEq, Eq, Debug)]
 pub enum VoicePresenceEdit {
-    /// A member is in a voice channel, or in none.
-    VoiceSet {
-        user: Snowflake,
-        channel: Option<Snowflake>,
-        self_mute: bool,
-        self_deaf: bool,
-    },
-    /// A member has another status.
-    PresenceSet {
-        user: Snowflake,
-        status: Status,
-    },
+    /// Puts a member into a voice channel, or takes it out of voice.
+    VoiceSet(VoiceSet),
+    /// Sets the status of a member.
+    PresenceSet(PresenceSet),
 }
 
-/// Why an edit of an open guild is refused: the first of its tests that fails. Takes no memory.
+/// Refuses an edit of an open guild with the verdict of its first test that fails. Does not
+/// allocate.
 pub fn check(guild: &Guild, edit: &VoicePresenceEdit) -> Result<(), Verdict>
     ensures { result ≡ outcome (voice_presence_verdict guild.now edit.now) }
 {
     match edit {
-        VoicePresenceEdit::VoiceSet { user, channel, .. } => {
-            voice_set::check(guild, *user, *channel)
-        }
-        VoicePresenceEdit::PresenceSet { user, .. } => presence_set::check(guild, *user),
+        VoicePresenceEdit::VoiceSet(edit) => voice_set::check(guild, edit),
+        VoicePresenceEdit::PresenceSet(edit) => presence_set::check(guild, edit),
     }
 }
 
-/// Makes an edit that [`check`] does not refuse. Want of memory leaves the record as before.
+/// Makes an edit that [`check`] does not refuse. If it runs out of memory, the record stays as it
+/// was.
 pub fn apply(guild: &mut Guild, edit: VoicePresenceEdit) -> Result<(), AllocError>
     requires open { guild.old.opened ≡ true }
     requires accepted { voice_presence_verdict guild.old edit ≡ None }
@@ -50,14 +43,7 @@ pub fn apply(guild: &mut Guild, edit: VoicePresenceEdit) -> Result<(), AllocErro
     ensures err { OnErr result (guild.new ≡ guild.old) }
 {
     match edit {
-        VoicePresenceEdit::VoiceSet {
-            user,
-            channel,
-            self_mute,
-            self_deaf,
-        } => voice_set::apply(guild, user, channel, self_mute, self_deaf),
-        VoicePresenceEdit::PresenceSet { user, status } => {
-            presence_set::apply(guild, user, status)
-        }
+        VoicePresenceEdit::VoiceSet(edit) => voice_set::apply(guild, edit),
+        VoicePresenceEdit::PresenceSet(edit) => presence_set::apply(guild, edit),
     }
 }

@@ -1,24 +1,31 @@
-//! `presence_set`: a member has another status. One that is invisible or offline has no presence
+//! `presence_set`: sets the status of a member. A member that is invisible or offline has no presence
 //! (Gateway Events, Presence Update).
 
 ghost use Rattle.std.specs.Prelude.{◌≡◌, Some, None, true, OnOk, OnErr};
-ghost use Rattle.guild_model.specs.Tests.{outcome};
+ghost use Rattle.guild_model.specs.Tests.{outcome, unknown_member};
 ghost use Rattle.voice_presence.specs.Presences.{presence_set_verdict, with_activity, presence_was_set};
 
 use guild_model::{Activity, Guild, Presence, Status, Verdict, rules};
 use snowflake_id::Snowflake;
 use std::alloc::AllocError;
 
+/// The new status of a member.
+#[derive(Clone, Copy, Drop, PartialEq, Eq, Debug)]
+pub struct PresenceSet {
+    pub user: Snowflake,
+    pub status: Status,
+}
+
 /// Refused with `UnknownMember`.
-pub fn check(guild: &Guild, user: Snowflake) -> Result<(), Verdict>
-    ensures { result ≡ outcome (presence_set_verdict guild.now user) }
+pub fn check(guild: &Guild, edit: &PresenceSet) -> Result<(), Verdict>
+    ensures { result ≡ outcome (presence_set_verdict guild.now edit.now) }
 {
-    rules::knows_member(guild, user)
+    rules::knows_member(guild, edit.user)
 }
 
 fn show(guild: &mut Guild, user: Snowflake, activity: Activity) -> Result<(), AllocError>
     requires open { guild.old.opened ≡ true }
-    requires accepted { presence_set_verdict guild.old user ≡ None }
+    requires member { unknown_member guild.old user ≡ None }
     ensures ok { OnOk result (guild.new ≡ with_activity guild.old user (Some activity)) }
     ensures err { OnErr result (guild.new ≡ guild.old) }
 {
@@ -36,15 +43,16 @@ fn hide(guild: &mut Guild, user: Snowflake)
     guild.presences.remove(user.0);
 }
 
-/// Sets the presence, or takes it away. Want of memory leaves the record as before.
-pub fn apply(guild: &mut Guild, user: Snowflake, status: Status) -> Result<(), AllocError>
+/// Sets the presence, or removes it. If it runs out of memory, the record stays as it was.
+pub fn apply(guild: &mut Guild, edit: PresenceSet) -> Result<(), AllocError>
     requires open { guild.old.opened ≡ true }
-    requires accepted { presence_set_verdict guild.old user ≡ None }
-    ensures ok { OnOk result (guild.new ≡ presence_was_set guild.old user status) }
+    requires accepted { presence_set_verdict guild.old edit ≡ None }
+    ensures ok { OnOk result (guild.new ≡ presence_was_set guild.old edit) }
     ensures err { OnErr result (guild.new ≡ guild.old) }
 {
-    match status.activity() {
-        Some(activity) => show(guild, user, activity),
-        None => Ok(hide(guild, user)),
+    match edit.status.activity() {
+        Some(activity) => show(guild, edit.user, activity)?,
+        None => hide(guild, edit.user),
     }
+    Ok(())
 }

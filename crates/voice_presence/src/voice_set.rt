@@ -1,15 +1,24 @@
-//! `voice_set`: a member joins a voice channel, moves to another, or leaves (Gateway Events, Voice
-//! State Update).
+//! `voice_set`: puts a member into a voice channel, moves it to another, or takes it out of voice
+//! (Gateway Events, Voice State Update).
 
 ghost use Rattle.std.specs.Prelude.{◌≡◌, Some, None, true, OnOk, OnErr};
 ghost use Rattle.guild_model.specs.Tests.{outcome};
 ghost use Rattle.guild_model.specs.Record.{channel_id};
 ghost use Rattle.collections.specs.ById.{find_id};
-ghost use Rattle.voice_presence.specs.Voices.{has_voice, has_voice_there, not_in_voice, no_voice_channel, no_channel_for_voice, voice_set_verdict, voice_joined, voice_left, voice_was_set};
+ghost use Rattle.voice_presence.specs.Voices.{has_voice, has_voice_there, not_in_voice, no_voice_channel, no_channel_for_voice, voice_set_verdict, new_voice, voice_joined, voice_left, voice_was_set};
 
 use guild_model::{ChannelKind, Guild, Verdict, Voice, rules};
 use snowflake_id::Snowflake;
 use std::alloc::AllocError;
+
+/// The new voice state of a member: in a channel, or in none.
+#[derive(Clone, Copy, Drop, PartialEq, Eq, Debug)]
+pub struct VoiceSet {
+    pub user: Snowflake,
+    pub channel: Option<Snowflake>,
+    pub self_mute: bool,
+    pub self_deaf: bool,
+}
 
 fn for_voice(kind: ChannelKind) -> bool
     ensures { result ≡ has_voice kind }
@@ -55,31 +64,26 @@ fn allows(guild: &Guild, user: Snowflake, channel: Option<Snowflake>) -> Result<
 }
 
 /// Refused in this order: `UnknownMember`; without a channel `NotInVoice`; with one
-/// `UnknownChannel`, and `WrongType` where it is no voice and no stage channel.
-pub fn check(guild: &Guild, user: Snowflake, channel: Option<Snowflake>) -> Result<(), Verdict>
-    ensures { result ≡ outcome (voice_set_verdict guild.now user channel) }
+/// `UnknownChannel`, and `WrongType` where it is neither a voice nor a stage channel.
+pub fn check(guild: &Guild, edit: &VoiceSet) -> Result<(), Verdict>
+    ensures { result ≡ outcome (voice_set_verdict guild.now edit.now) }
 {
-    rules::knows_member(guild, user)?;
-    allows(guild, user, channel)
+    rules::knows_member(guild, edit.user)?;
+    allows(guild, edit.user, edit.channel)
 }
 
-fn join(
-    guild: &mut Guild,
-    user: Snowflake,
-    channel: Snowflake,
-    self_mute: bool,
-    self_deaf: bool,
-) -> Result<(), AllocError>
+fn join(guild: &mut Guild, edit: &VoiceSet, channel: Snowflake) -> Result<(), AllocError>
     requires open { guild.old.opened ≡ true }
-    requires accepted { voice_set_verdict guild.old user (Some channel) ≡ None }
-    ensures ok { OnOk result (guild.new ≡ voice_joined guild.old user channel self_mute self_deaf) }
+    requires accepted { voice_set_verdict guild.old edit.now ≡ None }
+    requires there { edit.now.channel ≡ Some channel }
+    ensures ok { OnOk result (guild.new ≡ voice_joined guild.old (new_voice edit.now channel)) }
     ensures err { OnErr result (guild.new ≡ guild.old) }
 {
     guild.voices.put(Voice {
-        user,
+        user: edit.user,
         channel,
-        self_mute,
-        self_deaf,
+        self_mute: edit.self_mute,
+        self_deaf: edit.self_deaf,
     })?;
     Ok(())
 }
@@ -91,21 +95,16 @@ fn leave(guild: &mut Guild, user: Snowflake)
     guild.voices.remove(user.0);
 }
 
-/// Sets the voice state, or takes it away. Want of memory leaves the record as before.
-pub fn apply(
-    guild: &mut Guild,
-    user: Snowflake,
-    channel: Option<Snowflake>,
-    self_mute: bool,
-    self_deaf: bool,
-) -> Result<(), AllocError>
+/// Sets the voice state, or removes it. If it runs out of memory, the record stays as it was.
+pub fn apply(guild: &mut Guild, edit: VoiceSet) -> Result<(), AllocError>
     requires open { guild.old.opened ≡ true }
-    requires accepted { voice_set_verdict guild.old user channel ≡ None }
-    ensures ok { OnOk result (guild.new ≡ voice_was_set guild.old user channel self_mute self_deaf) }
+    requires accepted { voice_set_verdict guild.old edit ≡ None }
+    ensures ok { OnOk result (guild.new ≡ voice_was_set guild.old edit) }
     ensures err { OnErr result (guild.new ≡ guild.old) }
 {
-    match channel {
-        Some(channel) => join(guild, user, channel, self_mute, self_deaf),
-        None => Ok(leave(guild, user)),
+    match edit.channel {
+        Some(channel) => join(guild, &edit, channel)?,
+        None => leave(guild, edit.user),
     }
+    Ok(())
 }

@@ -1,24 +1,23 @@
-//! The edits of a guild itself: their fields, read and written.
+//! Reads and writes the fields of the edits of a guild itself.
 
 ghost use Rattle.std.specs.Prelude.{◌≡◌, OnOk};
-ghost use Rattle.serde_json.specs.View.{members_view};
 ghost use Rattle.json_line.specs.View.{view};
 ghost use Rattle.edit_text.specs.Fault.{UnlessMemory};
-ghost use Rattle.edit_text.specs.Fits.{GuildEditFits};
-ghost use Rattle.edit_text.specs.Members.{put_all};
-ghost use Rattle.edit_text.specs.GuildEdits.{guild_open_from, guild_rename_from, guild_owner_from, guild_edit_from, guild_edit_name, guild_edit_fields};
+ghost use Rattle.edit_text.specs.Fits.{IdFits, MaskFits, MomentFits, GuildEditFits};
+ghost use Rattle.edit_text.specs.Members.{HasPut};
+ghost use Rattle.edit_text.specs.GuildEdits.{guild_open_from, guild_rename_from, guild_edit_from, guild_edit_name, guild_open_fields, guild_edit_fields};
 
 use crate::LineFault;
 use crate::fields::{id_at, mask_at, moment_at, text_at};
 use crate::members::{put_id, put_mask, put_moment, put_text};
 use crate::names::GuildEditName;
 use collections::Text;
-use edit_apply::GuildEdit;
+use edit_apply::{GuildEdit, GuildOpen};
 use json_line::Node;
 use serde_json::{Map, Value};
 use std::alloc::{AllocError, Global};
 
-fn guild_open_from(alloc: Global, object: &Node<'_>) -> Result<GuildEdit, LineFault>
+fn guild_open_from(alloc: Global, object: &Node<'_>) -> Result<GuildOpen, LineFault>
     ensures { UnlessMemory result (guild_open_from (view object.now)) }
 {
     let name = text_at(object, "name")?;
@@ -28,7 +27,7 @@ fn guild_open_from(alloc: Global, object: &Node<'_>) -> Result<GuildEdit, LineFa
     let at = moment_at(object, "at")?;
     let name = Text::new(alloc, name)?;
     let owner_name = Text::new(alloc, owner_name)?;
-    Ok(GuildEdit::GuildOpen {
+    Ok(GuildOpen {
         name,
         owner,
         owner_name,
@@ -45,24 +44,19 @@ fn guild_rename_from(alloc: Global, object: &Node<'_>) -> Result<GuildEdit, Line
     Ok(GuildEdit::GuildRename { name })
 }
 
-fn guild_owner_from(object: &Node<'_>) -> Result<GuildEdit, LineFault>
-    ensures { result ≡ guild_owner_from (view object.now) }
-{
-    let user = id_at(object, "user")?;
-    Ok(GuildEdit::GuildOwner { user })
-}
-
-/// The edit of this name, from the fields of an object.
+/// Reads the edit of this name from the fields of an object.
 pub fn read(alloc: Global, name: GuildEditName, object: &Node<'_>) -> Result<GuildEdit, LineFault>
     ensures { UnlessMemory result (guild_edit_from name (view object.now)) }
 {
-    match name {
-        GuildEditName::GuildOpen => guild_open_from(alloc, object),
-        GuildEditName::GuildRename => guild_rename_from(alloc, object),
-        GuildEditName::GuildOwner => guild_owner_from(object),
-        GuildEditName::GuildOutage => Ok(GuildEdit::GuildOutage),
-        GuildEditName::GuildBack => Ok(GuildEdit::GuildBack),
-    }
+    Ok(match name {
+        GuildEditName::GuildOpen => GuildEdit::GuildOpen(guild_open_from(alloc, object)?),
+        GuildEditName::GuildRename => guild_rename_from(alloc, object)?,
+        GuildEditName::GuildOwner => GuildEdit::GuildOwner {
+            user: id_at(object, "user")?,
+        },
+        GuildEditName::GuildOutage => GuildEdit::GuildOutage,
+        GuildEditName::GuildBack => GuildEdit::GuildBack,
+    })
 }
 
 /// The name of an edit.
@@ -70,12 +64,30 @@ pub fn name_of(edit: &GuildEdit) -> GuildEditName
     ensures { result ≡ guild_edit_name edit.now }
 {
     match edit {
-        GuildEdit::GuildOpen { .. } => GuildEditName::GuildOpen,
+        GuildEdit::GuildOpen(_) => GuildEditName::GuildOpen,
         GuildEdit::GuildRename { .. } => GuildEditName::GuildRename,
         GuildEdit::GuildOwner { .. } => GuildEditName::GuildOwner,
         GuildEdit::GuildOutage => GuildEditName::GuildOutage,
         GuildEdit::GuildBack => GuildEditName::GuildBack,
     }
+}
+
+fn put_guild_open(
+    alloc: Global,
+    members: &mut Map<String, Value>,
+    edit: &GuildOpen,
+) -> Result<(), AllocError>
+    ensures put { OnOk result
+        (HasPut members.old.entries members.new.entries (guild_open_fields edit.now)) }
+    ensures fits { OnOk result
+        (IdFits edit.now.owner × MaskFits edit.now.perms × MomentFits edit.now.at) }
+{
+    put_text(alloc, members, "name", &edit.name)?;
+    put_id(alloc, members, "owner", edit.owner)?;
+    put_text(alloc, members, "owner_name", &edit.owner_name)?;
+    put_mask(alloc, members, "perms", edit.perms)?;
+    put_moment(alloc, members, "at", edit.at)?;
+    Ok(())
 }
 
 /// Puts the fields of an edit into an object.
@@ -84,32 +96,14 @@ pub fn put(
     members: &mut Map<String, Value>,
     edit: &GuildEdit,
 ) -> Result<(), AllocError>
-    ensures put { OnOk result (members_view members.new.entries ≡ put_all (members_view members.old.entries) (guild_edit_fields edit.now)) }
+    ensures put { OnOk result
+        (HasPut members.old.entries members.new.entries (guild_edit_fields edit.now)) }
     ensures fits { OnOk result (GuildEditFits edit.now) }
 {
     match edit {
-        GuildEdit::GuildOpen {
-            name,
-            owner,
-            owner_name,
-            perms,
-            at,
-        } => {
-            put_text(alloc, members, "name", name)?;
-            put_id(alloc, members, "owner", *owner)?;
-            put_text(alloc, members, "owner_name", owner_name)?;
-            put_mask(alloc, members, "perms", *perms)?;
-            put_moment(alloc, members, "at", *at)?;
-            Ok(())
-        }
-        GuildEdit::GuildRename { name } => {
-            put_text(alloc, members, "name", name)?;
-            Ok(())
-        }
-        GuildEdit::GuildOwner { user } => {
-            put_id(alloc, members, "user", *user)?;
-            Ok(())
-        }
+        GuildEdit::GuildOpen(edit) => put_guild_open(alloc, members, edit),
+        GuildEdit::GuildRename { name } => put_text(alloc, members, "name", name),
+        GuildEdit::GuildOwner { user } => put_id(alloc, members, "user", *user),
         GuildEdit::GuildOutage | GuildEdit::GuildBack => Ok(()),
     }
 }

@@ -1,12 +1,11 @@
-//! The edits of messages, reactions and typing: their fields, read and written.
+//! Reads and writes the fields of the edits of messages, reactions and typing.
 
 ghost use Rattle.std.specs.Prelude.{◌≡◌, OnOk};
-ghost use Rattle.serde_json.specs.View.{members_view};
 ghost use Rattle.json_line.specs.View.{view};
 ghost use Rattle.edit_text.specs.Fault.{UnlessMemory};
-ghost use Rattle.edit_text.specs.Fits.{IdFits, IdsFit, MessageEditFits};
-ghost use Rattle.edit_text.specs.Members.{put_all};
-ghost use Rattle.edit_text.specs.MessageEdits.{body_from, message_create_from, message_update_from, message_delete_from, reaction_add_from, reaction_remove_from, typing_from, message_edit_from, message_edit_name, body_fields, reaction_fields, message_edit_fields};
+ghost use Rattle.edit_text.specs.Fits.{IdFits, IdsFit, MomentFits, MessageEditFits};
+ghost use Rattle.edit_text.specs.Members.{HasPut};
+ghost use Rattle.edit_text.specs.MessageEdits.{body_from, message_create_from, message_update_from, reaction_from, typing_from, message_edit_from, message_edit_name, body_fields, message_create_fields, message_update_fields, reaction_fields, typing_fields, message_edit_fields};
 
 use crate::LineFault;
 use crate::fields::{id_at, ids_at, moment_at, parts_at, text_at};
@@ -14,9 +13,8 @@ use crate::members::{put_id, put_ids, put_moment, put_number, put_text};
 use crate::names::MessageEditName;
 use collections::Text;
 use json_line::Node;
-use message_edit::{MessageBody, MessageEdit};
+use message_edit::{MessageBody, MessageCreate, MessageEdit, MessageUpdate, ReactionBody, Typing};
 use serde_json::{Map, Value};
-use snowflake_id::Snowflake;
 use std::alloc::{AllocError, Global};
 
 fn body_from(alloc: Global, object: &Node<'_>) -> Result<MessageBody, LineFault>
@@ -37,14 +35,14 @@ fn body_from(alloc: Global, object: &Node<'_>) -> Result<MessageBody, LineFault>
     })
 }
 
-fn message_create_from(alloc: Global, object: &Node<'_>) -> Result<MessageEdit, LineFault>
+fn message_create_from(alloc: Global, object: &Node<'_>) -> Result<MessageCreate, LineFault>
     ensures { UnlessMemory result (message_create_from (view object.now)) }
 {
     let message = id_at(object, "message")?;
     let place = id_at(object, "channel")?;
     let author = id_at(object, "author")?;
     let body = body_from(alloc, object)?;
-    Ok(MessageEdit::MessageCreate {
+    Ok(MessageCreate {
         message,
         place,
         author,
@@ -52,59 +50,38 @@ fn message_create_from(alloc: Global, object: &Node<'_>) -> Result<MessageEdit, 
     })
 }
 
-fn message_update_from(alloc: Global, object: &Node<'_>) -> Result<MessageEdit, LineFault>
+fn message_update_from(alloc: Global, object: &Node<'_>) -> Result<MessageUpdate, LineFault>
     ensures { UnlessMemory result (message_update_from (view object.now)) }
 {
     let message = id_at(object, "message")?;
     let body = body_from(alloc, object)?;
-    Ok(MessageEdit::MessageUpdate { message, body })
+    Ok(MessageUpdate { message, body })
 }
 
-fn message_delete_from(object: &Node<'_>) -> Result<MessageEdit, LineFault>
-    ensures { result ≡ message_delete_from (view object.now) }
-{
-    let message = id_at(object, "message")?;
-    Ok(MessageEdit::MessageDelete { message })
-}
-
-fn reaction_add_from(alloc: Global, object: &Node<'_>) -> Result<MessageEdit, LineFault>
-    ensures { UnlessMemory result (reaction_add_from (view object.now)) }
+fn reaction_from(alloc: Global, object: &Node<'_>) -> Result<ReactionBody, LineFault>
+    ensures { UnlessMemory result (reaction_from (view object.now)) }
 {
     let message = id_at(object, "message")?;
     let user = id_at(object, "user")?;
     let emoji = text_at(object, "emoji")?;
     let emoji = Text::new(alloc, emoji)?;
-    Ok(MessageEdit::ReactionAdd {
+    Ok(ReactionBody {
         message,
         user,
         emoji,
     })
 }
 
-fn reaction_remove_from(alloc: Global, object: &Node<'_>) -> Result<MessageEdit, LineFault>
-    ensures { UnlessMemory result (reaction_remove_from (view object.now)) }
-{
-    let message = id_at(object, "message")?;
-    let user = id_at(object, "user")?;
-    let emoji = text_at(object, "emoji")?;
-    let emoji = Text::new(alloc, emoji)?;
-    Ok(MessageEdit::ReactionRemove {
-        message,
-        user,
-        emoji,
-    })
-}
-
-fn typing_from(object: &Node<'_>) -> Result<MessageEdit, LineFault>
+fn typing_from(object: &Node<'_>) -> Result<Typing, LineFault>
     ensures { result ≡ typing_from (view object.now) }
 {
     let place = id_at(object, "channel")?;
     let user = id_at(object, "user")?;
     let at = moment_at(object, "at")?;
-    Ok(MessageEdit::Typing { place, user, at })
+    Ok(Typing { place, user, at })
 }
 
-/// The edit of this name, from the fields of an object.
+/// Reads the edit of this name from the fields of an object.
 pub fn read(
     alloc: Global,
     name: MessageEditName,
@@ -112,14 +89,22 @@ pub fn read(
 ) -> Result<MessageEdit, LineFault>
     ensures { UnlessMemory result (message_edit_from name (view object.now)) }
 {
-    match name {
-        MessageEditName::MessageCreate => message_create_from(alloc, object),
-        MessageEditName::MessageUpdate => message_update_from(alloc, object),
-        MessageEditName::MessageDelete => message_delete_from(object),
-        MessageEditName::ReactionAdd => reaction_add_from(alloc, object),
-        MessageEditName::ReactionRemove => reaction_remove_from(alloc, object),
-        MessageEditName::Typing => typing_from(object),
-    }
+    Ok(match name {
+        MessageEditName::MessageCreate => {
+            MessageEdit::MessageCreate(message_create_from(alloc, object)?)
+        }
+        MessageEditName::MessageUpdate => {
+            MessageEdit::MessageUpdate(message_update_from(alloc, object)?)
+        }
+        MessageEditName::MessageDelete => MessageEdit::MessageDelete {
+            message: id_at(object, "message")?,
+        },
+        MessageEditName::ReactionAdd => MessageEdit::ReactionAdd(reaction_from(alloc, object)?),
+        MessageEditName::ReactionRemove => {
+            MessageEdit::ReactionRemove(reaction_from(alloc, object)?)
+        }
+        MessageEditName::Typing => MessageEdit::Typing(typing_from(object)?),
+    })
 }
 
 /// The name of an edit.
@@ -127,12 +112,12 @@ pub fn name_of(edit: &MessageEdit) -> MessageEditName
     ensures { result ≡ message_edit_name edit.now }
 {
     match edit {
-        MessageEdit::MessageCreate { .. } => MessageEditName::MessageCreate,
-        MessageEdit::MessageUpdate { .. } => MessageEditName::MessageUpdate,
+        MessageEdit::MessageCreate(_) => MessageEditName::MessageCreate,
+        MessageEdit::MessageUpdate(_) => MessageEditName::MessageUpdate,
         MessageEdit::MessageDelete { .. } => MessageEditName::MessageDelete,
-        MessageEdit::ReactionAdd { .. } => MessageEditName::ReactionAdd,
-        MessageEdit::ReactionRemove { .. } => MessageEditName::ReactionRemove,
-        MessageEdit::Typing { .. } => MessageEditName::Typing,
+        MessageEdit::ReactionAdd(_) => MessageEditName::ReactionAdd,
+        MessageEdit::ReactionRemove(_) => MessageEditName::ReactionRemove,
+        MessageEdit::Typing(_) => MessageEditName::Typing,
     }
 }
 
@@ -141,7 +126,8 @@ fn put_body(
     members: &mut Map<String, Value>,
     body: &MessageBody,
 ) -> Result<(), AllocError>
-    ensures put { OnOk result (members_view members.new.entries ≡ put_all (members_view members.old.entries) (body_fields body.now)) }
+    ensures put { OnOk result
+        (HasPut members.old.entries members.new.entries (body_fields body.now)) }
     ensures fits { OnOk result (IdsFit body.now.mentions) }
 {
     put_text(alloc, members, "content", &body.content)?;
@@ -162,19 +148,66 @@ fn put_body(
     Ok(())
 }
 
+fn put_message_create(
+    alloc: Global,
+    members: &mut Map<String, Value>,
+    edit: &MessageCreate,
+) -> Result<(), AllocError>
+    ensures put { OnOk result
+        (HasPut members.old.entries members.new.entries (message_create_fields edit.now)) }
+    ensures fits { OnOk result
+        (IdFits edit.now.message × IdFits edit.now.place
+        × IdFits edit.now.author × IdsFit edit.now.body.mentions) }
+{
+    put_id(alloc, members, "message", edit.message)?;
+    put_id(alloc, members, "channel", edit.place)?;
+    put_id(alloc, members, "author", edit.author)?;
+    put_body(alloc, members, &edit.body)?;
+    Ok(())
+}
+
+fn put_message_update(
+    alloc: Global,
+    members: &mut Map<String, Value>,
+    edit: &MessageUpdate,
+) -> Result<(), AllocError>
+    ensures put { OnOk result
+        (HasPut members.old.entries members.new.entries (message_update_fields edit.now)) }
+    ensures fits { OnOk result (IdFits edit.now.message × IdsFit edit.now.body.mentions) }
+{
+    put_id(alloc, members, "message", edit.message)?;
+    put_body(alloc, members, &edit.body)?;
+    Ok(())
+}
+
 fn put_reaction(
     alloc: Global,
     members: &mut Map<String, Value>,
-    message: Snowflake,
-    user: Snowflake,
-    emoji: &Text,
+    body: &ReactionBody,
 ) -> Result<(), AllocError>
-    ensures put { OnOk result (members_view members.new.entries ≡ put_all (members_view members.old.entries) (reaction_fields message user emoji.now)) }
-    ensures fits { OnOk result (IdFits message × IdFits user) }
+    ensures put { OnOk result
+        (HasPut members.old.entries members.new.entries (reaction_fields body.now)) }
+    ensures fits { OnOk result (IdFits body.now.message × IdFits body.now.user) }
 {
-    put_id(alloc, members, "message", message)?;
-    put_id(alloc, members, "user", user)?;
-    put_text(alloc, members, "emoji", emoji)?;
+    put_id(alloc, members, "message", body.message)?;
+    put_id(alloc, members, "user", body.user)?;
+    put_text(alloc, members, "emoji", &body.emoji)?;
+    Ok(())
+}
+
+fn put_typing(
+    alloc: Global,
+    members: &mut Map<String, Value>,
+    edit: &Typing,
+) -> Result<(), AllocError>
+    ensures put { OnOk result
+        (HasPut members.old.entries members.new.entries (typing_fields edit.now)) }
+    ensures fits { OnOk result
+        (IdFits edit.now.place × IdFits edit.now.user × MomentFits edit.now.at) }
+{
+    put_id(alloc, members, "channel", edit.place)?;
+    put_id(alloc, members, "user", edit.user)?;
+    put_moment(alloc, members, "at", edit.at)?;
     Ok(())
 }
 
@@ -184,52 +217,16 @@ pub fn put(
     members: &mut Map<String, Value>,
     edit: &MessageEdit,
 ) -> Result<(), AllocError>
-    ensures put { OnOk result (members_view members.new.entries ≡ put_all (members_view members.old.entries) (message_edit_fields edit.now)) }
+    ensures put { OnOk result
+        (HasPut members.old.entries members.new.entries (message_edit_fields edit.now)) }
     ensures fits { OnOk result (MessageEditFits edit.now) }
 {
     match edit {
-        MessageEdit::MessageCreate {
-            message,
-            place,
-            author,
-            body,
-        } => {
-            put_id(alloc, members, "message", *message)?;
-            put_id(alloc, members, "channel", *place)?;
-            put_id(alloc, members, "author", *author)?;
-            put_body(alloc, members, body)?;
-            Ok(())
-        }
-        MessageEdit::MessageUpdate { message, body } => {
-            put_id(alloc, members, "message", *message)?;
-            put_body(alloc, members, body)?;
-            Ok(())
-        }
-        MessageEdit::MessageDelete { message } => {
-            put_id(alloc, members, "message", *message)?;
-            Ok(())
-        }
-        MessageEdit::ReactionAdd {
-            message,
-            user,
-            emoji,
-        } => {
-            put_reaction(alloc, members, *message, *user, emoji)?;
-            Ok(())
-        }
-        MessageEdit::ReactionRemove {
-            message,
-            user,
-            emoji,
-        } => {
-            put_reaction(alloc, members, *message, *user, emoji)?;
-            Ok(())
-        }
-        MessageEdit::Typing { place, user, at } => {
-            put_id(alloc, members, "channel", *place)?;
-            put_id(alloc, members, "user", *user)?;
-            put_moment(alloc, members, "at", *at)?;
-            Ok(())
-        }
+        MessageEdit::MessageCreate(edit) => put_message_create(alloc, members, edit),
+        MessageEdit::MessageUpdate(edit) => put_message_update(alloc, members, edit),
+        MessageEdit::MessageDelete { message } => put_id(alloc, members, "message", *message),
+        MessageEdit::ReactionAdd(body) => put_reaction(alloc, members, body),
+        MessageEdit::ReactionRemove(body) => put_reaction(alloc, members, body),
+        MessageEdit::Typing(edit) => put_typing(alloc, members, edit),
     }
 }

@@ -1,12 +1,11 @@
-//! The edits of roles and members: their fields, read and written.
+//! Reads and writes the fields of the edits of roles and members.
 
 ghost use Rattle.std.specs.Prelude.{◌≡◌, OnOk};
-ghost use Rattle.serde_json.specs.View.{members_view};
 ghost use Rattle.json_line.specs.View.{view};
 ghost use Rattle.edit_text.specs.Fault.{UnlessMemory};
-ghost use Rattle.edit_text.specs.Fits.{IdFits, MaskFits, RoleMemberEditFits};
-ghost use Rattle.edit_text.specs.Members.{put_all};
-ghost use Rattle.edit_text.specs.RoleMemberEdits.{role_create_from, role_update_from, role_delete_from, member_add_from, member_remove_from, member_nick_from, member_timeout_from, member_role_add_from, member_role_remove_from, role_member_edit_from, role_member_edit_name, role_fields, user_role_fields, role_member_edit_fields};
+ghost use Rattle.edit_text.specs.Fits.{IdFits, MaskFits, MomentFits, NullableMomentFits, RoleMemberEditFits};
+ghost use Rattle.edit_text.specs.Members.{HasPut};
+ghost use Rattle.edit_text.specs.RoleMemberEdits.{role_from, member_add_from, member_nick_from, member_timeout_from, held_role_from, role_member_edit_from, role_member_edit_name, role_fields, member_add_fields, member_nick_fields, member_timeout_fields, held_role_fields, role_member_edit_fields};
 
 use crate::LineFault;
 use crate::fields::{
@@ -19,21 +18,19 @@ use crate::members::{
 use crate::names::RoleMemberEditName;
 use collections::Text;
 use json_line::Node;
-use perm_bits::Perms;
-use role_member_edit::RoleMemberEdit;
+use role_member_edit::{HeldRole, MemberAdd, MemberNick, MemberTimeout, RoleBody, RoleMemberEdit};
 use serde_json::{Map, Value};
-use snowflake_id::Snowflake;
 use std::alloc::{AllocError, Global};
 
-fn role_create_from(alloc: Global, object: &Node<'_>) -> Result<RoleMemberEdit, LineFault>
-    ensures { UnlessMemory result (role_create_from (view object.now)) }
+fn role_from(alloc: Global, object: &Node<'_>) -> Result<RoleBody, LineFault>
+    ensures { UnlessMemory result (role_from (view object.now)) }
 {
     let role = id_at(object, "role")?;
     let name = text_at(object, "name")?;
     let perms = mask_at(object, "perms")?;
     let position = position_at(object, "position")?;
     let name = Text::new(alloc, name)?;
-    Ok(RoleMemberEdit::RoleCreate {
+    Ok(RoleBody {
         role,
         name,
         perms,
@@ -41,30 +38,7 @@ fn role_create_from(alloc: Global, object: &Node<'_>) -> Result<RoleMemberEdit, 
     })
 }
 
-fn role_update_from(alloc: Global, object: &Node<'_>) -> Result<RoleMemberEdit, LineFault>
-    ensures { UnlessMemory result (role_update_from (view object.now)) }
-{
-    let role = id_at(object, "role")?;
-    let name = text_at(object, "name")?;
-    let perms = mask_at(object, "perms")?;
-    let position = position_at(object, "position")?;
-    let name = Text::new(alloc, name)?;
-    Ok(RoleMemberEdit::RoleUpdate {
-        role,
-        name,
-        perms,
-        position,
-    })
-}
-
-fn role_delete_from(object: &Node<'_>) -> Result<RoleMemberEdit, LineFault>
-    ensures { result ≡ role_delete_from (view object.now) }
-{
-    let role = id_at(object, "role")?;
-    Ok(RoleMemberEdit::RoleDelete { role })
-}
-
-fn member_add_from(alloc: Global, object: &Node<'_>) -> Result<RoleMemberEdit, LineFault>
+fn member_add_from(alloc: Global, object: &Node<'_>) -> Result<MemberAdd, LineFault>
     ensures { UnlessMemory result (member_add_from (view object.now)) }
 {
     let user = id_at(object, "user")?;
@@ -72,7 +46,7 @@ fn member_add_from(alloc: Global, object: &Node<'_>) -> Result<RoleMemberEdit, L
     let bot = flag_at(object, "bot")?;
     let at = moment_at(object, "at")?;
     let name = Text::new(alloc, name)?;
-    Ok(RoleMemberEdit::MemberAdd {
+    Ok(MemberAdd {
         user,
         name,
         bot,
@@ -80,46 +54,31 @@ fn member_add_from(alloc: Global, object: &Node<'_>) -> Result<RoleMemberEdit, L
     })
 }
 
-fn member_remove_from(object: &Node<'_>) -> Result<RoleMemberEdit, LineFault>
-    ensures { result ≡ member_remove_from (view object.now) }
-{
-    let user = id_at(object, "user")?;
-    Ok(RoleMemberEdit::MemberRemove { user })
-}
-
-fn member_nick_from(alloc: Global, object: &Node<'_>) -> Result<RoleMemberEdit, LineFault>
+fn member_nick_from(alloc: Global, object: &Node<'_>) -> Result<MemberNick, LineFault>
     ensures { UnlessMemory result (member_nick_from (view object.now)) }
 {
     let user = id_at(object, "user")?;
     let nick = nullable_text_at(alloc, object, "nick")?;
-    Ok(RoleMemberEdit::MemberNick { user, nick })
+    Ok(MemberNick { user, nick })
 }
 
-fn member_timeout_from(object: &Node<'_>) -> Result<RoleMemberEdit, LineFault>
+fn member_timeout_from(object: &Node<'_>) -> Result<MemberTimeout, LineFault>
     ensures { result ≡ member_timeout_from (view object.now) }
 {
     let user = id_at(object, "user")?;
     let until = nullable_moment_at(object, "until")?;
-    Ok(RoleMemberEdit::MemberTimeout { user, until })
+    Ok(MemberTimeout { user, until })
 }
 
-fn member_role_add_from(object: &Node<'_>) -> Result<RoleMemberEdit, LineFault>
-    ensures { result ≡ member_role_add_from (view object.now) }
+fn held_role_from(object: &Node<'_>) -> Result<HeldRole, LineFault>
+    ensures { result ≡ held_role_from (view object.now) }
 {
     let user = id_at(object, "user")?;
     let role = id_at(object, "role")?;
-    Ok(RoleMemberEdit::MemberRoleAdd { user, role })
+    Ok(HeldRole { user, role })
 }
 
-fn member_role_remove_from(object: &Node<'_>) -> Result<RoleMemberEdit, LineFault>
-    ensures { result ≡ member_role_remove_from (view object.now) }
-{
-    let user = id_at(object, "user")?;
-    let role = id_at(object, "role")?;
-    Ok(RoleMemberEdit::MemberRoleRemove { user, role })
-}
-
-/// The edit of this name, from the fields of an object.
+/// Reads the edit of this name from the fields of an object.
 pub fn read(
     alloc: Global,
     name: RoleMemberEditName,
@@ -127,17 +86,29 @@ pub fn read(
 ) -> Result<RoleMemberEdit, LineFault>
     ensures { UnlessMemory result (role_member_edit_from name (view object.now)) }
 {
-    match name {
-        RoleMemberEditName::RoleCreate => role_create_from(alloc, object),
-        RoleMemberEditName::RoleUpdate => role_update_from(alloc, object),
-        RoleMemberEditName::RoleDelete => role_delete_from(object),
-        RoleMemberEditName::MemberAdd => member_add_from(alloc, object),
-        RoleMemberEditName::MemberRemove => member_remove_from(object),
-        RoleMemberEditName::MemberNick => member_nick_from(alloc, object),
-        RoleMemberEditName::MemberTimeout => member_timeout_from(object),
-        RoleMemberEditName::MemberRoleAdd => member_role_add_from(object),
-        RoleMemberEditName::MemberRoleRemove => member_role_remove_from(object),
-    }
+    Ok(match name {
+        RoleMemberEditName::RoleCreate => RoleMemberEdit::RoleCreate(role_from(alloc, object)?),
+        RoleMemberEditName::RoleUpdate => RoleMemberEdit::RoleUpdate(role_from(alloc, object)?),
+        RoleMemberEditName::RoleDelete => RoleMemberEdit::RoleDelete {
+            role: id_at(object, "role")?,
+        },
+        RoleMemberEditName::MemberAdd => RoleMemberEdit::MemberAdd(member_add_from(alloc, object)?),
+        RoleMemberEditName::MemberRemove => RoleMemberEdit::MemberRemove {
+            user: id_at(object, "user")?,
+        },
+        RoleMemberEditName::MemberNick => {
+            RoleMemberEdit::MemberNick(member_nick_from(alloc, object)?)
+        }
+        RoleMemberEditName::MemberTimeout => {
+            RoleMemberEdit::MemberTimeout(member_timeout_from(object)?)
+        }
+        RoleMemberEditName::MemberRoleAdd => {
+            RoleMemberEdit::MemberRoleAdd(held_role_from(object)?)
+        }
+        RoleMemberEditName::MemberRoleRemove => {
+            RoleMemberEdit::MemberRoleRemove(held_role_from(object)?)
+        }
+    })
 }
 
 /// The name of an edit.
@@ -145,47 +116,89 @@ pub fn name_of(edit: &RoleMemberEdit) -> RoleMemberEditName
     ensures { result ≡ role_member_edit_name edit.now }
 {
     match edit {
-        RoleMemberEdit::RoleCreate { .. } => RoleMemberEditName::RoleCreate,
-        RoleMemberEdit::RoleUpdate { .. } => RoleMemberEditName::RoleUpdate,
+        RoleMemberEdit::RoleCreate(_) => RoleMemberEditName::RoleCreate,
+        RoleMemberEdit::RoleUpdate(_) => RoleMemberEditName::RoleUpdate,
         RoleMemberEdit::RoleDelete { .. } => RoleMemberEditName::RoleDelete,
-        RoleMemberEdit::MemberAdd { .. } => RoleMemberEditName::MemberAdd,
+        RoleMemberEdit::MemberAdd(_) => RoleMemberEditName::MemberAdd,
         RoleMemberEdit::MemberRemove { .. } => RoleMemberEditName::MemberRemove,
-        RoleMemberEdit::MemberNick { .. } => RoleMemberEditName::MemberNick,
-        RoleMemberEdit::MemberTimeout { .. } => RoleMemberEditName::MemberTimeout,
-        RoleMemberEdit::MemberRoleAdd { .. } => RoleMemberEditName::MemberRoleAdd,
-        RoleMemberEdit::MemberRoleRemove { .. } => RoleMemberEditName::MemberRoleRemove,
+        RoleMemberEdit::MemberNick(_) => RoleMemberEditName::MemberNick,
+        RoleMemberEdit::MemberTimeout(_) => RoleMemberEditName::MemberTimeout,
+        RoleMemberEdit::MemberRoleAdd(_) => RoleMemberEditName::MemberRoleAdd,
+        RoleMemberEdit::MemberRoleRemove(_) => RoleMemberEditName::MemberRoleRemove,
     }
 }
 
 fn put_role(
     alloc: Global,
     members: &mut Map<String, Value>,
-    role: Snowflake,
-    name: &Text,
-    perms: Perms,
-    position: u32,
+    body: &RoleBody,
 ) -> Result<(), AllocError>
-    ensures put { OnOk result (members_view members.new.entries ≡ put_all (members_view members.old.entries) (role_fields role name.now perms position)) }
-    ensures fits { OnOk result (IdFits role × MaskFits perms) }
+    ensures put { OnOk result
+        (HasPut members.old.entries members.new.entries (role_fields body.now)) }
+    ensures fits { OnOk result (IdFits body.now.role × MaskFits body.now.perms) }
 {
-    put_id(alloc, members, "role", role)?;
-    put_text(alloc, members, "name", name)?;
-    put_mask(alloc, members, "perms", perms)?;
-    put_number(alloc, members, "position", u64::from(position))?;
+    put_id(alloc, members, "role", body.role)?;
+    put_text(alloc, members, "name", &body.name)?;
+    put_mask(alloc, members, "perms", body.perms)?;
+    put_number(alloc, members, "position", u64::from(body.position))?;
     Ok(())
 }
 
-fn put_user_role(
+fn put_member_add(
     alloc: Global,
     members: &mut Map<String, Value>,
-    user: Snowflake,
-    role: Snowflake,
+    edit: &MemberAdd,
 ) -> Result<(), AllocError>
-    ensures put { OnOk result (members_view members.new.entries ≡ put_all (members_view members.old.entries) (user_role_fields user role)) }
-    ensures fits { OnOk result (IdFits user × IdFits role) }
+    ensures put { OnOk result
+        (HasPut members.old.entries members.new.entries (member_add_fields edit.now)) }
+    ensures fits { OnOk result (IdFits edit.now.user × MomentFits edit.now.at) }
 {
-    put_id(alloc, members, "user", user)?;
-    put_id(alloc, members, "role", role)?;
+    put_id(alloc, members, "user", edit.user)?;
+    put_text(alloc, members, "name", &edit.name)?;
+    put_flag(alloc, members, "bot", edit.bot)?;
+    put_moment(alloc, members, "at", edit.at)?;
+    Ok(())
+}
+
+fn put_member_nick(
+    alloc: Global,
+    members: &mut Map<String, Value>,
+    edit: &MemberNick,
+) -> Result<(), AllocError>
+    ensures put { OnOk result
+        (HasPut members.old.entries members.new.entries (member_nick_fields edit.now)) }
+    ensures fits { OnOk result (IdFits edit.now.user) }
+{
+    put_id(alloc, members, "user", edit.user)?;
+    put_nullable_text(alloc, members, "nick", edit.nick.as_ref())?;
+    Ok(())
+}
+
+fn put_member_timeout(
+    alloc: Global,
+    members: &mut Map<String, Value>,
+    edit: &MemberTimeout,
+) -> Result<(), AllocError>
+    ensures put { OnOk result
+        (HasPut members.old.entries members.new.entries (member_timeout_fields edit.now)) }
+    ensures fits { OnOk result (IdFits edit.now.user × NullableMomentFits edit.now.until) }
+{
+    put_id(alloc, members, "user", edit.user)?;
+    put_nullable_moment(alloc, members, "until", edit.until)?;
+    Ok(())
+}
+
+fn put_held_role(
+    alloc: Global,
+    members: &mut Map<String, Value>,
+    held: &HeldRole,
+) -> Result<(), AllocError>
+    ensures put { OnOk result
+        (HasPut members.old.entries members.new.entries (held_role_fields held.now)) }
+    ensures fits { OnOk result (IdFits held.now.user × IdFits held.now.role) }
+{
+    put_id(alloc, members, "user", held.user)?;
+    put_id(alloc, members, "role", held.role)?;
     Ok(())
 }
 
@@ -195,65 +208,19 @@ pub fn put(
     members: &mut Map<String, Value>,
     edit: &RoleMemberEdit,
 ) -> Result<(), AllocError>
-    ensures put { OnOk result (members_view members.new.entries ≡ put_all (members_view members.old.entries) (role_member_edit_fields edit.now)) }
+    ensures put { OnOk result
+        (HasPut members.old.entries members.new.entries (role_member_edit_fields edit.now)) }
     ensures fits { OnOk result (RoleMemberEditFits edit.now) }
 {
     match edit {
-        RoleMemberEdit::RoleCreate {
-            role,
-            name,
-            perms,
-            position,
-        } => {
-            put_role(alloc, members, *role, name, *perms, *position)?;
-            Ok(())
-        }
-        RoleMemberEdit::RoleUpdate {
-            role,
-            name,
-            perms,
-            position,
-        } => {
-            put_role(alloc, members, *role, name, *perms, *position)?;
-            Ok(())
-        }
-        RoleMemberEdit::RoleDelete { role } => {
-            put_id(alloc, members, "role", *role)?;
-            Ok(())
-        }
-        RoleMemberEdit::MemberAdd {
-            user,
-            name,
-            bot,
-            at,
-        } => {
-            put_id(alloc, members, "user", *user)?;
-            put_text(alloc, members, "name", name)?;
-            put_flag(alloc, members, "bot", *bot)?;
-            put_moment(alloc, members, "at", *at)?;
-            Ok(())
-        }
-        RoleMemberEdit::MemberRemove { user } => {
-            put_id(alloc, members, "user", *user)?;
-            Ok(())
-        }
-        RoleMemberEdit::MemberNick { user, nick } => {
-            put_id(alloc, members, "user", *user)?;
-            put_nullable_text(alloc, members, "nick", nick)?;
-            Ok(())
-        }
-        RoleMemberEdit::MemberTimeout { user, until } => {
-            put_id(alloc, members, "user", *user)?;
-            put_nullable_moment(alloc, members, "until", *until)?;
-            Ok(())
-        }
-        RoleMemberEdit::MemberRoleAdd { user, role } => {
-            put_user_role(alloc, members, *user, *role)?;
-            Ok(())
-        }
-        RoleMemberEdit::MemberRoleRemove { user, role } => {
-            put_user_role(alloc, members, *user, *role)?;
-            Ok(())
-        }
+        RoleMemberEdit::RoleCreate(body) => put_role(alloc, members, body),
+        RoleMemberEdit::RoleUpdate(body) => put_role(alloc, members, body),
+        RoleMemberEdit::RoleDelete { role } => put_id(alloc, members, "role", *role),
+        RoleMemberEdit::MemberAdd(edit) => put_member_add(alloc, members, edit),
+        RoleMemberEdit::MemberRemove { user } => put_id(alloc, members, "user", *user),
+        RoleMemberEdit::MemberNick(edit) => put_member_nick(alloc, members, edit),
+        RoleMemberEdit::MemberTimeout(edit) => put_member_timeout(alloc, members, edit),
+        RoleMemberEdit::MemberRoleAdd(held) => put_held_role(alloc, members, held),
+        RoleMemberEdit::MemberRoleRemove(held) => put_held_role(alloc, members, held),
     }
 }

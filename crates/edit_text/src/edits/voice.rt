@@ -1,11 +1,10 @@
-//! The edits of voice states and presences: their fields, read and written.
+//! Reads and writes the fields of the edits of voice states and presences.
 
 ghost use Rattle.std.specs.Prelude.{◌≡◌, OnOk};
-ghost use Rattle.serde_json.specs.View.{members_view};
 ghost use Rattle.json_line.specs.View.{view};
-ghost use Rattle.edit_text.specs.Fits.{VoicePresenceEditFits};
-ghost use Rattle.edit_text.specs.Members.{put_all};
-ghost use Rattle.edit_text.specs.VoicePresenceEdits.{voice_set_from, presence_set_from, voice_presence_edit_from, voice_presence_edit_name, voice_presence_edit_fields};
+ghost use Rattle.edit_text.specs.Fits.{IdFits, NullableIdFits, VoicePresenceEditFits};
+ghost use Rattle.edit_text.specs.Members.{HasPut};
+ghost use Rattle.edit_text.specs.VoicePresenceEdits.{voice_set_from, presence_set_from, voice_presence_edit_from, voice_presence_edit_name, voice_set_fields, presence_set_fields, voice_presence_edit_fields};
 
 use crate::LineFault;
 use crate::fields::{flag_at, id_at, nullable_id_at, status_at};
@@ -14,16 +13,16 @@ use crate::names::VoicePresenceEditName;
 use json_line::Node;
 use serde_json::{Map, Value};
 use std::alloc::{AllocError, Global};
-use voice_presence::VoicePresenceEdit;
+use voice_presence::{PresenceSet, VoicePresenceEdit, VoiceSet};
 
-fn voice_set_from(object: &Node<'_>) -> Result<VoicePresenceEdit, LineFault>
+fn voice_set_from(object: &Node<'_>) -> Result<VoiceSet, LineFault>
     ensures { result ≡ voice_set_from (view object.now) }
 {
     let user = id_at(object, "user")?;
     let channel = nullable_id_at(object, "channel")?;
     let self_mute = flag_at(object, "mute")?;
     let self_deaf = flag_at(object, "deaf")?;
-    Ok(VoicePresenceEdit::VoiceSet {
+    Ok(VoiceSet {
         user,
         channel,
         self_mute,
@@ -31,22 +30,24 @@ fn voice_set_from(object: &Node<'_>) -> Result<VoicePresenceEdit, LineFault>
     })
 }
 
-fn presence_set_from(object: &Node<'_>) -> Result<VoicePresenceEdit, LineFault>
+fn presence_set_from(object: &Node<'_>) -> Result<PresenceSet, LineFault>
     ensures { result ≡ presence_set_from (view object.now) }
 {
     let user = id_at(object, "user")?;
     let status = status_at(object, "status")?;
-    Ok(VoicePresenceEdit::PresenceSet { user, status })
+    Ok(PresenceSet { user, status })
 }
 
-/// The edit of this name, from the fields of an object.
+/// Reads the edit of this name from the fields of an object.
 pub fn read(name: VoicePresenceEditName, object: &Node<'_>) -> Result<VoicePresenceEdit, LineFault>
     ensures { result ≡ voice_presence_edit_from name (view object.now) }
 {
-    match name {
-        VoicePresenceEditName::VoiceSet => voice_set_from(object),
-        VoicePresenceEditName::PresenceSet => presence_set_from(object),
-    }
+    Ok(match name {
+        VoicePresenceEditName::VoiceSet => VoicePresenceEdit::VoiceSet(voice_set_from(object)?),
+        VoicePresenceEditName::PresenceSet => {
+            VoicePresenceEdit::PresenceSet(presence_set_from(object)?)
+        }
+    })
 }
 
 /// The name of an edit.
@@ -54,9 +55,39 @@ pub fn name_of(edit: &VoicePresenceEdit) -> VoicePresenceEditName
     ensures { result ≡ voice_presence_edit_name edit.now }
 {
     match edit {
-        VoicePresenceEdit::VoiceSet { .. } => VoicePresenceEditName::VoiceSet,
-        VoicePresenceEdit::PresenceSet { .. } => VoicePresenceEditName::PresenceSet,
+        VoicePresenceEdit::VoiceSet(_) => VoicePresenceEditName::VoiceSet,
+        VoicePresenceEdit::PresenceSet(_) => VoicePresenceEditName::PresenceSet,
     }
+}
+
+fn put_voice_set(
+    alloc: Global,
+    members: &mut Map<String, Value>,
+    edit: &VoiceSet,
+) -> Result<(), AllocError>
+    ensures put { OnOk result
+        (HasPut members.old.entries members.new.entries (voice_set_fields edit.now)) }
+    ensures fits { OnOk result (IdFits edit.now.user × NullableIdFits edit.now.channel) }
+{
+    put_id(alloc, members, "user", edit.user)?;
+    put_nullable_id(alloc, members, "channel", edit.channel)?;
+    put_flag(alloc, members, "mute", edit.self_mute)?;
+    put_flag(alloc, members, "deaf", edit.self_deaf)?;
+    Ok(())
+}
+
+fn put_presence_set(
+    alloc: Global,
+    members: &mut Map<String, Value>,
+    edit: &PresenceSet,
+) -> Result<(), AllocError>
+    ensures put { OnOk result
+        (HasPut members.old.entries members.new.entries (presence_set_fields edit.now)) }
+    ensures fits { OnOk result (IdFits edit.now.user) }
+{
+    put_id(alloc, members, "user", edit.user)?;
+    put_str(alloc, members, "status", edit.status.name())?;
+    Ok(())
 }
 
 /// Puts the fields of an edit into an object.
@@ -65,26 +96,12 @@ pub fn put(
     members: &mut Map<String, Value>,
     edit: &VoicePresenceEdit,
 ) -> Result<(), AllocError>
-    ensures put { OnOk result (members_view members.new.entries ≡ put_all (members_view members.old.entries) (voice_presence_edit_fields edit.now)) }
+    ensures put { OnOk result
+        (HasPut members.old.entries members.new.entries (voice_presence_edit_fields edit.now)) }
     ensures fits { OnOk result (VoicePresenceEditFits edit.now) }
 {
     match edit {
-        VoicePresenceEdit::VoiceSet {
-            user,
-            channel,
-            self_mute,
-            self_deaf,
-        } => {
-            put_id(alloc, members, "user", *user)?;
-            put_nullable_id(alloc, members, "channel", *channel)?;
-            put_flag(alloc, members, "mute", *self_mute)?;
-            put_flag(alloc, members, "deaf", *self_deaf)?;
-            Ok(())
-        }
-        VoicePresenceEdit::PresenceSet { user, status } => {
-            put_id(alloc, members, "user", *user)?;
-            put_str(alloc, members, "status", status.name())?;
-            Ok(())
-        }
+        VoicePresenceEdit::VoiceSet(edit) => put_voice_set(alloc, members, edit),
+        VoicePresenceEdit::PresenceSet(edit) => put_presence_set(alloc, members, edit),
     }
 }

@@ -8,4 +8,4 @@ invariant_of-guild-2 c =
     let accepted = rw (← c.guild.view_is) at c.requires.accepted in
     let overwrites = rw (← c.guild.view_is) at c.in_ok-overwrites.ensures in
     rw (c.in_ok-insert.ensures.ok, overwrites)
-    (channel_came _ is_open c.guild.invariant c.args.channel c.args.kind c.args.name c.args.parent c.args.position c.args.sync accepted)
+    (channel_came _ is_open c.guild.invariant c.args.edit accepted)

@@ -7,5 +7,5 @@ use Rattle.message_edit.proofs.message_create.check.Goals as goal
 pub returns-in_err-takes_words : goal.returns-in_err-takes_words
 returns-in_err-takes_words c =
     let p = err_from_is_err_and c.from_residual.result c.from_residual.ensures.1 in
-    let stop = stopped (no_place c.args.guild.now c.args.place) _ c.in_err-takes_words.field-0.0 (sym c.takes_words.ensures ∙ c.in_err-takes_words.was) in
+    let stop = stopped (no_place c.args.guild.now c.args.edit.now.place) _ c.in_err-takes_words.field-0.0 (sym c.takes_words.ensures ∙ c.in_err-takes_words.was) in
     p.1 ∙ (ap Err p.2 ∙ sym stop)

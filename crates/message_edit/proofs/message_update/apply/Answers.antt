@@ -4,4 +4,4 @@ use Rattle.message_edit.proofs.message_update.apply.Goals as goal
 pub invariant_of-guild : goal.invariant_of-guild
 invariant_of-guild c =
     let is_open = rw (← c.guild.view_is) at c.requires in
-    rw c.set_mentions.ensures (updated _ is_open c.guild.invariant c.args.message c.args.body.mentions)
+    rw c.set_mentions.ensures (updated _ is_open c.guild.invariant c.args.edit)

@@ -8,4 +8,4 @@ invariant_of-guild c = rw c.in_err-insert.ensures.err c.guild.invariant
 pub invariant_of-guild-2 : goal.invariant_of-guild-2
 invariant_of-guild-2 c =
     let is_open : c.guild.inside.opened ≡ true = cc in
-    rw (c.in_ok-insert.ensures.ok, c.new.ensures) (added _ is_open c.guild.invariant c.args.user c.args.name c.args.bot c.args.at)
+    rw (c.in_ok-insert.ensures.ok, c.new.ensures) (added _ is_open c.guild.invariant c.args.edit)

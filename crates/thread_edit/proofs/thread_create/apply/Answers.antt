@@ -7,4 +7,4 @@ invariant_of-guild-2 c =
     let is_open : c.guild.inside.opened ≡ true = cc in
     let accepted = rw (← c.guild.view_is) at c.requires.accepted in
     rw (c.in_ok-insert.ensures.ok, c.in_ok-members.ensures)
-    (thread_came _ is_open c.guild.invariant c.args.thread c.args.parent c.args.kind c.args.name c.args.owner c.args.at accepted)
+    (thread_came _ is_open c.guild.invariant c.args.edit accepted)

@@ -9,4 +9,4 @@ pub invariant_of-guild-2 : goal.invariant_of-guild-2
 invariant_of-guild-2 c =
     let is_open : c.guild.inside.opened ≡ true = cc in
     let accepted = rw (← c.guild.view_is) at c.requires.accepted in
-    rw c.in_ok-put.ensures.ok (voice_came _ is_open c.guild.invariant c.args.user c.args.channel c.args.self_mute c.args.self_deaf accepted)
+    rw c.in_ok-put.ensures.ok (voice_came _ is_open c.guild.invariant c.args.edit.now c.args.channel c.requires.there accepted)
