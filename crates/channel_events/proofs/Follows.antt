@@ -19,19 +19,20 @@ use Rattle.guild_model.specs.Consistent.{is_place}
 use Rattle.guild_model.specs.Ascending.{IsWell, HasOrderedOverwrites}
 use Rattle.guild_model.specs.Tests.{refused_if, first_of, too_long, too_many, unknown_channel}
 use Rattle.guild_model.proofs.Tests.{first_passes, not_refused}
+use Rattle.channel_edit.specs.declared.channel_create.ChannelCreate.{ChannelCreate as Create}
 use Rattle.channel_edit.specs.declared.ChannelEdit.{ChannelEdit}
 use Rattle.channel_edit.specs.declared.ChannelEdit.TheVariants as edit
 use Rattle.channel_edit.specs.Channels.{unknown_parent, wrong_parent, wrong_parent_of, new_channel, channel_create_verdict, channel_created, with_settings, with_channel_changed}
 use Rattle.channel_edit.specs.ChannelEnd.{channel_deleted, channel_delete_verdict}
-use Rattle.channel_edit.specs.OverwriteEdits.{unknown_target, without_room, with_overwrite, unknown_overwrite, without_overwrite}
+use Rattle.channel_edit.specs.OverwriteEdits.{unknown_target, without_room, overwrite_of, with_overwrite, unknown_overwrite, without_overwrite}
 use Rattle.dispatch_types.specs.declared.viewer.Viewer.{Viewer}
 use Rattle.dispatch_types.specs.declared.dispatch.Dispatch.{Dispatch}
-use Rattle.dispatch_types.specs.declared.dispatch.Dispatch.TheVariants.{ChannelCreate, ChannelUpdate, ChannelDelete, VoiceStateUpdate}
+use Rattle.dispatch_types.specs.declared.dispatch.Dispatch.TheVariants.{ChannelCreate, ChannelUpdate, ChannelDelete}
 use Rattle.dispatch_types.specs.declared.channels.ChannelObject.{ChannelObject}
 use Rattle.dispatch_types.specs.Objects.{channel_object}
 use Rattle.dispatch_types.specs.Fold.{Held, set_channel, fold_from}
+use Rattle.dispatch_types.proofs.Folds.{folded-here}
 use Rattle.thread_sync.specs.Seen.{visible_to}
-use Rattle.thread_sync.specs.declared.seen.Seen.{Seen}
 use Rattle.thread_sync.specs.Sync.{sync_of, sync_if_any, sync}
 use Rattle.thread_sync.specs.InChannel.{visible_in, gained_in, sync_in}
 use Rattle.thread_sync.specs.Law.{kind_in, ChangesRights, ChangesChannel}
@@ -40,25 +41,25 @@ use Rattle.thread_sync.proofs.Sights.{channel-created-keeps, channel-changed-kee
 use Rattle.event_views.specs.Has.{Has}
 use Rattle.event_views.specs.Asked.{told_if}
 use Rattle.event_views.proofs.Rights.{follows-rights}
-use Rattle.event_views.proofs.Steps.{IsOf, asked-of, append-of}
-use Rattle.event_views.proofs.Told.{same, told-channel_update}
-use Rattle.event_views.specs.Ended.{voice_end, voice_ends}
-use Rattle.channel_events.specs.declared.ends.ChannelEnd.{ChannelEnd}
+use Rattle.event_views.proofs.Steps.{same, IsOf, asked-of, append-of}
+use Rattle.event_views.specs.Ended.{voice_ends}
+use Rattle.event_views.proofs.Voices.{ended}
 use Rattle.channel_events.specs.declared.ends.ChannelNote.{ChannelNote}
-use Rattle.channel_events.specs.Ends.{channel_end, end_of}
+use Rattle.channel_events.specs.declared.ends.ChannelNote.TheVariants.{Nothing, Seen, Leaving}
+use Rattle.channel_events.specs.Ends.{end_of, before_end}
 use Rattle.channel_events.specs.Law.{ChannelEditKeeps}
 use Rattle.channel_events.specs.Rows.{told_of, created, updated, gone, deleted, synced_in, rights_changed, channel_row}
 use Rattle.channel_events.proofs.Puts.{puts-channel, follows-channel_put, follows-channel_changed}
 use Rattle.channel_events.proofs.Gone.{follows-gone}
 
 -- what the tests of an edit let through
-place_free : (s : Record) (channel : ℕ) (kind : ChannelKind) (name : List ℕ) (parent : Option ℕ) → channel_create_verdict s channel kind name parent ≡ None → has_id channel_id channel s.channels ≡ false
-place_free s channel kind name parent e =
-    no_channel (has_id channel_id channel s.channels)
-    (not_refused (is_place s channel) IdTaken
-    (first_passes (refused_if (is_place s channel) IdTaken) (unknown_parent s parent ∷ wrong_parent s kind parent ∷ too_many 500 (length s.channels) ∷ too_long 100 name ∷ []) e).0)
+place_free : (s : Record) (e : Create) → channel_create_verdict s e ≡ None → has_id channel_id e.channel s.channels ≡ false
+place_free s e ok =
+    let later = unknown_parent s e.parent ∷ wrong_parent s e.kind e.parent ∷ too_many 500 (length s.channels) ∷ too_long 100 e.name ∷ [] in
+    no_channel (has_id channel_id e.channel s.channels)
+    (not_refused (is_place s e.channel) IdTaken (first_passes (refused_if (is_place s e.channel) IdTaken) later ok).0)
   where
-    no_channel : (b : Bool) → (b || has_id thread_id channel s.threads) ≡ false → b ≡ false
+    no_channel : (b : Bool) → (b || has_id thread_id e.channel s.threads) ≡ false → b ≡ false
     no_channel true e = absurd (cc)
     no_channel false e = refl
 
@@ -81,16 +82,15 @@ found-changed channel f c cs same found =
 
 -- of a channel that is there and keeps its id
 module _ (s : Record) (v : Viewer) (h : Held) (me : Member) (well : IsWell s) (asks : has_bit v.intents guilds ≡ true) where
-  pub follows-created : (channel : ℕ) (kind : ChannelKind) (name : List ℕ) (parent : Option ℕ) (position : ℕ) (sync : Bool)
-      → IsWell (channel_created s channel kind name parent position sync) → channel_create_verdict s channel kind name parent ≡ None
-      → Has s v me h → Has (channel_created s channel kind name parent position sync) v me (fold_from v.intents s.id h (created (channel_created s channel kind name parent position sync) v channel))
-  follows-created channel kind name parent position sync after ok has =
-      let c : Channel = new_channel s channel kind name parent position sync in
-      let t : Record = channel_created s channel kind name parent position sync in
-      let found : find_id channel_id channel t.channels ≡ Some c = found-put c s.channels in
-      let ordered : HasOrderedOverwrites c = All-found channel_id HasOrderedOverwrites channel t.channels c after.ascending.overwrites found in
+  pub follows-created : (e : Create) → IsWell (channel_created s e) → channel_create_verdict s e ≡ None
+      → Has s v me h → Has (channel_created s e) v me (fold_from v.intents s.id h (created (channel_created s e) v e.channel))
+  follows-created e after ok has =
+      let c : Channel = new_channel s e in
+      let t : Record = channel_created s e in
+      let found : find_id channel_id e.channel t.channels ≡ Some c = found-put c s.channels in
+      let ordered : HasOrderedOverwrites c = All-found channel_id HasOrderedOverwrites e.channel t.channels c after.ascending.overwrites found in
       subst (λ o. Has t v me (fold_from v.intents s.id h (told_of t v ChannelCreate o))) (sym found)
-      (follows-channel_put s v h me c t.channels refl ordered well.ascending.threads (channel-created-keeps s me c well.consistent (place_free s channel kind name parent ok)) asks has)
+      (follows-channel_put s v h me c t.channels refl ordered well.ascending.threads (channel-created-keeps s me c well.consistent (place_free s e ok)) asks has)
 
   module _ (channel : ℕ) (f : Channel → Channel) (c : Channel) (same_id : (c : Channel) → (f c).id ≡ c.id) (known : find_id channel_id channel s.channels ≡ Some c) (after : IsWell (with_channel_changed s channel f)) where
     abbrev pub t : Record
@@ -112,11 +112,11 @@ module _ (s : Record) (v : Viewer) (h : Held) (me : Member) (well : IsWell s) (a
         (follows-channel_changed s v h me (f c) t.channels put ordered well.ascending.threads (channel-changed-keeps s me f channel same_id overwrites) asks has)
 
     -- with other overwrites: the sync brings the threads that the update does not
-    pub follows-overwrites : ((c : Channel) → (f c).kind ≡ c.kind) → Has s v me h → Has t v me (fold_from v.intents s.id h (rights_changed t v (Some (visible_in s me channel)) me channel))
+    pub follows-overwrites : ((c : Channel) → (f c).kind ≡ c.kind) → Has s v me h → Has t v me (fold_from v.intents s.id h (rights_changed t v (Seen (visible_in s me channel)) me channel))
     follows-overwrites kinds has =
         subst (λ (ds : List Dispatch). Has t v me (fold_from v.intents s.id h (ds ++ told_if v (sync_in (visible_in s me channel) t me channel)))) (sym update)
         (subst (λ (d : Option Dispatch). Has t v me (fold_from v.intents s.id h (ChannelUpdate o ∷ told_if v d))) (sym whole)
-        (follows-rights s t v h me me well rights refl asks (ChannelUpdate o) (set_channel o) same (told-channel_update v.intents s.id h o refl) (puts-channel s v h me (f c) t.channels put ordered h.known) has))
+        (follows-rights s t v h me me well rights refl asks (ChannelUpdate o) (set_channel o) same (folded-here v.intents s.id h (ChannelUpdate o) refl refl) (puts-channel s v h me (f c) t.channels put ordered h.known) has))
       where
         o : ChannelObject
         o = channel_object s.id (f c)
@@ -150,11 +150,11 @@ module _ (s : Record) (v : Viewer) (h : Held) (me : Member) (well : IsWell s) (a
         whole = channel_sync_is_whole s t me channel well.ascending after.ascending alone
 
   pub follows-deleted : (channel : ℕ) → channel_delete_verdict s channel ≡ None
-      → Has s v me h → Has (channel_deleted s channel) v me (fold_from v.intents s.id h (deleted (channel_deleted s channel) v (channel_end s channel)))
+      → Has s v me h → Has (channel_deleted s channel) v me (fold_from v.intents s.id h (deleted (channel_deleted s channel) v (before_end s (find_id channel_id channel s.channels))))
   follows-deleted channel ok has =
       let known = there s channel ok in
-      subst (λ o. Has (channel_deleted s channel) v me (fold_from v.intents s.id h (deleted (channel_deleted s channel) v (option_map (end_of s) o)))) (sym known.1)
-      (subst (λ id. Has (channel_deleted s id) v me (fold_from v.intents s.id h (deleted (channel_deleted s id) v (Some (end_of s known.0))))) (key-found channel_id channel s.channels known.0 known.1)
+      subst (λ (o : Option Channel). Has (channel_deleted s channel) v me (fold_from v.intents s.id h (deleted (channel_deleted s channel) v (before_end s o)))) (sym known.1)
+      (subst (λ id. Has (channel_deleted s id) v me (fold_from v.intents s.id h (deleted (channel_deleted s id) v (Leaving (end_of s known.0))))) (key-found channel_id channel s.channels known.0 known.1)
       (follows-gone s v h me known.0 well.ascending asks has))
 
 -- the first test of each is that the channel is there
@@ -162,18 +162,17 @@ known-first : (s : Record) (channel : ℕ) (tests : List (Option Verdict)) → f
 known-first s channel tests ok = there s channel (first_passes (unknown_channel s channel) tests ok).0
 
 pub follows-channel : ChannelEditKeeps
-follows-channel s v h me (edit.ChannelCreate channel kind name parent position sync) well after is_open ok own asks has =
-    follows-created s v h me well asks channel kind name parent position sync after ok has
-follows-channel s v h me (edit.ChannelUpdate channel name parent position) well after is_open ok own asks has =
-    let known = known-first s channel (unknown_parent s parent ∷ wrong_parent_of s (find_id channel_id channel s.channels) parent ∷ too_long 100 name ∷ []) ok in
-    follows-changed s v h me well asks channel (with_settings name parent position) known.0 (λ c. refl) known.1 after (λ c. refl) has
+follows-channel s v h me (edit.ChannelCreate e) well after is_open ok own asks has = follows-created s v h me well asks e after ok has
+follows-channel s v h me (edit.ChannelUpdate e) well after is_open ok own asks has =
+    let known = known-first s e.channel (unknown_parent s e.parent ∷ wrong_parent_of s (find_id channel_id e.channel s.channels) e.parent ∷ too_long 100 e.name ∷ []) ok in
+    follows-changed s v h me well asks e.channel (with_settings e) known.0 (λ c. refl) known.1 after (λ c. refl) has
 follows-channel s v h me (edit.ChannelDelete channel) well after is_open ok own asks has = follows-deleted s v h me well asks channel ok has
-follows-channel s v h me (edit.OverwriteSet channel id kind allow deny) well after is_open ok own asks has =
-    let known = known-first s channel (unknown_target s id kind ∷ without_room (find_id channel_id channel s.channels) id kind ∷ []) ok in
-    follows-overwrites s v h me well asks channel (with_overwrite kind (record { id = id; allow = allow; deny = deny })) known.0 (λ c. refl) known.1 after (λ c. refl) has
-follows-channel s v h me (edit.OverwriteDelete channel id kind) well after is_open ok own asks has =
-    let known = known-first s channel (unknown_overwrite (find_id channel_id channel s.channels) id kind ∷ []) ok in
-    follows-overwrites s v h me well asks channel (without_overwrite kind id) known.0 (λ c. refl) known.1 after (λ c. refl) has
+follows-channel s v h me (edit.OverwriteSet e) well after is_open ok own asks has =
+    let known = known-first s e.channel (unknown_target s e.id e.kind ∷ without_room (find_id channel_id e.channel s.channels) e.id e.kind ∷ []) ok in
+    follows-overwrites s v h me well asks e.channel (with_overwrite e.kind (overwrite_of e)) known.0 (λ c. refl) known.1 after (λ c. refl) has
+follows-channel s v h me (edit.OverwriteDelete e) well after is_open ok own asks has =
+    let known = known-first s e.channel (unknown_overwrite (find_id channel_id e.channel s.channels) e.id e.kind ∷ []) ok in
+    follows-overwrites s v h me well asks e.channel (without_overwrite e.kind e.id) known.0 (λ c. refl) known.1 after (λ c. refl) has
 
 -- ---- each dispatch is of the guild
 
@@ -189,24 +188,29 @@ module _ (s : Record) (v : Viewer) where
   each-of f of [] = All-nil (IsOf s.id)
   each-of f of (x ∷ xs) = append-of s.id (f x) (flat_map f xs) (of x) (each-of f of xs)
 
-  deleted-of : (o : Option ChannelEnd) → All (IsOf s.id) (deleted s v o)
-  deleted-of None = All-nil (IsOf s.id)
-  deleted-of (Some end) =
+  deleted-of : (note : ChannelNote) → All (IsOf s.id) (deleted s v note)
+  deleted-of Nothing = All-nil (IsOf s.id)
+  deleted-of (Seen was) = All-nil (IsOf s.id)
+  deleted-of (Leaving end) =
       append-of s.id (flat_map (voice_ends s.id v) end.voices) (flat_map (updated s v) end.children ++ gone s v end.channel)
-      (each-of (voice_ends s.id v) (λ x. asked-of s.id v false (VoiceStateUpdate s.id (voice_end x)) refl) end.voices)
+      (each-of (voice_ends s.id v) (λ x. asked-of s.id v false (ended s x) refl) end.voices)
       (append-of s.id (flat_map (updated s v) end.children) (gone s v end.channel) (each-of (updated s v) updated-of end.children) (asked-of s.id v false (ChannelDelete (channel_object s.id end.channel)) refl))
 
-  synced-of : (was : Option Seen) (me : Member) (channel : ℕ) → All (IsOf s.id) (synced_in s v was me channel)
-  synced-of None me channel = All-nil (IsOf s.id)
-  synced-of (Some was) me channel = by_parents (gained_in was s me channel)
+  synced-of : (note : ChannelNote) (me : Member) (channel : ℕ) → All (IsOf s.id) (synced_in s v note me channel)
+  synced-of Nothing me channel = All-nil (IsOf s.id)
+  synced-of (Leaving end) me channel = All-nil (IsOf s.id)
+  synced-of (Seen was) me channel = by_parents (gained_in was s me channel)
     where
       by_parents : (ps : List ℕ) → All (IsOf s.id) (told_if v (sync_if_any s me ps))
       by_parents [] = All-nil (IsOf s.id)
       by_parents (p ∷ ps) = asked-of s.id v false (sync_of s me (p ∷ ps)) refl
 
+  rights-of : (note : ChannelNote) (me : Member) (channel : ℕ) → All (IsOf s.id) (rights_changed s v note me channel)
+  rights-of note me channel = append-of s.id (updated s v channel) (synced_in s v note me channel) (updated-of channel) (synced-of note me channel)
+
   pub row-of : (note : ChannelNote) (me : Member) (e : ChannelEdit) → All (IsOf s.id) (channel_row note s v me e)
-  row-of note me (edit.ChannelCreate channel kind name parent position sync) = told-of ChannelCreate (λ c. refl) (find_id channel_id channel s.channels)
-  row-of note me (edit.ChannelUpdate channel name parent position) = updated-of channel
-  row-of note me (edit.ChannelDelete channel) = deleted-of note.end
-  row-of note me (edit.OverwriteSet channel id kind allow deny) = append-of s.id (updated s v channel) (synced_in s v note.seen me channel) (updated-of channel) (synced-of note.seen me channel)
-  row-of note me (edit.OverwriteDelete channel id kind) = append-of s.id (updated s v channel) (synced_in s v note.seen me channel) (updated-of channel) (synced-of note.seen me channel)
+  row-of note me (edit.ChannelCreate e) = told-of ChannelCreate (λ c. refl) (find_id channel_id e.channel s.channels)
+  row-of note me (edit.ChannelUpdate e) = updated-of e.channel
+  row-of note me (edit.ChannelDelete channel) = deleted-of note
+  row-of note me (edit.OverwriteSet e) = rights-of note me e.channel
+  row-of note me (edit.OverwriteDelete e) = rights-of note me e.channel

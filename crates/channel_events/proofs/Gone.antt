@@ -1,4 +1,4 @@
--- A channel that goes, with the voice states in it, and what a client then holds: one dispatch after
+-- A channel that is deleted, with the voice states in it, and what a client then holds: one dispatch after
 -- another, over the records between.
 use Rattle.std.proofs.Common.{◌≡◌, ℕ, Bool, true, false, not, List, [], ◌∷◌, ◌++◌, map, Option, Some, None, if◌then◌else◌, refl, sym, ap, subst, ◌∙◌, arith}
 use Rattle.std.specs.Prelude.{◌==◌, filter, flat_map, is_some, option_map}
@@ -26,13 +26,14 @@ use Rattle.dispatch_types.specs.declared.dispatch.Dispatch.TheVariants.{ChannelU
 use Rattle.dispatch_types.specs.Objects.{channel_object}
 use Rattle.dispatch_types.specs.Projection.{thread_view, open_view}
 use Rattle.dispatch_types.specs.Fold.{Held, drop_channel, fold_from}
+use Rattle.dispatch_types.proofs.Folds.{folded-here}
 use Rattle.thread_sync.specs.Sight.{KeepsGrants}
 use Rattle.thread_sync.proofs.Grants.{overwrites_in, granted-channels}
 use Rattle.thread_sync.proofs.Sights.{same-sight, channel-gone}
 use Rattle.event_views.specs.Has.{Has}
-use Rattle.event_views.proofs.Steps.{whole, by_guilds, fold-append}
-use Rattle.event_views.proofs.Told.{same, told-channel_delete}
+use Rattle.event_views.proofs.Steps.{same, whole, by_guilds, fold-append}
 use Rattle.event_views.proofs.Voices.{follows-voice_gone}
+use Rattle.channel_events.specs.declared.ends.ChannelNote.TheVariants.{Leaving}
 use Rattle.channel_events.specs.Ends.{speaks_in, is_child, voices_in, children_of, end_of}
 use Rattle.channel_events.specs.Rows.{told_of, updated, gone, deleted}
 use Rattle.event_views.specs.Ended.{voice_ends}
@@ -208,11 +209,11 @@ module _ (s : Record) (channel : ℕ) (ascends : IsAscending s) where
 -- ---- the channel itself
 
 pub follows-gone : (s : Record) (v : Viewer) (h : Held) (me : Member) (c : Channel) → IsAscending s → has_bit v.intents guilds ≡ true
-    → Has s v me h → Has (channel_deleted s c.id) v me (fold_from v.intents s.id h (deleted (channel_deleted s c.id) v (Some (end_of s c))))
+    → Has s v me h → Has (channel_deleted s c.id) v me (fold_from v.intents s.id h (deleted (channel_deleted s c.id) v (Leaving (end_of s c))))
 follows-gone s v h me c ascends asks has =
     subst (λ (k : Held). Has t v me k) (sym (fold-append v.intents s.id h silenced (orphans ++ gone t v c) ∙ fold-append v.intents s.id told_left orphans (gone t v c)))
     (by_guilds t v s.id told_orphans me false (ChannelDelete (channel_object s.id c)) asks refl
-    (whole (with_channels quiet_now cs) t v told_orphans me me (ChannelDelete (channel_object s.id c)) (drop_channel c.id) same refl (told-channel_delete v.intents s.id told_orphans (channel_object s.id c) refl) turns without_children.1))
+    (whole (with_channels quiet_now cs) t v told_orphans me me (ChannelDelete (channel_object s.id c)) (drop_channel c.id) same refl (folded-here v.intents s.id told_orphans (ChannelDelete (channel_object s.id c)) refl refl) turns without_children.1))
   where
     t : Record
     t = channel_deleted s c.id

@@ -1,4 +1,4 @@
--- A channel that comes or changes, and what a client then holds.
+-- A channel that is created or changed, and what a client then holds.
 use Rattle.std.proofs.Common.{◌≡◌, ℕ, true, false, List, map, refl, sym, ap, ◌∙◌}
 use Rattle.collections.specs.ById.{put_id, IsById}
 use Rattle.perm_bits.specs.Bits.{has_bit}
@@ -14,12 +14,12 @@ use Rattle.dispatch_types.specs.Objects.{channel_object}
 use Rattle.dispatch_types.specs.Projection.{thread_view, open_view}
 use Rattle.dispatch_types.specs.Fold.{Held, set_channel, fold_from}
 use Rattle.dispatch_types.proofs.Objects.{channel-back}
+use Rattle.dispatch_types.proofs.Folds.{folded-here}
 use Rattle.thread_sync.specs.Sight.{KeepsGrants}
 use Rattle.thread_sync.proofs.Sights.{same-sight}
 use Rattle.event_views.specs.Asked.{asked}
 use Rattle.event_views.specs.Has.{Has}
-use Rattle.event_views.proofs.Steps.{whole, by_guilds}
-use Rattle.event_views.proofs.Told.{same, told-channel_create, told-channel_update}
+use Rattle.event_views.proofs.Steps.{same, whole, by_guilds}
 
 -- the record with these channels
 abbrev pub with_channels : Record → List Channel → Record
@@ -43,9 +43,9 @@ module _ (s : Record) (v : Viewer) (h : Held) (me : Member) (c : Channel) (cs : 
     pub follows-channel_put : Has s v me h → Has (with_channels s cs) v me (fold_from v.intents s.id h (asked v false (ChannelCreate (channel_object s.id c))))
     follows-channel_put has =
         by_guilds (with_channels s cs) v s.id h me false (ChannelCreate (channel_object s.id c)) asks refl
-        (whole s (with_channels s cs) v h me me (ChannelCreate (channel_object s.id c)) (set_channel (channel_object s.id c)) same refl (told-channel_create v.intents s.id h (channel_object s.id c) refl) turns has)
+        (whole s (with_channels s cs) v h me me (ChannelCreate (channel_object s.id c)) (set_channel (channel_object s.id c)) same refl (folded-here v.intents s.id h (ChannelCreate (channel_object s.id c)) refl refl) turns has)
 
     pub follows-channel_changed : Has s v me h → Has (with_channels s cs) v me (fold_from v.intents s.id h (asked v false (ChannelUpdate (channel_object s.id c))))
     follows-channel_changed has =
         by_guilds (with_channels s cs) v s.id h me false (ChannelUpdate (channel_object s.id c)) asks refl
-        (whole s (with_channels s cs) v h me me (ChannelUpdate (channel_object s.id c)) (set_channel (channel_object s.id c)) same refl (told-channel_update v.intents s.id h (channel_object s.id c) refl) turns has)
+        (whole s (with_channels s cs) v h me me (ChannelUpdate (channel_object s.id c)) (set_channel (channel_object s.id c)) same refl (folded-here v.intents s.id h (ChannelUpdate (channel_object s.id c)) refl refl) turns has)

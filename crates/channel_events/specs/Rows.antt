@@ -14,12 +14,11 @@ use Rattle.dispatch_types.specs.declared.channels.ChannelObject.{ChannelObject}
 use Rattle.dispatch_types.specs.declared.dispatch.Dispatch.{Dispatch}
 use Rattle.dispatch_types.specs.declared.dispatch.Dispatch.TheVariants.{ChannelCreate, ChannelUpdate, ChannelDelete}
 use Rattle.dispatch_types.specs.Objects.{channel_object}
-use Rattle.thread_sync.specs.declared.seen.Seen.{Seen}
 use Rattle.thread_sync.specs.InChannel.{sync_in}
 use Rattle.event_views.specs.Asked.{asked, told_if}
 use Rattle.event_views.specs.Ended.{voice_ends}
-use Rattle.channel_events.specs.declared.ends.ChannelEnd.{ChannelEnd}
 use Rattle.channel_events.specs.declared.ends.ChannelNote.{ChannelNote}
+use Rattle.channel_events.specs.declared.ends.ChannelNote.TheVariants.{Nothing, Seen, Leaving}
 
 -- `s` is the record after the edit
 module _ (s : Record) (v : Viewer) where
@@ -39,23 +38,26 @@ module _ (s : Record) (v : Viewer) where
   gone c = asked v false (ChannelDelete (channel_object s.id c))
 
   -- before it of the users that were in the channel, and of its children, which have no parent now
-  abbrev pub deleted : Option ChannelEnd → List Dispatch
-  deleted None = []
-  deleted (Some end) = flat_map (voice_ends s.id v) end.voices ++ (flat_map updated end.children ++ gone end.channel)
+  abbrev pub deleted : ChannelNote → List Dispatch
+  deleted (Leaving end) =
+      flat_map (voice_ends s.id v) end.voices ++ (flat_map updated end.children ++ gone end.channel)
+  deleted (Seen was) = []
+  deleted Nothing = []
 
   -- THREAD_LIST_SYNC after a change of a channel's overwrites, by what the viewer saw of the channel
-  abbrev pub synced_in : Option Seen → Member → ℕ → List Dispatch
-  synced_in None me channel = []
-  synced_in (Some was) me channel = told_if v (sync_in was s me channel)
+  abbrev pub synced_in : ChannelNote → Member → ℕ → List Dispatch
+  synced_in (Seen was) me channel = told_if v (sync_in was s me channel)
+  synced_in (Leaving end) me channel = []
+  synced_in Nothing me channel = []
 
   -- after a change of overwrites: the channel, then the sync where one is due
-  abbrev pub rights_changed : Option Seen → Member → ℕ → List Dispatch
-  rights_changed seen me channel = updated channel ++ synced_in seen me channel
+  abbrev pub rights_changed : ChannelNote → Member → ℕ → List Dispatch
+  rights_changed note me channel = updated channel ++ synced_in note me channel
 
 -- `me` is the viewer's own member after the edit
 abbrev pub channel_row : ChannelNote → Record → Viewer → Member → ChannelEdit → List Dispatch
-channel_row note s v me (edit.ChannelCreate channel kind name parent position sync) = created s v channel
-channel_row note s v me (edit.ChannelUpdate channel name parent position) = updated s v channel
-channel_row note s v me (edit.ChannelDelete channel) = deleted s v note.end
-channel_row note s v me (edit.OverwriteSet channel id kind allow deny) = rights_changed s v note.seen me channel
-channel_row note s v me (edit.OverwriteDelete channel id kind) = rights_changed s v note.seen me channel
+channel_row note s v me (edit.ChannelCreate e) = created s v e.channel
+channel_row note s v me (edit.ChannelUpdate e) = updated s v e.channel
+channel_row note s v me (edit.ChannelDelete channel) = deleted s v note
+channel_row note s v me (edit.OverwriteSet e) = rights_changed s v note me e.channel
+channel_row note s v me (edit.OverwriteDelete e) = rights_changed s v note me e.channel

@@ -1,8 +1,9 @@
-//! What has to be known of the record before an edit, to say what it owes.
+//! What has to be known of the record before an edit of channels or overwrites.
 
 ghost use Rattle.std.specs.Prelude.{◌≡◌, IfOk, map, filter};
+ghost use Rattle.collections.specs.ById.{find_id};
 ghost use Rattle.guild_model.specs.Record.{channel_id};
-ghost use Rattle.channel_events.specs.Ends.{speaks_in, is_child, end_of, channel_end, before_overwrites, channel_note};
+ghost use Rattle.channel_events.specs.Ends.{speaks_in, is_child, end_of, before_end, before_overwrites, channel_note};
 
 use channel_edit::ChannelEdit;
 use collections::{Duplicate, Seq};
@@ -11,7 +12,7 @@ use snowflake_id::Snowflake;
 use std::alloc::{AllocError, Global};
 use thread_sync::{Seen, visible_in};
 
-/// A channel that goes.
+/// A channel that is deleted.
 #[derive(Drop)]
 pub struct ChannelEnd {
     /// The channel as it was.
@@ -24,11 +25,13 @@ pub struct ChannelEnd {
 
 /// What [`row`](crate::row) has to know of the record before an edit.
 #[derive(Drop)]
-pub struct ChannelNote {
-    /// What the viewer saw of the channel and its threads, for the edits of overwrites alone.
-    pub seen: Option<Seen>,
-    /// The channel that goes, for `channel_delete` alone.
-    pub end: Option<ChannelEnd>,
+pub enum ChannelNote {
+    /// Nothing: no channel is deleted, and no overwrites change.
+    Nothing,
+    /// What the viewer saw of the channel whose overwrites change, and of its threads.
+    Seen(Seen),
+    /// The channel that is deleted.
+    Leaving(ChannelEnd),
 }
 
 fn voices_in(alloc: Global, voices: &[Voice], channel: Snowflake) -> Result<Vec<Voice>, AllocError>
@@ -67,16 +70,13 @@ fn end_of(alloc: Global, before: &Guild, channel: &Channel) -> Result<ChannelEnd
     })
 }
 
-fn channel_end(
-    alloc: Global,
-    before: &Guild,
-    channel: Snowflake,
-) -> Result<Option<ChannelEnd>, AllocError>
-    ensures { IfOk result (λ end. end ≡ channel_end before.now channel) }
+fn before_end(alloc: Global, before: &Guild, channel: Snowflake) -> Result<ChannelNote, AllocError>
+    ensures { IfOk result (λ note. note
+        ≡ before_end before.now (find_id channel_id channel before.now.channels)) }
 {
     match before.channel(channel) {
-        Some(found) => Ok(Some(end_of(alloc, before, found)?)),
-        None => Ok(None),
+        Some(found) => Ok(ChannelNote::Leaving(end_of(alloc, before, found)?)),
+        None => Ok(ChannelNote::Nothing),
     }
 }
 
@@ -88,10 +88,8 @@ fn before_overwrites(
 ) -> Result<ChannelNote, AllocError>
     ensures { IfOk result (λ note. note ≡ before_overwrites before.now me.now channel) }
 {
-    Ok(ChannelNote {
-        seen: Some(visible_in(alloc, before, me, channel)?),
-        end: None,
-    })
+    let seen = visible_in(alloc, before, me, channel)?;
+    Ok(ChannelNote::Seen(seen))
 }
 
 /// Keeps what [`row`](crate::row) has to know of the record before an edit, where the viewer's own
@@ -105,17 +103,9 @@ pub fn note(
     ensures { IfOk result (λ note. note ≡ channel_note before.now me.now edit.now) }
 {
     match edit {
-        ChannelEdit::ChannelCreate { .. } | ChannelEdit::ChannelUpdate { .. } => Ok(ChannelNote {
-            seen: None,
-            end: None,
-        }),
-        ChannelEdit::ChannelDelete { channel } => Ok(ChannelNote {
-            seen: None,
-            end: channel_end(alloc, before, *channel)?,
-        }),
-        ChannelEdit::OverwriteSet { channel, .. } => before_overwrites(alloc, before, me, *channel),
-        ChannelEdit::OverwriteDelete { channel, .. } => {
-            before_overwrites(alloc, before, me, *channel)
-        }
+        ChannelEdit::ChannelCreate(_) | ChannelEdit::ChannelUpdate(_) => Ok(ChannelNote::Nothing),
+        ChannelEdit::ChannelDelete { channel } => before_end(alloc, before, *channel),
+        ChannelEdit::OverwriteSet(edit) => before_overwrites(alloc, before, me, edit.channel),
+        ChannelEdit::OverwriteDelete(edit) => before_overwrites(alloc, before, me, edit.channel),
     }
 }

@@ -1,3 +1,5 @@
+//! The law of the edits of channels.
+
 ghost use Rattle.channel_events.specs.Law.{ChannelEditKeeps};
 
 /// After what an accepted edit owes, a client of a viewer that is served before and after it holds the

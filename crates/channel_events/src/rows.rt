@@ -1,197 +1,183 @@
 //! What an edit of channels or overwrites owes to a viewer that is served before and after it (Gateway
 //! Events, Channels; Voice).
 
-ghost use Rattle.std.specs.Prelude.{◌≡◌, ◌++◌, OnOk, IfOk, flat_map};
+ghost use Rattle.std.specs.Prelude.{◌≡◌, ◌++◌, OnOk, flat_map};
 ghost use Rattle.event_views.specs.Ended.{voice_ends};
 ghost use Rattle.channel_events.specs.Rows.{created, updated, gone, deleted, synced_in, rights_changed, channel_row};
 
-use crate::ends::{ChannelEnd, ChannelNote};
+use crate::ends::ChannelNote;
 use channel_edit::ChannelEdit;
-use dispatch_types::{ChannelObject, Dispatch, Viewer};
-use event_views::add_voice_end;
-use guild_model::{Channel, Guild, Member, Voice};
+use dispatch_types::{ChannelObject, Dispatch};
+use event_views::{Recipient, add_voice_end};
+use guild_model::{Channel, Voice};
 use intent_set::Kind;
 use snowflake_id::Snowflake;
 use std::alloc::{AllocError, Global};
-use thread_sync::{Seen, sync_in};
+use thread_sync::sync_in;
 
-// CHANNEL_CREATE of a channel.
+// Adds CHANNEL_CREATE of a channel.
 fn add_created(
     alloc: Global,
-    after: &Guild,
-    viewer: &Viewer,
+    to: &Recipient<'_>,
     channel: Snowflake,
     list: &mut Vec<Dispatch>,
 ) -> Result<(), AllocError>
-    ensures { OnOk result (list.new.items ≡ list.old.items ++ created after.now viewer.now channel) }
+    ensures { OnOk result (list.new.items
+        ≡ list.old.items ++ created to.now.after to.now.viewer channel) }
 {
-    if !viewer.intents.asks(Kind::ChannelCreate, false) {
+    if !to.asks(Kind::ChannelCreate, false) {
         return Ok(());
     }
-    if let Some(found) = after.channel(channel) {
-        let object = ChannelObject::of(alloc, after.id, found)?;
+    if let Some(found) = to.after.channel(channel) {
+        let object = ChannelObject::of(alloc, to.guild(), found)?;
         list.push(Dispatch::ChannelCreate(object))?;
     }
     Ok(())
 }
 
-// CHANNEL_UPDATE of a channel.
+// Adds CHANNEL_UPDATE of a channel.
 fn add_updated(
     alloc: Global,
-    after: &Guild,
-    viewer: &Viewer,
+    to: &Recipient<'_>,
     channel: Snowflake,
     list: &mut Vec<Dispatch>,
 ) -> Result<(), AllocError>
-    ensures { OnOk result (list.new.items ≡ list.old.items ++ updated after.now viewer.now channel) }
+    ensures { OnOk result (list.new.items
+        ≡ list.old.items ++ updated to.now.after to.now.viewer channel) }
 {
-    if !viewer.intents.asks(Kind::ChannelUpdate, false) {
+    if !to.asks(Kind::ChannelUpdate, false) {
         return Ok(());
     }
-    if let Some(found) = after.channel(channel) {
-        let object = ChannelObject::of(alloc, after.id, found)?;
+    if let Some(found) = to.after.channel(channel) {
+        let object = ChannelObject::of(alloc, to.guild(), found)?;
         list.push(Dispatch::ChannelUpdate(object))?;
     }
     Ok(())
 }
 
-// VOICE_STATE_UPDATE of each user that is in voice no longer.
+// Adds VOICE_STATE_UPDATE of each user that was in voice in a channel.
 fn add_each_left(
-    after: &Guild,
-    viewer: &Viewer,
+    to: &Recipient<'_>,
     voices: &[Voice],
     list: &mut Vec<Dispatch>,
 ) -> Result<(), AllocError>
-    ensures { OnOk result (list.new.items ≡ list.old.items ++ flat_map (voice_ends after.now.id viewer.now) voices.now) }
+    ensures { OnOk result (list.new.items
+        ≡ list.old.items ++ flat_map (voice_ends to.now.after.id to.now.viewer) voices.now) }
 {
     for voice in voices {
-        add_voice_end(after.id, viewer, voice, list)?;
+        add_voice_end(to, voice, list)?;
     }
     Ok(())
 }
 
+// Adds CHANNEL_UPDATE of each of these channels.
 fn add_each_updated(
     alloc: Global,
-    after: &Guild,
-    viewer: &Viewer,
+    to: &Recipient<'_>,
     channels: &[Snowflake],
     list: &mut Vec<Dispatch>,
 ) -> Result<(), AllocError>
-    ensures { OnOk result (list.new.items ≡ list.old.items ++ flat_map (updated after.now viewer.now) channels.now) }
+    ensures { OnOk result (list.new.items
+        ≡ list.old.items ++ flat_map (updated to.now.after to.now.viewer) channels.now) }
 {
     for channel in channels {
-        add_updated(alloc, after, viewer, *channel, list)?;
+        add_updated(alloc, to, *channel, list)?;
     }
     Ok(())
 }
 
-// CHANNEL_DELETE of a channel as it was.
+// Adds CHANNEL_DELETE of a channel as it was.
 fn add_gone(
     alloc: Global,
-    after: &Guild,
-    viewer: &Viewer,
+    to: &Recipient<'_>,
     channel: &Channel,
     list: &mut Vec<Dispatch>,
 ) -> Result<(), AllocError>
-    ensures { OnOk result (list.new.items ≡ list.old.items ++ gone after.now viewer.now channel.now) }
+    ensures { OnOk result (list.new.items
+        ≡ list.old.items ++ gone to.now.after to.now.viewer channel.now) }
 {
-    if !viewer.intents.asks(Kind::ChannelDelete, false) {
+    if !to.asks(Kind::ChannelDelete, false) {
         return Ok(());
     }
-    let object = ChannelObject::of(alloc, after.id, channel)?;
+    let object = ChannelObject::of(alloc, to.guild(), channel)?;
     list.push(Dispatch::ChannelDelete(object))?;
     Ok(())
 }
 
-// The end of a channel: the voice states in it, its children, and the channel itself.
+// Adds the end of a channel: of the voice states in it, of its children, and of the channel itself.
 fn add_deleted(
     alloc: Global,
-    after: &Guild,
-    viewer: &Viewer,
-    end: &Option<ChannelEnd>,
+    note: &ChannelNote,
+    to: &Recipient<'_>,
     list: &mut Vec<Dispatch>,
 ) -> Result<(), AllocError>
-    ensures { OnOk result (list.new.items ≡ list.old.items ++ deleted after.now viewer.now end.now) }
+    ensures { OnOk result (list.new.items
+        ≡ list.old.items ++ deleted to.now.after to.now.viewer note.now) }
 {
-    if let Some(end) = end {
-        add_each_left(after, viewer, end.voices.as_slice(), list)?;
-        add_each_updated(alloc, after, viewer, end.children.as_slice(), list)?;
-        add_gone(alloc, after, viewer, &end.channel, list)?;
+    if let ChannelNote::Leaving(end) = note {
+        add_each_left(to, end.voices.as_slice(), list)?;
+        add_each_updated(alloc, to, end.children.as_slice(), list)?;
+        add_gone(alloc, to, &end.channel, list)?;
     }
     Ok(())
 }
 
-// What a change of a channel's overwrites uncovers, by what the viewer saw of the channel.
+// Adds THREAD_LIST_SYNC of what a change of a channel's overwrites uncovers.
 fn add_synced_in(
     alloc: Global,
-    seen: &Option<Seen>,
-    after: &Guild,
-    viewer: &Viewer,
-    me: &Member,
+    note: &ChannelNote,
+    to: &Recipient<'_>,
     channel: Snowflake,
     list: &mut Vec<Dispatch>,
 ) -> Result<(), AllocError>
-    ensures { OnOk result (list.new.items ≡ list.old.items ++ synced_in after.now viewer.now seen.now me.now channel) }
+    ensures { OnOk result (list.new.items
+        ≡ list.old.items ++ synced_in to.now.after to.now.viewer note.now to.now.me channel) }
 {
-    let Some(was) = seen else {
+    let ChannelNote::Seen(was) = note else {
         return Ok(());
     };
-    if !viewer.intents.asks(Kind::ThreadListSync, false) {
+    if !to.asks(Kind::ThreadListSync, false) {
         return Ok(());
     }
-    if let Some(gains) = sync_in(alloc, was, after, me, channel)? {
+    if let Some(gains) = sync_in(alloc, was, to.after, to.me, channel)? {
         list.push(gains)?;
     }
     Ok(())
 }
 
-// A change of overwrites: the channel, then what it uncovers.
+// Adds a change of overwrites: the channel, and then what the change uncovers.
 fn add_rights(
     alloc: Global,
-    seen: &Option<Seen>,
-    after: &Guild,
-    viewer: &Viewer,
-    me: &Member,
+    note: &ChannelNote,
+    to: &Recipient<'_>,
     channel: Snowflake,
     list: &mut Vec<Dispatch>,
 ) -> Result<(), AllocError>
-    ensures { OnOk result (list.new.items ≡ list.old.items ++ rights_changed after.now viewer.now seen.now me.now channel) }
+    ensures { OnOk result (list.new.items
+        ≡ list.old.items ++ rights_changed to.now.after to.now.viewer note.now to.now.me channel) }
 {
-    add_updated(alloc, after, viewer, channel, list)?;
-    add_synced_in(alloc, seen, after, viewer, me, channel, list)?;
+    add_updated(alloc, to, channel, list)?;
+    add_synced_in(alloc, note, to, channel, list)?;
     Ok(())
 }
 
-/// What an accepted edit owes, by the record after it and what [`note`](crate::note) kept, to a viewer
-/// whose own member is then `me`. Each dispatch only where the viewer's intents ask for it (Gateway,
-/// Gateway Intents).
+/// Adds what an accepted edit owes to a viewer, by what [`note`](crate::note) kept: each dispatch only
+/// where the viewer's intents ask for it (Gateway, Gateway Intents).
 pub fn row(
     alloc: Global,
     note: &ChannelNote,
-    after: &Guild,
-    viewer: &Viewer,
-    me: &Member,
+    to: &Recipient<'_>,
     edit: &ChannelEdit,
-) -> Result<Vec<Dispatch>, AllocError>
-    ensures { IfOk result (λ list. list.items ≡ channel_row note.now after.now viewer.now me.now edit.now) }
+    list: &mut Vec<Dispatch>,
+) -> Result<(), AllocError>
+    ensures { OnOk result (list.new.items
+        ≡ list.old.items ++ channel_row note.now to.now.after to.now.viewer to.now.me edit.now) }
 {
-    let mut list = Vec::new(alloc);
     match edit {
-        ChannelEdit::ChannelCreate { channel, .. } => {
-            add_created(alloc, after, viewer, *channel, &mut list)?;
-        }
-        ChannelEdit::ChannelUpdate { channel, .. } => {
-            add_updated(alloc, after, viewer, *channel, &mut list)?;
-        }
-        ChannelEdit::ChannelDelete { .. } => {
-            add_deleted(alloc, after, viewer, &note.end, &mut list)?;
-        }
-        ChannelEdit::OverwriteSet { channel, .. } => {
-            add_rights(alloc, &note.seen, after, viewer, me, *channel, &mut list)?;
-        }
-        ChannelEdit::OverwriteDelete { channel, .. } => {
-            add_rights(alloc, &note.seen, after, viewer, me, *channel, &mut list)?;
-        }
+        ChannelEdit::ChannelCreate(edit) => add_created(alloc, to, edit.channel, list),
+        ChannelEdit::ChannelUpdate(edit) => add_updated(alloc, to, edit.channel, list),
+        ChannelEdit::ChannelDelete { .. } => add_deleted(alloc, note, to, list),
+        ChannelEdit::OverwriteSet(edit) => add_rights(alloc, note, to, edit.channel, list),
+        ChannelEdit::OverwriteDelete(edit) => add_rights(alloc, note, to, edit.channel, list),
     }
-    Ok(list)
 }

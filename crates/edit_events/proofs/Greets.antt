@@ -21,7 +21,8 @@ use Rattle.dispatch_types.specs.declared.dispatch.Dispatch.TheVariants.{GuildCre
 use Rattle.dispatch_types.specs.Serves.{in_shard, served}
 use Rattle.dispatch_types.specs.Objects.{channel_of, member_object, member_of, thread_object, voice_of, presence_of}
 use Rattle.dispatch_types.specs.Projection.{told, listed, thread_view, seen_threads, is_known, open_view, projection}
-use Rattle.dispatch_types.specs.Fold.{Held, thread_view_id, user_id, own_member, thread_of, joined_thread, created, created_view, on_open, begun, purged, purge, folded}
+use Rattle.dispatch_types.specs.Fold.{Held, thread_view_id, user_id, own_member, thread_of, joined_thread, created, created_view, on_open, purged, folded}
+use Rattle.dispatch_types.proofs.Folds.{folded-here}
 use Rattle.dispatch_types.proofs.Objects.{channels-back, member-back, members-back, voices-back, presences-back}
 use Rattle.dispatch_types.proofs.Views.{purged-open, projection-open}
 use Rattle.event_views.proofs.Lists.{listed-same}
@@ -149,8 +150,7 @@ module _ (s : Record) (v : Viewer) (me : Member) (ascends : IsAscending s) (foun
 
   -- what a client then holds
   folded-greeting : (h : Held) → folded v.intents s.id h (GuildCreate (greeting s v me)) ≡ record { bot = h.bot; view = on_open (purged v.intents s.id) (created_view v.intents h.bot (greeting s v me)); known = told_users }
-  unfolding folded
-  folded-greeting h = ap (λ b. purge v.intents s.id (begun b (created_view v.intents h.bot (greeting s v me)) told_users h)) (eq-eqb (greeting s v me).id s.id (greeting-id s v me))
+  folded-greeting h = folded-here v.intents s.id h (GuildCreate (greeting s v me)) (ap (λ id. Some id) (greeting-id s v me)) refl
 
   pub greets : (h : Held) → served v s ≡ Some me → s.outage ≡ false → has_bit v.intents guilds ≡ true → h.bot ≡ v.user → Agrees s v (folded v.intents s.id h (GuildCreate (greeting s v me)))
   greets h is_served available asks bot =

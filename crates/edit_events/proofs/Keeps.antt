@@ -1,5 +1,5 @@
 -- After what an edit owes, a client holds the projection of the record after it.
-use Rattle.std.proofs.Common.{◌≡◌, ℕ, Bool, true, false, List, [], ◌∷◌, ◌++◌, Option, Some, None, if◌then◌else◌, refl, sym, ap, subst, ◌∙◌, eq-eqb}
+use Rattle.std.proofs.Common.{◌≡◌, ℕ, Bool, true, false, List, [], ◌∷◌, ◌++◌, Option, Some, None, if◌then◌else◌, refl, sym, ap, subst, ◌∙◌}
 use Rattle.std.specs.Prelude.{◌&&◌, not, is_some}
 use Rattle.std.specs.Option.{is_none}
 use Rattle.collections.specs.ById.{find_id}
@@ -18,7 +18,8 @@ use Rattle.dispatch_types.specs.declared.dispatch.Dispatch.{Dispatch}
 use Rattle.dispatch_types.specs.declared.dispatch.Dispatch.TheVariants.{GuildCreate, GuildUpdate, GuildDelete}
 use Rattle.dispatch_types.specs.Serves.{in_shard, served}
 use Rattle.dispatch_types.specs.Projection.{open_view}
-use Rattle.dispatch_types.specs.Fold.{Held, if_unavailable, on_open, begun, purged, purge, folded, fold_from}
+use Rattle.dispatch_types.specs.Fold.{Held, if_unavailable, on_open, purged, folded, fold_from}
+use Rattle.dispatch_types.proofs.Folds.{folded-here}
 use Rattle.dispatch_types.proofs.Views.{projection-blind, projection-unserved, projection-open}
 use Rattle.edit_events.proofs.Out.{projection-out}
 use Rattle.guild_model.specs.Sight.{standing}
@@ -29,8 +30,7 @@ use Rattle.thread_sync.specs.BySights.{sync_by}
 use Rattle.thread_sync.proofs.Rights.{rights_sync_is_whole}
 use Rattle.event_views.specs.Asked.{asked, told_if}
 use Rattle.event_views.specs.Has.{Has}
-use Rattle.event_views.proofs.Steps.{whole, by_guilds, by_asked_then}
-use Rattle.event_views.proofs.Told.{same, told-guild}
+use Rattle.event_views.proofs.Steps.{same, whole, by_guilds, by_asked_then}
 use Rattle.event_views.proofs.Rights.{follows-rights}
 use Rattle.event_views.proofs.Blind.{IsBlind, blind-fold}
 use Rattle.guild_model.specs.declared.presence.Activity.{Activity}
@@ -53,6 +53,7 @@ use Rattle.thread_events.specs.Rows.{thread_row}
 use Rattle.thread_events.proofs.Follows.{follows-thread}
 use Rattle.voice_presence.specs.declared.VoicePresenceEdit.{VoicePresenceEdit}
 use Rattle.voice_presence.specs.declared.VoicePresenceEdit.TheVariants.{VoiceSet, PresenceSet}
+use Rattle.voice_presence.specs.Voices.{with_voice}
 use Rattle.voice_presence.specs.Presences.{with_activity}
 use Rattle.voice_presence.specs.VoicePresence.{voice_presence_verdict, voice_presence_applied}
 use Rattle.voice_presence_events.specs.Rows.{voice_presence_row}
@@ -61,6 +62,7 @@ use Rattle.message_edit.specs.MessageEdits.{message_verdict, message_applied}
 use Rattle.message_events.specs.Notes.{message_note}
 use Rattle.message_events.specs.Rows.{message_row}
 use Rattle.message_events.proofs.Follows.{message-here, message-served, follows-message}
+use Rattle.edit_apply.specs.declared.guild.GuildOpen.{GuildOpen as Opening}
 use Rattle.edit_apply.specs.declared.guild.GuildEdit.TheVariants.{GuildOpen, GuildRename, GuildOwner, GuildOutage, GuildBack}
 use Rattle.edit_apply.specs.declared.Edit.{Edit}
 use Rattle.edit_apply.specs.declared.Edit.TheVariants as edit
@@ -69,7 +71,7 @@ use Rattle.edit_apply.specs.Edits.{verdict, applied, after, after_verdict}
 use Rattle.edit_apply.proofs.Well.{keeps}
 use Rattle.edit_events.specs.Greeting.{greeting}
 use Rattle.edit_events.specs.Was.{note_of}
-use Rattle.edit_events.specs.Due.{guild_updated, row, due_to, due, owed}
+use Rattle.edit_events.specs.Due.{guild_gone, guild_updated, row, due_to, due, owed}
 use Rattle.edit_events.specs.Law.{Agrees, EditKeeps}
 use Rattle.edit_events.proofs.Greets.{greets, served-found}
 use Rattle.edit_events.proofs.Others.{id-kept, row-of}
@@ -105,23 +107,25 @@ comes t v h me ascends here bot none is = by_intents (has_bit v.intents guilds) 
     by_intents false lacks = blind-agrees t v h lacks (record { bot = bot; view = none lacks })
 
 -- the guild goes, or falls out
-folded-gone : (intents guild : ℕ) (h : Held) (unavailable : Bool) → folded intents guild h (GuildDelete guild unavailable) ≡ record { bot = h.bot; view = on_open (purged intents guild) (if_unavailable intents unavailable); known = [] }
-unfolding folded
-folded-gone intents guild h unavailable = ap (λ b. purge intents guild (begun b (if_unavailable intents unavailable) [] h)) (eq-eqb guild guild refl)
+abbrev delete : ℕ → Bool → Dispatch
+delete guild unavailable = GuildDelete (record { id = guild; unavailable = unavailable })
+
+folded-gone : (intents guild : ℕ) (h : Held) (unavailable : Bool) → folded intents guild h (delete guild unavailable) ≡ record { bot = h.bot; view = on_open (purged intents guild) (if_unavailable intents unavailable); known = [] }
+folded-gone intents guild h unavailable = folded-here intents guild h (delete guild unavailable) refl refl
 
 goes : (t : Record) (v : Viewer) (h : Held) → h.bot ≡ v.user → (has_bit v.intents guilds ≡ false → h.view ≡ None) → served v t ≡ None
-    → Agrees t v (fold_from v.intents t.id h (asked v false (GuildDelete t.id false)))
+    → Agrees t v (fold_from v.intents t.id h (guild_gone t.id v false))
 goes t v h bot none is = by_intents (has_bit v.intents guilds) refl
   where
-    by_intents : (b : Bool) → has_bit v.intents guilds ≡ b → Agrees t v (fold_from v.intents t.id h (if b then GuildDelete t.id false ∷ [] else []))
+    by_intents : (b : Bool) → has_bit v.intents guilds ≡ b → Agrees t v (fold_from v.intents t.id h (if b then delete t.id false ∷ [] else []))
     by_intents true asks = subst (λ (held : Held). Agrees t v held) (sym (folded-gone v.intents t.id h false)) (record { bot = bot; view = sym (projection-unserved t v [] is) })
     by_intents false lacks = blind-agrees t v h lacks (record { bot = bot; view = none lacks })
 
 falls-out : (t : Record) (v : Viewer) (h : Held) (me : Member) → h.bot ≡ v.user → (has_bit v.intents guilds ≡ false → h.view ≡ None) → served v t ≡ Some me → t.outage ≡ true
-    → Agrees t v (fold_from v.intents t.id h (asked v false (GuildDelete t.id true)))
+    → Agrees t v (fold_from v.intents t.id h (guild_gone t.id v true))
 falls-out t v h me bot none is out = by_intents (has_bit v.intents guilds) refl
   where
-    by_intents : (b : Bool) → has_bit v.intents guilds ≡ b → Agrees t v (fold_from v.intents t.id h (if b then GuildDelete t.id true ∷ [] else []))
+    by_intents : (b : Bool) → has_bit v.intents guilds ≡ b → Agrees t v (fold_from v.intents t.id h (if b then delete t.id true ∷ [] else []))
     by_intents true asks =
         let tells : on_open (purged v.intents t.id) (if_unavailable v.intents true) ≡ Some view.Unavailable = ap (λ b. on_open (purged v.intents t.id) (if b then Some view.Unavailable else None)) asks in
         subst (λ (held : Held). Agrees t v held) (sym (folded-gone v.intents t.id h true)) (record { bot = bot; view = tells ∙ sym (projection-out t v [] me asks is out) })
@@ -158,20 +162,20 @@ in_view s v h e well' here here' follows agrees = by_members (served v s) (serve
     by_members : (o o' : Option Member) → served v s ≡ o → served v (applied s e) ≡ o' → Agrees (applied s e) v (fold_from v.intents s.id h (due_to (applied s e) v (is_some o) (note_of s o e) o' e))
     by_members None None is is' = stays-away s (applied s e) v h is is' agrees
     by_members None (Some me') is is' = at_id (asked v false (GuildCreate (greeting (applied s e) v me'))) (comes (applied s e) v h me' well'.ascending here' agrees.bot blind is')
-    by_members (Some me) None is is' = at_id (asked v false (GuildDelete (applied s e).id false)) (goes (applied s e) v h agrees.bot blind is')
+    by_members (Some me) None is is' = at_id (guild_gone (applied s e).id v false) (goes (applied s e) v h agrees.bot blind is')
     by_members (Some me) (Some me') is is' = by_intents me me' is is' (has_bit v.intents guilds) refl
 
 -- ---- the edits of the guild itself
 
 -- a guild that opens has served nobody
-keeps-opened : (s : Record) (v : Viewer) (h : Held) (name : List ℕ) (owner : ℕ) (owner_name : List ℕ) (perms at : ℕ) → IsWell s
-    → IsWell (guild_opened s name owner owner_name perms at) → verdict s (edit.Guild (GuildOpen name owner owner_name perms at)) ≡ None → Agrees s v h
-    → Agrees (guild_opened s name owner owner_name perms at) v (fold_from v.intents s.id h (due s (edit.Guild (GuildOpen name owner owner_name perms at)) v))
-keeps-opened s v h name owner owner_name perms at well after ok agrees =
-    in_view s v h (edit.Guild (GuildOpen name owner owner_name perms at)) after here here (λ me me' is is' asks has. absurd (cc (shut-out, is))) agrees
+keeps-opened : (s : Record) (v : Viewer) (h : Held) (opening : Opening) → IsWell s
+    → IsWell (guild_opened s opening) → verdict s (edit.Guild (GuildOpen opening)) ≡ None → Agrees s v h
+    → Agrees (guild_opened s opening) v (fold_from v.intents s.id h (due s (edit.Guild (GuildOpen opening)) v))
+keeps-opened s v h opening well after ok agrees =
+    in_view s v h (edit.Guild (GuildOpen opening)) after here here (λ me me' is is' asks has. absurd (cc (shut-out, is))) agrees
   where
     shut : s.opened ≡ false
-    shut = not_refused s.opened AlreadyOpen (first_passes (refused_if s.opened AlreadyOpen) (too_long 100 name ∷ too_long 100 owner_name ∷ []) ok).0
+    shut = not_refused s.opened AlreadyOpen (first_passes (refused_if s.opened AlreadyOpen) (too_long 100 opening.name ∷ too_long 100 opening.owner_name ∷ []) ok).0
 
     here : s.outage ≡ false
     here = ap (λ (g : Record). g.outage) (well.consistent.empty shut)
@@ -182,18 +186,20 @@ keeps-opened s v h name owner owner_name perms at well after ok agrees =
 follows-renamed : (s : Record) (v : Viewer) (h : Held) (name : List ℕ) → Follows s v h (edit.Guild (GuildRename name))
 follows-renamed s v h name me me' is is' asks has =
     let mine : me ≡ me' = cc in
-    by_guilds (record s { name = name }) v s.id h me' false (GuildUpdate s.id name s.owner) asks refl
-    (whole s (record s { name = name }) v h me me' (GuildUpdate s.id name s.owner) (λ w. record w { name = name; owner = s.owner }) same refl (told-guild v.intents s.id h name s.owner)
+    let update : Dispatch = GuildUpdate (record { id = s.id; name = name; owner = s.owner }) in
+    by_guilds (record s { name = name }) v s.id h me' false update asks refl
+    (whole s (record s { name = name }) v h me me' update (λ w. record w { name = name; owner = s.owner }) same refl (folded-here v.intents s.id h update refl refl)
     (ap (λ (m : Member). open_view (record s { name = name }) v.intents h.known m) mine) has)
 
 follows-owner : (s : Record) (v : Viewer) (h : Held) (user : ℕ) → IsWell s → Follows s v h (edit.Guild (GuildOwner user))
 follows-owner s v h user well me me' is is' asks has =
     let t : Record = record s { owner = user } in
+    let update : Dispatch = GuildUpdate (record { id = s.id; name = s.name; owner = user }) in
     let mine : me ≡ me' = cc in
     subst (λ (m : Member). Has (record s { owner = user }) v m (fold_from v.intents s.id h (guild_updated (record s { owner = user }) v ++ told_if v (sync_by (sights (standing s me)) (record s { owner = user }) m)))) mine
     (subst (λ o. Has t v me (fold_from v.intents s.id h (guild_updated t v ++ told_if v o))) (sym (rights_sync_is_whole s t me me well.ascending refl))
-    (by_asked_then t v s.id h me false (GuildUpdate s.id s.name user) (told_if v (sync (visible_to s me) t me))
-    (λ e. follows-rights s t v h me me well (record { id = refl; channels = λ c. refl; threads = refl }) refl asks (GuildUpdate s.id s.name user) (λ w. record w { name = s.name; owner = user }) same (told-guild v.intents s.id h s.name user) refl has)
+    (by_asked_then t v s.id h me false update (told_if v (sync (visible_to s me) t me))
+    (λ e. follows-rights s t v h me me well (record { id = refl; channels = λ c. refl; threads = refl }) refl asks update (λ w. record w { name = s.name; owner = user }) same (folded-here v.intents s.id h update refl refl) refl has)
     (λ e. absurd (cc))))
 
 keeps-outage : (s : Record) (v : Viewer) (h : Held) → Agrees s v h → Agrees (record s { outage = true }) v (fold_from v.intents s.id h (due s (edit.Guild GuildOutage) v))
@@ -213,68 +219,74 @@ keeps-back s v h after agrees = by_member (served v s) refl
 -- ---- all edits
 
 voice_presence-here : (s : Record) (e : VoicePresenceEdit) → (voice_presence_applied s e).outage ≡ s.outage
-voice_presence-here s (VoiceSet user None mute deaf) = refl
-voice_presence-here s (VoiceSet user (Some channel) mute deaf) = refl
-voice_presence-here s (PresenceSet user status) = by_activity (status_activity status)
+voice_presence-here s (VoiceSet set) = by_channel set.channel
   where
-    by_activity : (a : Option Activity) → (with_activity s user a).outage ≡ s.outage
+    by_channel : (o : Option ℕ) → (with_voice s set o).outage ≡ s.outage
+    by_channel None = refl
+    by_channel (Some channel) = refl
+voice_presence-here s (PresenceSet set) = by_activity (status_activity set.status)
+  where
+    by_activity : (a : Option Activity) → (with_activity s set.user a).outage ≡ s.outage
     by_activity None = refl
     by_activity (Some a) = refl
 
 voice_presence-served : (s : Record) (e : VoicePresenceEdit) (v : Viewer) → served v (voice_presence_applied s e) ≡ served v s
-voice_presence-served s (VoiceSet user None mute deaf) v = refl
-voice_presence-served s (VoiceSet user (Some channel) mute deaf) v = refl
-voice_presence-served s (PresenceSet user status) v = by_activity (status_activity status)
+voice_presence-served s (VoiceSet set) v = by_channel set.channel
   where
-    by_activity : (a : Option Activity) → served v (with_activity s user a) ≡ served v s
+    by_channel : (o : Option ℕ) → served v (with_voice s set o) ≡ served v s
+    by_channel None = refl
+    by_channel (Some channel) = refl
+voice_presence-served s (PresenceSet set) v = by_activity (status_activity set.status)
+  where
+    by_activity : (a : Option Activity) → served v (with_activity s set.user a) ≡ served v s
     by_activity None = refl
     by_activity (Some a) = refl
 
 role_member-here : (s : Record) (e : RoleMemberEdit) → (role_member_applied s e).outage ≡ s.outage
-role_member-here s (RoleCreate role name perms position) = refl
-role_member-here s (RoleUpdate role name perms position) = refl
+role_member-here s (RoleCreate body) = refl
+role_member-here s (RoleUpdate body) = refl
 role_member-here s (RoleDelete role) = refl
-role_member-here s (MemberAdd user name bot at) = refl
+role_member-here s (MemberAdd add) = refl
 role_member-here s (MemberRemove user) = refl
-role_member-here s (MemberNick user nick) = refl
-role_member-here s (MemberTimeout user until) = refl
-role_member-here s (MemberRoleAdd user role) = refl
-role_member-here s (MemberRoleRemove user role) = refl
+role_member-here s (MemberNick nick) = refl
+role_member-here s (MemberTimeout timeout) = refl
+role_member-here s (MemberRoleAdd held) = refl
+role_member-here s (MemberRoleRemove held) = refl
 
 channel-here : (s : Record) (e : ChannelEdit) → (channel_applied s e).outage ≡ s.outage
-channel-here s (ChannelCreate channel kind name parent position sync) = refl
-channel-here s (ChannelUpdate channel name parent position) = refl
+channel-here s (ChannelCreate create) = refl
+channel-here s (ChannelUpdate update) = refl
 channel-here s (ChannelDelete channel) = refl
-channel-here s (OverwriteSet channel id kind allow deny) = refl
-channel-here s (OverwriteDelete channel id kind) = refl
+channel-here s (OverwriteSet set) = refl
+channel-here s (OverwriteDelete delete) = refl
 
 channel-served : (s : Record) (e : ChannelEdit) (v : Viewer) → served v (channel_applied s e) ≡ served v s
-channel-served s (ChannelCreate channel kind name parent position sync) v = refl
-channel-served s (ChannelUpdate channel name parent position) v = refl
+channel-served s (ChannelCreate create) v = refl
+channel-served s (ChannelUpdate update) v = refl
 channel-served s (ChannelDelete channel) v = refl
-channel-served s (OverwriteSet channel id kind allow deny) v = refl
-channel-served s (OverwriteDelete channel id kind) v = refl
+channel-served s (OverwriteSet set) v = refl
+channel-served s (OverwriteDelete delete) v = refl
 
 thread-here : (s : Record) (e : ThreadEdit) → (thread_applied s e).outage ≡ s.outage
-thread-here s (ThreadCreate thread parent kind name owner at) = refl
-thread-here s (ThreadRename thread name) = refl
+thread-here s (ThreadCreate create) = refl
+thread-here s (ThreadRename rename) = refl
 thread-here s (ThreadArchive thread) = refl
 thread-here s (ThreadUnarchive thread) = refl
 thread-here s (ThreadDelete thread) = refl
-thread-here s (ThreadJoin thread user at) = refl
-thread-here s (ThreadLeave thread user) = refl
+thread-here s (ThreadJoin join) = refl
+thread-here s (ThreadLeave leave) = refl
 
 thread-served : (s : Record) (e : ThreadEdit) (v : Viewer) → served v (thread_applied s e) ≡ served v s
-thread-served s (ThreadCreate thread parent kind name owner at) v = refl
-thread-served s (ThreadRename thread name) v = refl
+thread-served s (ThreadCreate create) v = refl
+thread-served s (ThreadRename rename) v = refl
 thread-served s (ThreadArchive thread) v = refl
 thread-served s (ThreadUnarchive thread) v = refl
 thread-served s (ThreadDelete thread) v = refl
-thread-served s (ThreadJoin thread user at) v = refl
-thread-served s (ThreadLeave thread user) v = refl
+thread-served s (ThreadJoin join) v = refl
+thread-served s (ThreadLeave leave) v = refl
 
 keeps-applied : (s : Record) (e : Edit) (v : Viewer) (h : Held) → IsWell s → IsWell (applied s e) → verdict s e ≡ None → Agrees s v h → Agrees (applied s e) v (fold_from v.intents s.id h (due s e v))
-keeps-applied s (edit.Guild (GuildOpen name owner owner_name perms at)) v h well after ok agrees = keeps-opened s v h name owner owner_name perms at well after ok agrees
+keeps-applied s (edit.Guild (GuildOpen opening)) v h well after ok agrees = keeps-opened s v h opening well after ok agrees
 keeps-applied s (edit.Guild (GuildRename name)) v h well after ok agrees =
     let here = in_service s (first_passes (out_of_service s) (too_long 100 name ∷ []) ok).0 in
     in_view s v h (edit.Guild (GuildRename name)) after here.1 here.1 (follows-renamed s v h name) agrees

@@ -14,7 +14,8 @@ use Rattle.dispatch_types.proofs.Folds.{folded-elsewhere, fold-elsewhere}
 use Rattle.channel_edit.specs.declared.ChannelEdit.TheVariants.{ChannelCreate, ChannelUpdate, ChannelDelete, OverwriteSet, OverwriteDelete}
 use Rattle.thread_edit.specs.declared.ThreadEdit.TheVariants.{ThreadCreate, ThreadRename, ThreadArchive, ThreadUnarchive, ThreadDelete, ThreadJoin, ThreadLeave}
 use Rattle.voice_presence.specs.declared.VoicePresenceEdit.TheVariants.{VoiceSet, PresenceSet}
-use Rattle.voice_presence.specs.Voices.{voice_was_set}
+use Rattle.voice_presence.specs.Voices.{with_voice}
+use Rattle.voice_presence.specs.declared.voice_set.VoiceSet.{VoiceSet as Setting}
 use Rattle.voice_presence.specs.Presences.{with_activity}
 use Rattle.role_member_edit.specs.declared.RoleMemberEdit.TheVariants.{RoleCreate, RoleUpdate, RoleDelete, MemberAdd, MemberRemove, MemberNick, MemberTimeout, MemberRoleAdd, MemberRoleRemove}
 use Rattle.edit_apply.specs.declared.guild.GuildEdit.TheVariants.{GuildOpen, GuildRename, GuildOwner, GuildOutage, GuildBack}
@@ -42,50 +43,50 @@ pub projection_stays : ProjectionStays
 projection_stays s v h well agrees = purge-stays s v h agrees.view
 
 -- an edit leaves a guild its id
-voice-id : (s : Record) (user : ℕ) (channel : Option ℕ) (mute deaf : Bool) → (voice_was_set s user channel mute deaf).id ≡ s.id
-voice-id s user None mute deaf = refl
-voice-id s user (Some channel) mute deaf = refl
+voice-id : (s : Record) (set : Setting) (channel : Option ℕ) → (with_voice s set channel).id ≡ s.id
+voice-id s set None = refl
+voice-id s set (Some channel) = refl
 
 presence-id : (s : Record) (user : ℕ) (activity : Option Activity) → (with_activity s user activity).id ≡ s.id
 presence-id s user None = refl
 presence-id s user (Some activity) = refl
 
 pub id-kept : (s : Record) (e : Edit) → (applied s e).id ≡ s.id
-id-kept s (edit.Guild (GuildOpen name owner owner_name perms at)) = refl
+id-kept s (edit.Guild (GuildOpen opening)) = refl
 id-kept s (edit.Guild (GuildRename name)) = refl
 id-kept s (edit.Guild (GuildOwner user)) = refl
 id-kept s (edit.Guild GuildOutage) = refl
 id-kept s (edit.Guild GuildBack) = refl
-id-kept s (edit.RoleMember (RoleCreate role name perms position)) = refl
-id-kept s (edit.RoleMember (RoleUpdate role name perms position)) = refl
+id-kept s (edit.RoleMember (RoleCreate body)) = refl
+id-kept s (edit.RoleMember (RoleUpdate body)) = refl
 id-kept s (edit.RoleMember (RoleDelete role)) = refl
-id-kept s (edit.RoleMember (MemberAdd user name bot at)) = refl
+id-kept s (edit.RoleMember (MemberAdd add)) = refl
 id-kept s (edit.RoleMember (MemberRemove user)) = refl
-id-kept s (edit.RoleMember (MemberNick user nick)) = refl
-id-kept s (edit.RoleMember (MemberTimeout user until)) = refl
-id-kept s (edit.RoleMember (MemberRoleAdd user role)) = refl
-id-kept s (edit.RoleMember (MemberRoleRemove user role)) = refl
-id-kept s (edit.Channel (ChannelCreate channel kind name parent position sync)) = refl
-id-kept s (edit.Channel (ChannelUpdate channel name parent position)) = refl
+id-kept s (edit.RoleMember (MemberNick nick)) = refl
+id-kept s (edit.RoleMember (MemberTimeout timeout)) = refl
+id-kept s (edit.RoleMember (MemberRoleAdd held)) = refl
+id-kept s (edit.RoleMember (MemberRoleRemove held)) = refl
+id-kept s (edit.Channel (ChannelCreate create)) = refl
+id-kept s (edit.Channel (ChannelUpdate update)) = refl
 id-kept s (edit.Channel (ChannelDelete channel)) = refl
-id-kept s (edit.Channel (OverwriteSet channel id kind allow deny)) = refl
-id-kept s (edit.Channel (OverwriteDelete channel id kind)) = refl
-id-kept s (edit.Thread (ThreadCreate thread parent kind name owner at)) = refl
-id-kept s (edit.Thread (ThreadRename thread name)) = refl
+id-kept s (edit.Channel (OverwriteSet set)) = refl
+id-kept s (edit.Channel (OverwriteDelete delete)) = refl
+id-kept s (edit.Thread (ThreadCreate create)) = refl
+id-kept s (edit.Thread (ThreadRename rename)) = refl
 id-kept s (edit.Thread (ThreadArchive thread)) = refl
 id-kept s (edit.Thread (ThreadUnarchive thread)) = refl
 id-kept s (edit.Thread (ThreadDelete thread)) = refl
-id-kept s (edit.Thread (ThreadJoin thread user at)) = refl
-id-kept s (edit.Thread (ThreadLeave thread user)) = refl
-id-kept s (edit.VoicePresence (VoiceSet user channel mute deaf)) = voice-id s user channel mute deaf
-id-kept s (edit.VoicePresence (PresenceSet user status)) = presence-id s user (status_activity status)
+id-kept s (edit.Thread (ThreadJoin join)) = refl
+id-kept s (edit.Thread (ThreadLeave leave)) = refl
+id-kept s (edit.VoicePresence (VoiceSet set)) = voice-id s set set.channel
+id-kept s (edit.VoicePresence (PresenceSet set)) = presence-id s set.user (status_activity set.status)
 id-kept s (edit.Message e) = message-id s e
 
 -- each dispatch that is owed is of the guild
 pub row-of : (after : Record) (v : Viewer) (note : Before) (me : Member) (e : Edit) → All (IsOf after.id) (row note after v me e)
-row-of after v note me (edit.Guild (GuildRename name)) = asked-of after.id v false (GuildUpdate after.id after.name after.owner) refl
-row-of after v (Owner before) me (edit.Guild (GuildOwner user)) = append-of after.id _ _ (asked-of after.id v false (GuildUpdate after.id after.name after.owner) refl) (sync-of before after v me)
-row-of after v note me (edit.Guild GuildOutage) = asked-of after.id v false (GuildDelete after.id true) refl
+row-of after v note me (edit.Guild (GuildRename name)) = asked-of after.id v false (GuildUpdate (record { id = after.id; name = after.name; owner = after.owner })) refl
+row-of after v (Owner before) me (edit.Guild (GuildOwner user)) = append-of after.id _ _ (asked-of after.id v false (GuildUpdate (record { id = after.id; name = after.name; owner = after.owner })) refl) (sync-of before after v me)
+row-of after v note me (edit.Guild GuildOutage) = asked-of after.id v false (GuildDelete (record { id = after.id; unavailable = true })) refl
 row-of after v note me (edit.Guild GuildBack) = asked-of after.id v false (GuildCreate (greeting after v me)) (ap (λ id. Some id) (greeting-id after v me))
 row-of after v (RoleMember note) me (edit.RoleMember e) = role_member-of after v note me e
 row-of after v (Channel note) me (edit.Channel e) = channel-of after v note me e
@@ -100,7 +101,7 @@ due_between-of after v was me e = by_served was.served me
     by_served : (b : Bool) (o : Option Member) → All (IsOf after.id) (due_to after v b was.note o e)
     by_served false None = All-nil (IsOf after.id)
     by_served false (Some me) = asked-of after.id v false (GuildCreate (greeting after v me)) (ap (λ id. Some id) (greeting-id after v me))
-    by_served true None = asked-of after.id v false (GuildDelete after.id false) refl
+    by_served true None = asked-of after.id v false (GuildDelete (record { id = after.id; unavailable = false })) refl
     by_served true (Some me) = row-of after v was.note me e
 
 owed-of : (s : Record) (e : Edit) (v : Viewer) → All (IsOf s.id) (owed s e v)

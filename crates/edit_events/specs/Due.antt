@@ -1,5 +1,5 @@
 -- What an accepted edit owes to a viewer (Gateway Events, Receive Events; Gateway, Gateway Intents).
-use Rattle.std.specs.Prelude.{List, [], ◌++◌, Bool, true, false, Option, Some, None, if◌then◌else◌}
+use Rattle.std.specs.Prelude.{ℕ, List, [], ◌++◌, Bool, true, false, Option, Some, None, if◌then◌else◌}
 use Rattle.guild_model.specs.declared.member.Member.{Member}
 use Rattle.guild_model.specs.Record.{Record}
 use Rattle.dispatch_types.specs.declared.viewer.Viewer.{Viewer}
@@ -25,14 +25,18 @@ use Rattle.edit_events.specs.Was.{was_of}
 
 -- the guild's name and owner
 abbrev pub guild_updated : Record → Viewer → List Dispatch
-guild_updated after v = asked v false (GuildUpdate after.id after.name after.owner)
+guild_updated after v = asked v false (GuildUpdate (record { id = after.id; name = after.name; owner = after.owner }))
+
+-- the guild is gone, or in an outage
+abbrev pub guild_gone : ℕ → Viewer → Bool → List Dispatch
+guild_gone guild v unavailable = asked v false (GuildDelete (record { id = guild; unavailable = unavailable }))
 
 -- the list of an edit for a viewer that is served before and after it, by what was noted before, the
 -- record after and the viewer's own member after
 abbrev pub row : Before → Record → Viewer → Member → Edit → List Dispatch
 row note after v me (edit.Guild (GuildRename name)) = guild_updated after v
 row (Owner before) after v me (edit.Guild (GuildOwner user)) = guild_updated after v ++ told_if v (sync_by before after me)
-row note after v me (edit.Guild GuildOutage) = asked v false (GuildDelete after.id true)
+row note after v me (edit.Guild GuildOutage) = guild_gone after.id v true
 row note after v me (edit.Guild GuildBack) = asked v false (GuildCreate (greeting after v me))
 row (RoleMember note) after v me (edit.RoleMember e) = role_member_row note after v me e
 row (Channel note) after v me (edit.Channel e) = channel_row note after v me e
@@ -45,7 +49,7 @@ row note after v me _ = []
 abbrev pub due_to : Record → Viewer → Bool → Before → Option Member → Edit → List Dispatch
 due_to after v false note None e = []
 due_to after v false note (Some me) e = asked v false (GuildCreate (greeting after v me))
-due_to after v true note None e = asked v false (GuildDelete after.id false)
+due_to after v true note None e = guild_gone after.id v false
 due_to after v true note (Some me) e = row note after v me e
 
 abbrev pub due_between : Record → Viewer → Was → Option Member → Edit → List Dispatch

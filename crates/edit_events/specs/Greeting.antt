@@ -11,7 +11,7 @@ use Rattle.guild_model.specs.declared.thread.ThreadMember.{ThreadMember}
 use Rattle.guild_model.specs.Record.{Record, thread_member_id, voice_id, presence_id}
 use Rattle.dispatch_types.specs.declared.viewer.Viewer.{Viewer}
 use Rattle.dispatch_types.specs.declared.threads.JoinedThread.{JoinedThread}
-use Rattle.dispatch_types.specs.declared.dispatch.GuildCreate.{GuildCreate}
+use Rattle.dispatch_types.specs.declared.guilds.GuildCreate.{GuildCreate}
 use Rattle.dispatch_types.specs.Objects.{channel_object, member_object, thread_object, voice_object, presence_object}
 use Rattle.dispatch_types.specs.Projection.{listed, seen_threads}
 

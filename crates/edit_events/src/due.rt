@@ -5,19 +5,20 @@ ghost use Rattle.dispatch_types.specs.Serves.{served};
 ghost use Rattle.thread_sync.specs.BySights.{sync_by};
 ghost use Rattle.event_views.specs.Asked.{asked, told_if};
 ghost use Rattle.edit_events.specs.Greeting.{greeting};
-ghost use Rattle.edit_events.specs.Due.{guild_updated, row, due_to, due_between};
+ghost use Rattle.edit_events.specs.Due.{guild_gone, guild_updated, row, due_between};
 ghost use Rattle.edit_events.specs.Was.{note_of, was_of};
 
 use crate::create::greeting;
 use channel_events::ChannelNote;
 use collections::ById;
-use dispatch_types::{Dispatch, Viewer, served};
+use dispatch_types::{Dispatch, GuildDelete, GuildUpdate, Viewer, served};
 use edit_apply::{Edit, GuildEdit};
-use event_views::{add_sync, one};
+use event_views::{Recipient, add_sync};
 use guild_model::{Guild, Member};
 use intent_set::Kind;
 use message_events::MessageNote;
 use role_member_events::RoleMemberNote;
+use snowflake_id::Snowflake;
 use std::alloc::{AllocError, Global};
 use thread_events::ThreadNote;
 use thread_sync::{ChannelSight, sights_of};
@@ -81,112 +82,116 @@ pub fn note(alloc: Global, before: &Guild, edit: &Edit, viewer: &Viewer) -> Resu
     }
 }
 
-// The guild, for a viewer that was not served before or that comes back from an outage.
-fn created(
+// GUILD_CREATE, for a viewer that was not served before, or whose guild is back from an outage.
+fn add_created(
     alloc: Global,
-    guild: &Guild,
-    viewer: &Viewer,
-    me: &Member,
-) -> Result<Vec<Dispatch>, AllocError>
-    ensures { IfOk result (λ list. list.items ≡ asked viewer.now false (Dispatch.GuildCreate (greeting guild.now viewer.now me.now))) }
+    to: &Recipient<'_>,
+    list: &mut Vec<Dispatch>,
+) -> Result<(), AllocError>
+    ensures { OnOk result (list.new.items ≡ list.old.items
+        ++ asked to.now.viewer false (Dispatch.GuildCreate (greeting to.now.after to.now.viewer to.now.me))) }
 {
-    if !viewer.intents.asks(Kind::GuildCreate, false) {
-        return Ok(Vec::new(alloc));
+    if !to.asks(Kind::GuildCreate, false) {
+        return Ok(());
     }
-    let create = greeting(alloc, guild, viewer, me)?;
-    one(alloc, Dispatch::GuildCreate(create))
+    let create = greeting(alloc, to.after, to.viewer, to.me)?;
+    list.push(Dispatch::GuildCreate(create))?;
+    Ok(())
 }
 
-// The guild's end, for a viewer that is served no longer, or its outage.
-fn gone(
-    alloc: Global,
-    guild: &Guild,
+// GUILD_DELETE, for a viewer that is no longer served, or whose guild is in an outage.
+fn add_gone(
+    guild: Snowflake,
     viewer: &Viewer,
     unavailable: bool,
-) -> Result<Vec<Dispatch>, AllocError>
-    ensures { IfOk result (λ list. list.items ≡ asked viewer.now false (Dispatch.GuildDelete guild.now.id unavailable)) }
+    list: &mut Vec<Dispatch>,
+) -> Result<(), AllocError>
+    ensures { OnOk result (list.new.items ≡ list.old.items ++ guild_gone guild viewer.now unavailable) }
 {
     if !viewer.intents.asks(Kind::GuildDelete, false) {
-        return Ok(Vec::new(alloc));
+        return Ok(());
     }
-    one(
-        alloc,
-        Dispatch::GuildDelete {
-            id: guild.id,
-            unavailable,
-        },
-    )
-}
-
-// The guild's name and owner.
-fn updated(alloc: Global, guild: &Guild, viewer: &Viewer) -> Result<Vec<Dispatch>, AllocError>
-    ensures { IfOk result (λ list. list.items ≡ guild_updated guild.now viewer.now) }
-{
-    if !viewer.intents.asks(Kind::GuildUpdate, false) {
-        return Ok(Vec::new(alloc));
-    }
-    let update = Dispatch::GuildUpdate {
-        id: guild.id,
-        name: guild.name.copy(alloc)?,
-        owner: guild.owner,
+    let delete = GuildDelete {
+        id: guild,
+        unavailable,
     };
-    one(alloc, update)
+    list.push(Dispatch::GuildDelete(delete))?;
+    Ok(())
 }
 
-// The guild's name and owner, and then what the viewer gained.
-fn owner_updated(
+// GUILD_UPDATE, with the guild's name and owner.
+fn add_updated(
+    alloc: Global,
+    to: &Recipient<'_>,
+    list: &mut Vec<Dispatch>,
+) -> Result<(), AllocError>
+    ensures { OnOk result (list.new.items ≡ list.old.items ++ guild_updated to.now.after to.now.viewer) }
+{
+    if !to.asks(Kind::GuildUpdate, false) {
+        return Ok(());
+    }
+    let after = to.after;
+    list.push(Dispatch::GuildUpdate(GuildUpdate {
+        id: after.id,
+        name: after.name.copy(alloc)?,
+        owner: after.owner,
+    }))?;
+    Ok(())
+}
+
+// GUILD_UPDATE, and then what the viewer gained.
+fn add_owner_updated(
     alloc: Global,
     before: &ById<ChannelSight>,
-    after: &Guild,
-    viewer: &Viewer,
-    me: &Member,
-) -> Result<Vec<Dispatch>, AllocError>
-    ensures { IfOk result (λ list. list.items ≡ guild_updated after.now viewer.now ++ told_if viewer.now (sync_by before.now after.now me.now)) }
+    to: &Recipient<'_>,
+    list: &mut Vec<Dispatch>,
+) -> Result<(), AllocError>
+    ensures { OnOk result (list.new.items ≡ list.old.items ++ (guild_updated to.now.after to.now.viewer
+        ++ told_if to.now.viewer (sync_by before.now to.now.after to.now.me))) }
 {
-    let mut list = updated(alloc, after, viewer)?;
-    add_sync(alloc, before, after, viewer, me, &mut list)?;
-    Ok(list)
+    add_updated(alloc, to, list)?;
+    add_sync(alloc, before, to, list)
 }
 
-// The list of an edit for a viewer that is served before and after it.
-fn row(
+// The dispatches of an edit for a viewer that is served before and after it.
+fn add_row(
     alloc: Global,
     note: &Before,
-    after: &Guild,
-    viewer: &Viewer,
-    me: &Member,
+    to: &Recipient<'_>,
     edit: &Edit,
-) -> Result<Vec<Dispatch>, AllocError>
-    ensures { IfOk result (λ list. list.items ≡ row note.now after.now viewer.now me.now edit.now) }
+    list: &mut Vec<Dispatch>,
+) -> Result<(), AllocError>
+    ensures { OnOk result (list.new.items ≡ list.old.items
+        ++ row note.now to.now.after to.now.viewer to.now.me edit.now) }
 {
     match (note, edit) {
-        (_, Edit::Guild(GuildEdit::GuildRename { .. })) => updated(alloc, after, viewer),
+        (_, Edit::Guild(GuildEdit::GuildRename { .. })) => add_updated(alloc, to, list),
         (Before::Owner(before), Edit::Guild(GuildEdit::GuildOwner { .. })) => {
-            owner_updated(alloc, before, after, viewer, me)
+            add_owner_updated(alloc, before, to, list)
         }
-        (_, Edit::Guild(GuildEdit::GuildOutage)) => gone(alloc, after, viewer, true),
-        (_, Edit::Guild(GuildEdit::GuildBack)) => created(alloc, after, viewer, me),
+        (_, Edit::Guild(GuildEdit::GuildOutage)) => add_gone(to.guild(), to.viewer, true, list),
+        (_, Edit::Guild(GuildEdit::GuildBack)) => add_created(alloc, to, list),
         (Before::RoleMember(note), Edit::RoleMember(edit)) => {
-            role_member_events::row(alloc, note, after, viewer, me, edit)
+            role_member_events::row(alloc, note, to, edit, list)
         }
         (Before::Channel(note), Edit::Channel(edit)) => {
-            channel_events::row(alloc, note, after, viewer, me, edit)
+            channel_events::row(alloc, note, to, edit, list)
         }
         (Before::Thread(note), Edit::Thread(edit)) => {
-            thread_events::row(alloc, note, after, viewer, me, edit)
+            thread_events::row(alloc, note, to, edit, list)
         }
-        (_, Edit::VoicePresence(edit)) => voice_presence_events::row(alloc, after, viewer, edit),
+        (_, Edit::VoicePresence(edit)) => voice_presence_events::row(to, edit, list),
         (Before::Message(note), Edit::Message(edit)) => {
-            message_events::row(alloc, note, after, viewer, edit)
+            message_events::row(alloc, note, to, edit, list)
         }
-        _ => Ok(Vec::new(alloc)),
+        _ => Ok(()),
     }
 }
 
 /// What an accepted edit owes to a viewer, by the record after it and what was noted before it: the
-/// edit's own list to one that is served before and after it, GUILD_CREATE alone to one that is served
-/// after it alone, GUILD_DELETE alone to one that was served before it alone, and nothing to a
-/// stranger. Each only where the viewer's intents ask for it (Gateway, Gateway Intents).
+/// edit's own dispatches to one that is served before and after it, GUILD_CREATE alone to one that is
+/// served after it alone, GUILD_DELETE alone to one that was served before it alone, and nothing to
+/// any other. Each only if the viewer's intents ask for it (Gateway, Gateway Intents).
 pub fn events(
     alloc: Global,
     after: &Guild,
@@ -194,12 +199,18 @@ pub fn events(
     was: &Was,
     viewer: &Viewer,
 ) -> Result<Vec<Dispatch>, AllocError>
-    ensures { IfOk result (λ list. list.items ≡ due_between after.now viewer.now was.now (served viewer.now after.now) edit.now) }
+    ensures { IfOk result (λ list. list.items
+        ≡ due_between after.now viewer.now was.now (served viewer.now after.now) edit.now) }
 {
+    let mut list = Vec::new(alloc);
     match (was.served, served(after, viewer)) {
-        (false, None) => Ok(Vec::new(alloc)),
-        (false, Some(me)) => created(alloc, after, viewer, me),
-        (true, None) => gone(alloc, after, viewer, false),
-        (true, Some(me)) => row(alloc, &was.note, after, viewer, me, edit),
+        (false, None) => {}
+        (false, Some(me)) => add_created(alloc, &Recipient { after, viewer, me }, &mut list)?,
+        (true, None) => add_gone(after.id, viewer, false, &mut list)?,
+        (true, Some(me)) => {
+            let to = Recipient { after, viewer, me };
+            add_row(alloc, &was.note, &to, edit, &mut list)?
+        }
     }
+    Ok(list)
 }

@@ -21,7 +21,7 @@ use Rattle.dispatch_types.specs.declared.dispatch.Dispatch.TheVariants.{ThreadMe
 use Rattle.dispatch_types.specs.Projection.{is_active}
 use Rattle.dispatch_types.specs.Fold.{Held, fold_from}
 use Rattle.event_views.specs.Has.{Has}
-use Rattle.event_views.specs.Threads.{thread_count, thread_leaves, threads_left, user_leaves}
+use Rattle.event_views.specs.Threads.{members_update, thread_leaves, threads_left, user_leaves}
 use Rattle.event_views.proofs.Steps.{IsOf, asked-of, append-of, fold-append}
 use Rattle.event_views.proofs.Threads.{without_member, follows-thread_left, left_unseen}
 
@@ -171,7 +171,7 @@ module _ (v : Viewer) (me : Member) (user : ℕ) (own : me.user.id ≡ v.user) (
 
 leaves-of : (guild : ℕ) (v : Viewer) (user : ℕ) (o : Option Thread) → All (IsOf guild) (thread_leaves guild v user o)
 leaves-of guild v user None = All-nil (IsOf guild)
-leaves-of guild v user (Some t) = asked-of guild v (user == v.user) (ThreadMembersUpdate guild t.id (thread_count t) [] (user ∷ [])) refl
+leaves-of guild v user (Some t) = asked-of guild v (user == v.user) (ThreadMembersUpdate (members_update guild t [] (user ∷ []))) refl
 
 pub user_leaves-of : (guild : ℕ) (v : Viewer) (user : ℕ) (after : List Thread) (ids : List ℕ) → All (IsOf guild) (user_leaves guild v user after ids)
 user_leaves-of guild v user after [] = All-nil (IsOf guild)

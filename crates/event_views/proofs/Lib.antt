@@ -1,5 +1,5 @@
 pub mod Steps
-pub mod Told
+pub mod Syncs
 pub mod Lists
 pub mod Rights
 pub mod Voices

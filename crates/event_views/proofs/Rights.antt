@@ -1,5 +1,5 @@
 -- A change of permissions: the plain event, and the sync where one is due.
-use Rattle.std.proofs.Common.{◌≡◌, ℕ, true, false, List, [], ◌∷◌, Option, Some, None, if◌then◌else◌, refl, sym, ap, subst, ◌∙◌}
+use Rattle.std.proofs.Common.{◌≡◌, ℕ, true, false, List, [], ◌∷◌, Some, if◌then◌else◌, refl, sym, ap, subst, ◌∙◌}
 use Rattle.std.specs.Prelude.{All, option_to_list}
 use Rattle.std.proofs.lemmas.List.Elements.{All-nil}
 use Rattle.perm_bits.specs.Bits.{has_bit}
@@ -22,7 +22,6 @@ use Rattle.thread_sync.specs.BySights.{gained_by, sync_by}
 use Rattle.thread_sync.specs.Law.{ChangesRights, told_plainly}
 use Rattle.thread_sync.proofs.Synced.{sync_restores}
 use Rattle.event_views.specs.Asked.{told_if}
-use Rattle.event_views.specs.Synced.{synced}
 use Rattle.event_views.specs.Has.{Has}
 use Rattle.event_views.proofs.Steps.{turned, IsOf, asked-of}
 
@@ -40,10 +39,6 @@ sync-of before t v me = by_parents (gained_by before t me)
     by_parents : (ps : List ℕ) → All (IsOf t.id) (told_if v (sync_if_any t me ps))
     by_parents [] = All-nil (IsOf t.id)
     by_parents (p ∷ ps) = asked-of t.id v false (sync_of t me (p ∷ ps)) refl
-
-pub synced-of : (before : Option (List ChannelSight)) (t : Record) (v : Viewer) (me : Member) → All (IsOf t.id) (synced before t v me)
-synced-of None t v me = All-nil (IsOf t.id)
-synced-of (Some before) t v me = sync-of before t v me
 
 module _ (s t : Record) (v : Viewer) (h : Held) (me me' : Member) (well : IsWell s) (rights : ChangesRights s t) (user : me'.user.id ≡ me.user.id) (asks : has_bit v.intents guilds ≡ true) where
   -- what is held after the plain event, whatever told it

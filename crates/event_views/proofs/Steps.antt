@@ -15,13 +15,17 @@ use Rattle.dispatch_types.specs.Kinds.{kind_of}
 use Rattle.dispatch_types.specs.Projection.{open_view}
 use Rattle.dispatch_types.specs.Fold.{Held, on_open, purged, folded, fold_from}
 use Rattle.dispatch_types.proofs.Views.{purged-open}
-use Rattle.dispatch_types.proofs.Folds.{guild_of}
+use Rattle.dispatch_types.specs.GuildOf.{guild_of}
 use Rattle.event_views.specs.Asked.{asked}
 use Rattle.event_views.specs.Has.{Has}
 
 -- what a dispatch makes of a client: a change of its open view, purged, and of the users that it knows
 abbrev pub turned : ℕ → ℕ → (OpenView → OpenView) → (List ℕ → List ℕ) → Held → Held
 turned intents g f k h = record { bot = h.bot; view = on_open (purged intents g) (on_open f h.view); known = k h.known }
+
+-- the users that it knows, where they stay
+abbrev pub same : List ℕ → List ℕ
+same known = known
 
 -- where the change gives the view after, but for threads that the purge takes
 pub step : (s t : Record) (v : Viewer) (h : Held) (me me' : Member) (d : Dispatch) (f : OpenView → OpenView) (k : List ℕ → List ℕ)

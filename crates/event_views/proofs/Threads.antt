@@ -25,11 +25,11 @@ use Rattle.dispatch_types.specs.declared.dispatch.Dispatch.TheVariants.{ThreadCr
 use Rattle.dispatch_types.specs.Objects.{thread_object, thread_member_object, thread_member_of}
 use Rattle.dispatch_types.specs.Projection.{told, is_active, thread_view, open_view}
 use Rattle.dispatch_types.specs.Fold.{Held, thread_view_id, on_open, thread_of, mine_of, set_thread, drop_thread, update_thread, members_updated, view_sees, folded, fold_from}
+use Rattle.dispatch_types.proofs.Folds.{folded-here, folded-over}
 use Rattle.event_views.specs.Asked.{asked}
 use Rattle.event_views.specs.Has.{Has}
-use Rattle.event_views.specs.Threads.{thread_count, membership, thread_creates, thread_updates, member_comes, thread_joins, thread_leaves}
-use Rattle.event_views.proofs.Steps.{turned, step, whole, untold, by_asked, by_guilds}
-use Rattle.event_views.proofs.Told.{same, told-thread_create, told-thread_update, told-thread_delete, told-thread_members}
+use Rattle.event_views.specs.Threads.{membership, members_update, thread_creates, thread_updates, member_comes, thread_joins, thread_leaves}
+use Rattle.event_views.proofs.Steps.{same, turned, step, whole, untold, by_asked, by_guilds}
 use Rattle.event_views.proofs.Lists.{told-same}
 use Rattle.event_views.proofs.Shown.{IsById-shown, find-shown, shown-put, shown-tested, shown-hidden, shown-dropped, shown-alike, shown-without, shown-without_hidden, mapped-put}
 
@@ -118,6 +118,9 @@ module _ (s : Record) (v : Viewer) (h : Held) (me : Member) where
         mine : Option ThreadMemberObject
         mine = option_map (thread_member_object x.id) (membership v.user x)
 
+        create : Dispatch
+        create = ThreadCreate (record { thread = thread_object s.id x; newly_created = newly; member = mine })
+
         brought : ThreadView
         brought = thread_of v.intents (option_map thread_member_of mine) (thread_object s.id x)
 
@@ -127,9 +130,8 @@ module _ (s : Record) (v : Viewer) (h : Held) (me : Member) where
 
         by_sight : (b : Bool) → member_sees s me x ≡ b → Has after v me (fold_from v.intents s.id h (thread_creates s.id v newly (if b then Some x else None)))
         by_sight true seen =
-            by_guilds after v s.id h me false (ThreadCreate (thread_object s.id x) newly mine) asks refl
-            (purges _ (ThreadCreate (thread_object s.id x) newly mine) (put_id thread_view_id brought)
-            (told-thread_create v.intents s.id h (thread_object s.id x) newly mine refl)
+            by_guilds after v s.id h me false create asks refl
+            (purges _ create (put_id thread_view_id brought) (folded-here v.intents s.id h create refl refl)
             (ap (λ (t : ThreadView). filter client_sees (put_id thread_view_id t (views s.threads))) as_brought ∙ tested x active) has)
         by_sight false hidden = stays_silent _ (shown-hidden thread_id thread_view_id as_view (λ t. refl) shows x s.threads ascends (unseen x hidden) none) has
 
@@ -157,7 +159,7 @@ module _ (s : Record) (v : Viewer) (h : Held) (me : Member) where
     pub updates : (o : ThreadObject) → o.guild ≡ s.id → (w : OpenView) → update_thread v.intents o (open_view s v.intents h.known me) ≡ w
         → Has s v me h → folded v.intents s.id h (ThreadUpdate o) ≡ record h { view = Some (Open w) }
     updates o here w turns has =
-        told-thread_update v.intents s.id h o here
+        folded-over v.intents s.id h (ThreadUpdate o) (ap Some here) refl
         ∙ ap (λ view. record h { view = view }) (ap (on_open (update_thread v.intents o)) has.view ∙ ap (λ (w : OpenView). Some (Open w)) turns)
 
     brings_update : (ts : List Thread) (o : ThreadObject) → o.guild ≡ s.id → update_thread v.intents o (open_view s v.intents h.known me) ≡ viewing (views ts)
@@ -214,11 +216,14 @@ module _ (s : Record) (v : Viewer) (h : Held) (me : Member) where
 
     -- a thread that goes is told by its id, and where it is not shown nothing need be told
     pub follows-thread_goes : (id parent : ℕ) (kind : ThreadKind)
-        → Has s v me h → Has (with_threads (without_id thread_id id s.threads)) v me (fold_from v.intents s.id h (asked v false (ThreadDelete s.id id parent kind)))
+        → Has s v me h → Has (with_threads (without_id thread_id id s.threads)) v me (fold_from v.intents s.id h (asked v false (ThreadDelete (record { guild = s.id; id = id; parent = parent; kind = kind }))))
     follows-thread_goes id parent kind has =
-        by_guilds (with_threads (without_id thread_id id s.threads)) v s.id h me false (ThreadDelete s.id id parent kind) asks refl
-        (brings _ (ThreadDelete s.id id parent kind) (without_id thread_view_id id) (told-thread_delete v.intents s.id h id parent kind)
+        by_guilds (with_threads (without_id thread_id id s.threads)) v s.id h me false delete asks refl
+        (brings _ delete (without_id thread_view_id id) (folded-here v.intents s.id h delete refl refl)
         (shown-without thread_id thread_view_id as_view (λ t. refl) shows id s.threads ascends) has)
+      where
+        delete : Dispatch
+        delete = ThreadDelete (record { guild = s.id; id = id; parent = parent; kind = kind })
 
     pub goes_unseen : (id : ℕ) → keep_if shows (find_id thread_id id s.threads) ≡ None → Has s v me h → Has (with_threads (without_id thread_id id s.threads)) v me h
     goes_unseen id none has = stays_silent _ (shown-without_hidden thread_id thread_view_id as_view (λ t. refl) shows id s.threads ascends none) has
@@ -228,9 +233,9 @@ module _ (s : Record) (v : Viewer) (h : Held) (me : Member) where
     -- THREAD_MEMBERS_UPDATE of a thread that is held, which makes its view the view of the thread after it
     members_told : (x y : Thread) (added : List ThreadMemberObject) (removed : List ℕ) (is_own : Bool) → y.id ≡ x.id → is_active y ≡ true
         → find_id thread_id x.id s.threads ≡ Some x → shows x ≡ true
-        → members_updated v.intents h.bot (thread_count y) added removed (as_view x) ≡ as_view y
+        → members_updated v.intents h.bot (members_update s.id y added removed) (as_view x) ≡ as_view y
         → (is_own ≡ false → has_bit v.intents guild_members ≡ false → (as_view x ≡ as_view y) × (shows x ≡ shows y))
-        → Has s v me h → Has (with_threads (put_id thread_id y s.threads)) v me (fold_from v.intents s.id h (asked v is_own (ThreadMembersUpdate s.id x.id (thread_count y) added removed)))
+        → Has s v me h → Has (with_threads (put_id thread_id y s.threads)) v me (fold_from v.intents s.id h (asked v is_own (ThreadMembersUpdate (members_update s.id y added removed))))
     members_told x y added removed is_own at active found passes becomes alike has =
         by_asked after v s.id h me is_own d tells keeps_silent
       where
@@ -238,19 +243,19 @@ module _ (s : Record) (v : Viewer) (h : Held) (me : Member) where
         after = with_threads (put_id thread_id y s.threads)
 
         d : Dispatch
-        d = ThreadMembersUpdate s.id x.id (thread_count y) added removed
+        d = ThreadMembersUpdate (members_update s.id y added removed)
 
         change : ThreadView → ThreadView
-        change = members_updated v.intents h.bot (thread_count y) added removed
+        change = members_updated v.intents h.bot (members_update s.id y added removed)
 
         changes : List ThreadView → List ThreadView
-        changes ts = map (λ (t : ThreadView). if t.id == x.id then change t else t) ts
+        changes ts = map (λ (t : ThreadView). if t.id == y.id then change t else t) ts
 
         tells : (has_bit v.intents guilds && (is_own || has_bit v.intents guild_members)) ≡ true → Has after v me (folded v.intents s.id h d)
         tells e =
-            purges _ d changes (told-thread_members v.intents s.id h x.id (thread_count y) added removed)
+            purges _ d changes (folded-here v.intents s.id h d refl refl)
             (ap (filter client_sees)
-            (mapped-put thread_view_id x.id change (as_view x) (views s.threads) (IsById-shown thread_id thread_view_id as_view (λ t. refl) shows s.threads ascends) (λ t. refl) (held x found passes)
+            (mapped-put thread_view_id y.id change (as_view x) (views s.threads) (IsById-shown thread_id thread_view_id as_view (λ t. refl) shows s.threads ascends) (λ t. refl) (subst (λ (k : ℕ). find_id thread_view_id k (views s.threads) ≡ Some (as_view x)) (sym at) (held x found passes))
             ∙ ap (λ (t : ThreadView). put_id thread_view_id t (views s.threads)) becomes)
             ∙ tested y active) has
 
@@ -273,7 +278,7 @@ module _ (s : Record) (v : Viewer) (h : Held) (me : Member) where
       bot-own : h.bot ≡ me.user.id
       bot-own = bot ∙ sym own
 
-      joins_view : (m : ThreadMember) → members_updated v.intents h.bot (thread_count (with_member m x)) (thread_member_object x.id m ∷ []) [] (as_view x) ≡ as_view (with_member m x)
+      joins_view : (m : ThreadMember) → members_updated v.intents h.bot (members_update s.id (with_member m x) (thread_member_object x.id m ∷ []) []) (as_view x) ≡ as_view (with_member m x)
       joins_view m = ap (λ (o : Option ThreadMember). record (as_view (with_member m x)) { mine = o }) has_mine
         where
           by_user : (b : Bool) (o : Option ThreadMember) → option_or (option_map thread_member_of (if b then Some (thread_member_object x.id m) else None)) o ≡ (if b then Some m else o)
@@ -285,7 +290,7 @@ module _ (s : Record) (v : Viewer) (h : Held) (me : Member) where
               by_user (m.user == h.bot) (as_view x).mine
               ∙ (ap (λ u. if m.user == u then Some m else (as_view x).mine) bot-own ∙ sym (find-put thread_member_id m me.user.id x.members))
 
-      leaves_view : (user : ℕ) → members_updated v.intents h.bot (thread_count (without_member user x)) [] (user ∷ []) (as_view x) ≡ as_view (without_member user x)
+      leaves_view : (user : ℕ) → members_updated v.intents h.bot (members_update s.id (without_member user x) [] (user ∷ [])) (as_view x) ≡ as_view (without_member user x)
       leaves_view user = ap (λ (o : Option ThreadMember). record (as_view (without_member user x)) { mine = o }) has_mine
         where
           by_user : (b : Bool) (o : Option ThreadMember) → (if (b || false) then None else o) ≡ (if b then None else o)

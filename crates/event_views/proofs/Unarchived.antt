@@ -18,14 +18,15 @@ use Rattle.dispatch_types.specs.declared.viewer.Viewer.{Viewer}
 use Rattle.dispatch_types.specs.declared.view.OpenView.{OpenView}
 use Rattle.dispatch_types.specs.declared.view.ThreadView.{ThreadView}
 use Rattle.dispatch_types.specs.declared.view.GuildView.TheVariants.{Open}
+use Rattle.dispatch_types.specs.declared.threads.ThreadMembersUpdate.{ThreadMembersUpdate as MembersUpdate}
 use Rattle.dispatch_types.specs.declared.dispatch.Dispatch.{Dispatch}
 use Rattle.dispatch_types.specs.declared.dispatch.Dispatch.TheVariants.{ThreadUpdate, ThreadMembersUpdate}
 use Rattle.dispatch_types.specs.Objects.{thread_object, thread_member_object, thread_member_of}
 use Rattle.dispatch_types.specs.Projection.{is_active}
 use Rattle.dispatch_types.specs.Fold.{Held, thread_view_id, mine_of, members_updated, update_members, purged, folded, fold_from}
+use Rattle.dispatch_types.proofs.Folds.{folded-here}
 use Rattle.event_views.specs.Has.{Has}
-use Rattle.event_views.specs.Threads.{thread_count, membership, thread_updates, member_comes, thread_joins}
-use Rattle.event_views.proofs.Told.{told-thread_members}
+use Rattle.event_views.specs.Threads.{membership, members_update, thread_updates, member_comes, thread_joins}
 use Rattle.event_views.proofs.Shown.{IsById-shown, shown-put, shown-hidden, mapped-put}
 use Rattle.event_views.proofs.Threads.{shows, views, with_threads, viewing, stays_silent, as_view, tested, hidden_there, held_there, updates, sets}
 
@@ -74,11 +75,14 @@ module _ (s : Record) (v : Viewer) (h : Held) (me : Member) (own : me.user.id �
         }
 
     module _ (m : ThreadMember) (mine : membership v.user again ≡ Some m) where
+      abbrev update : MembersUpdate
+      update = members_update s.id again (thread_member_object x.id m ∷ []) []
+
       abbrev d : Dispatch
-      d = ThreadMembersUpdate s.id x.id (thread_count again) (thread_member_object x.id m ∷ []) []
+      d = ThreadMembersUpdate update
 
       abbrev change : ThreadView → ThreadView
-      change = members_updated v.intents h.bot (thread_count again) (thread_member_object x.id m ∷ []) []
+      change = members_updated v.intents h.bot update
 
       is_own : (m.user == v.user) ≡ true
       is_own = eq-eqb m.user v.user (key-found thread_member_id v.user again.members m mine)
@@ -98,14 +102,14 @@ module _ (s : Record) (v : Viewer) (h : Held) (me : Member) (own : me.user.id �
           ∙ (put-put thread_view_id (change bare) bare views_before before_by_id refl
           ∙ ap (λ (t : ThreadView). put_id thread_view_id t views_before) changes_bare)
 
-      purged-after : purged v.intents s.id (update_members v.intents h.bot x.id (thread_count again) (thread_member_object x.id m ∷ []) [] between) ≡ viewing s v h me (views s v h me (put_id thread_id again s.threads))
+      purged-after : purged v.intents s.id (update_members v.intents h.bot update between) ≡ viewing s v h me (views s v h me (put_id thread_id again s.threads))
       purged-after =
           ap (λ (ts : List ThreadView). purged v.intents s.id (viewing s v h me ts)) changed_threads
           ∙ ap (viewing s v h me) (tested s v h me own asks ascends again refl)
 
       with_membership : Has after v me (folded v.intents s.id holding d)
       with_membership =
-          subst (λ (k : Held). Has after v me k) (sym (told-thread_members v.intents s.id holding x.id (thread_count again) (thread_member_object x.id m ∷ []) []))
+          subst (λ (k : Held). Has after v me k) (sym (folded-here v.intents s.id holding d refl refl))
           (record { bot = has.bot; view = ap (λ (w : OpenView). Some (Open w)) purged-after })
 
       told_own : Has after v me (fold_from v.intents s.id holding (member_comes s.id v again (Some m)))

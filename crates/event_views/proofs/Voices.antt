@@ -8,19 +8,24 @@ use Rattle.guild_model.specs.declared.voice.Voice.{Voice}
 use Rattle.guild_model.specs.Record.{Record, voice_id}
 use Rattle.dispatch_types.specs.declared.viewer.Viewer.{Viewer}
 use Rattle.dispatch_types.specs.declared.view.OpenView.{OpenView}
+use Rattle.dispatch_types.specs.declared.dispatch.Dispatch.{Dispatch}
 use Rattle.dispatch_types.specs.declared.dispatch.Dispatch.TheVariants.{VoiceStateUpdate}
 use Rattle.dispatch_types.specs.Projection.{open_view}
 use Rattle.dispatch_types.specs.Fold.{Held, set_voice, folded, fold_from}
+use Rattle.dispatch_types.proofs.Folds.{folded-here}
 use Rattle.event_views.specs.Asked.{asked}
 use Rattle.event_views.specs.Has.{Has}
 use Rattle.event_views.specs.Ended.{voice_end}
-use Rattle.event_views.proofs.Steps.{whole, untold, by_asked}
-use Rattle.event_views.proofs.Told.{same, told-voice}
+use Rattle.event_views.proofs.Steps.{same, whole, untold, by_asked}
 use Rattle.event_views.proofs.Lists.{listed-same}
 
+-- the dispatch of a voice state that ended
+abbrev pub ended : Record → Voice → Dispatch
+ended s gone = VoiceStateUpdate (record { guild = s.id; voice = voice_end gone })
+
 pub follows-voice_gone : (s : Record) (v : Viewer) (h : Held) (me : Member) (gone : Voice) (own : Bool)
-    → Has s v me h → Has (record s { voices = without_id voice_id gone.user s.voices }) v me (fold_from v.intents s.id h (asked v own (VoiceStateUpdate s.id (voice_end gone))))
-follows-voice_gone s v h me gone own has = by_asked after v s.id h me own (VoiceStateUpdate s.id (voice_end gone)) tells keeps_silent
+    → Has s v me h → Has (record s { voices = without_id voice_id gone.user s.voices }) v me (fold_from v.intents s.id h (asked v own (ended s gone)))
+follows-voice_gone s v h me gone own has = by_asked after v s.id h me own (ended s gone) tells keeps_silent
   where
     after : Record
     after = record s { voices = without_id voice_id gone.user s.voices }
@@ -32,10 +37,10 @@ follows-voice_gone s v h me gone own has = by_asked after v s.id h me own (Voice
     left true = refl
     left false = refl
 
-    tells : has_bit v.intents guild_voice_states ≡ true → Has after v me (folded v.intents s.id h (VoiceStateUpdate s.id (voice_end gone)))
+    tells : has_bit v.intents guild_voice_states ≡ true → Has after v me (folded v.intents s.id h (ended s gone))
     tells e =
-        whole s after v h me me (VoiceStateUpdate s.id (voice_end gone)) (set_voice gone.user None) same refl
-        (told-voice v.intents s.id h (voice_end gone)) (ap with_voices (left (has_bit v.intents guild_voice_states))) has
+        whole s after v h me me (ended s gone) (set_voice gone.user None) same refl
+        (folded-here v.intents s.id h (ended s gone) refl refl) (ap with_voices (left (has_bit v.intents guild_voice_states))) has
 
     keeps_silent : has_bit v.intents guild_voice_states ≡ false → Has after v me h
     keeps_silent blind = untold s after v h me me (ap with_voices (listed-same v.intents guild_voice_states _ _ (λ e. absurd (cc)))) has

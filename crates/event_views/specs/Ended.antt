@@ -13,4 +13,4 @@ voice_end voice = record { user = voice.user; channel = None; self_mute = voice.
 
 -- it is told to the viewers of the guild
 abbrev pub voice_ends : ℕ → Viewer → Voice → List Dispatch
-voice_ends guild v voice = asked v false (VoiceStateUpdate guild (voice_end voice))
+voice_ends guild v voice = asked v false (VoiceStateUpdate (record { guild = guild; voice = voice_end voice }))

@@ -2,4 +2,4 @@ pub mod Asked
 pub mod Has
 pub mod Ended
 pub mod Threads
-pub mod Synced
+pub mod Served

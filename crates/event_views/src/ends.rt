@@ -3,10 +3,10 @@
 ghost use Rattle.std.specs.Prelude.{◌≡◌, ◌++◌, OnOk};
 ghost use Rattle.event_views.specs.Ended.{voice_end, voice_ends};
 
-use dispatch_types::{Dispatch, Viewer, VoiceObject};
+use crate::recipient::Recipient;
+use dispatch_types::{Dispatch, VoiceObject, VoiceStateUpdate};
 use guild_model::Voice;
 use intent_set::Kind;
-use snowflake_id::Snowflake;
 use std::alloc::AllocError;
 
 /// A voice state that ended, as it is sent: without a channel, with the flags that it had (Voice
@@ -22,21 +22,21 @@ pub fn voice_end(voice: &Voice) -> VoiceObject
     }
 }
 
-/// Adds VOICE_STATE_UPDATE of a voice state of a guild that ended.
+/// Adds VOICE_STATE_UPDATE of a voice state that ended.
 pub fn add_voice_end(
-    guild: Snowflake,
-    viewer: &Viewer,
+    to: &Recipient<'_>,
     voice: &Voice,
     list: &mut Vec<Dispatch>,
 ) -> Result<(), AllocError>
-    ensures { OnOk result (list.new.items ≡ list.old.items ++ voice_ends guild viewer.now voice.now) }
+    ensures { OnOk result (list.new.items ≡ list.old.items ++ voice_ends to.now.after.id to.now.viewer voice.now) }
 {
-    if !viewer.intents.asks(Kind::VoiceStateUpdate, false) {
+    if !to.asks(Kind::VoiceStateUpdate, false) {
         return Ok(());
     }
-    list.push(Dispatch::VoiceStateUpdate {
-        guild,
+    let update = VoiceStateUpdate {
+        guild: to.guild(),
         voice: voice_end(voice),
-    })?;
+    };
+    list.push(Dispatch::VoiceStateUpdate(update))?;
     Ok(())
 }

@@ -1,53 +1,56 @@
 //! What is told of one thread (Gateway Events, Thread Create to Thread Members Update).
 
 ghost use Rattle.std.specs.Prelude.{◌≡◌, ◌++◌, OnOk, Some};
-ghost use Rattle.event_views.specs.Threads.{thread_count, member_comes, thread_creates, thread_updates, thread_joins, thread_leaves};
+ghost use Rattle.event_views.specs.Threads.{members_update, member_comes, thread_creates, thread_updates, thread_joins, thread_leaves};
 
+use crate::recipient::Recipient;
 use collections::Seq;
-use dispatch_types::{Dispatch, ThreadCount, ThreadMemberObject, ThreadObject, Viewer};
+use dispatch_types::{
+    Dispatch, ThreadCount, ThreadCreate, ThreadMemberObject, ThreadMembersUpdate, ThreadObject,
+};
 use guild_model::{Thread, ThreadMember};
 use intent_set::Kind;
 use snowflake_id::Snowflake;
 use std::alloc::{AllocError, Global};
 use thread_sync::own_membership;
 
-/// Adds THREAD_CREATE of a thread that comes into a viewer's sight, with the viewer's own membership
-/// where it is in the thread. `newly` where the thread itself is new.
+/// Adds THREAD_CREATE of a thread that the viewer begins to see, with the viewer's own membership if
+/// it is in the thread. `newly` if the thread itself is new.
 pub fn add_created(
     alloc: Global,
-    guild: Snowflake,
-    viewer: &Viewer,
+    to: &Recipient<'_>,
     newly: bool,
     thread: &Thread,
     list: &mut Vec<Dispatch>,
 ) -> Result<(), AllocError>
-    ensures { OnOk result (list.new.items ≡ list.old.items ++ thread_creates guild viewer.now newly (Some thread.now)) }
+    ensures { OnOk result (list.new.items
+        ≡ list.old.items ++ thread_creates to.now.after.id to.now.viewer newly (Some thread.now)) }
 {
-    if !viewer.intents.asks(Kind::ThreadCreate, false) {
+    if !to.asks(Kind::ThreadCreate, false) {
         return Ok(());
     }
-    list.push(Dispatch::ThreadCreate {
-        thread: ThreadObject::of(alloc, guild, thread)?,
+    list.push(Dispatch::ThreadCreate(ThreadCreate {
+        thread: ThreadObject::of(alloc, to.guild(), thread)?,
         newly_created: newly,
-        member: own_membership(viewer.user, thread),
-    })?;
+        member: own_membership(to.user(), thread),
+    }))?;
     Ok(())
 }
 
 /// Adds THREAD_UPDATE of a thread.
 pub fn add_updated(
     alloc: Global,
-    guild: Snowflake,
-    viewer: &Viewer,
+    to: &Recipient<'_>,
     thread: &Thread,
     list: &mut Vec<Dispatch>,
 ) -> Result<(), AllocError>
-    ensures { OnOk result (list.new.items ≡ list.old.items ++ thread_updates guild viewer.now (Some thread.now)) }
+    ensures { OnOk result (list.new.items
+        ≡ list.old.items ++ thread_updates to.now.after.id to.now.viewer (Some thread.now)) }
 {
-    if !viewer.intents.asks(Kind::ThreadUpdate, false) {
+    if !to.asks(Kind::ThreadUpdate, false) {
         return Ok(());
     }
-    let object = ThreadObject::of(alloc, guild, thread)?;
+    let object = ThreadObject::of(alloc, to.guild(), thread)?;
     list.push(Dispatch::ThreadUpdate(object))?;
     Ok(())
 }
@@ -59,71 +62,71 @@ fn members_update(
     added: Seq<ThreadMemberObject>,
     removed: Seq<Snowflake>,
 ) -> Dispatch
-    ensures { result ≡ Dispatch.ThreadMembersUpdate guild thread.now.id (thread_count thread.now) added removed }
+    ensures { result ≡ Dispatch.ThreadMembersUpdate (members_update guild thread.now added removed) }
 {
-    Dispatch::ThreadMembersUpdate {
+    Dispatch::ThreadMembersUpdate(ThreadMembersUpdate {
         guild,
         id: thread.id,
         count: ThreadCount::of(thread.members.len()),
         added,
         removed,
-    }
+    })
 }
 
 fn add_member(
     alloc: Global,
-    guild: Snowflake,
-    viewer: &Viewer,
+    to: &Recipient<'_>,
     thread: &Thread,
     member: &ThreadMember,
     list: &mut Vec<Dispatch>,
 ) -> Result<(), AllocError>
-    ensures { OnOk result (list.new.items ≡ list.old.items ++ member_comes guild viewer.now thread.now (Some member.now)) }
+    ensures { OnOk result (list.new.items
+        ≡ list.old.items ++ member_comes to.now.after.id to.now.viewer thread.now (Some member.now)) }
 {
-    let own = member.user == viewer.user;
-    if !viewer.intents.asks(Kind::ThreadMembersUpdate, own) {
+    if !to.asks(Kind::ThreadMembersUpdate, member.user == to.user()) {
         return Ok(());
     }
     let mut added = Seq::new(alloc);
     added.push(ThreadMemberObject::of(thread.id, member))?;
-    list.push(members_update(guild, thread, added, Seq::new(alloc)))?;
+    let update = members_update(to.guild(), thread, added, Seq::new(alloc));
+    list.push(update)?;
     Ok(())
 }
 
-/// Adds THREAD_MEMBERS_UPDATE of a user that is in a thread now; nothing where the user is not in it.
+/// Adds THREAD_MEMBERS_UPDATE of a user that is in a thread now; nothing if the user is not in it.
 pub fn add_joined(
     alloc: Global,
-    guild: Snowflake,
-    viewer: &Viewer,
+    to: &Recipient<'_>,
     user: Snowflake,
     thread: &Thread,
     list: &mut Vec<Dispatch>,
 ) -> Result<(), AllocError>
-    ensures { OnOk result (list.new.items ≡ list.old.items ++ thread_joins guild viewer.now user (Some thread.now)) }
+    ensures { OnOk result (list.new.items
+        ≡ list.old.items ++ thread_joins to.now.after.id to.now.viewer user (Some thread.now)) }
 {
     match thread.members.get(user.0) {
-        Some(member) => add_member(alloc, guild, viewer, thread, member, list),
+        Some(member) => add_member(alloc, to, thread, member, list),
         None => Ok(()),
     }
 }
 
-/// Adds THREAD_MEMBERS_UPDATE of a user that is in a thread no longer.
+/// Adds THREAD_MEMBERS_UPDATE of a user that is no longer in a thread.
 pub fn add_left(
     alloc: Global,
-    guild: Snowflake,
-    viewer: &Viewer,
+    to: &Recipient<'_>,
     user: Snowflake,
     thread: &Thread,
     list: &mut Vec<Dispatch>,
 ) -> Result<(), AllocError>
-    ensures { OnOk result (list.new.items ≡ list.old.items ++ thread_leaves guild viewer.now user (Some thread.now)) }
+    ensures { OnOk result (list.new.items
+        ≡ list.old.items ++ thread_leaves to.now.after.id to.now.viewer user (Some thread.now)) }
 {
-    let own = user == viewer.user;
-    if !viewer.intents.asks(Kind::ThreadMembersUpdate, own) {
+    if !to.asks(Kind::ThreadMembersUpdate, user == to.user()) {
         return Ok(());
     }
     let mut removed = Seq::new(alloc);
     removed.push(user)?;
-    list.push(members_update(guild, thread, Seq::new(alloc), removed))?;
+    let update = members_update(to.guild(), thread, Seq::new(alloc), removed);
+    list.push(update)?;
     Ok(())
 }

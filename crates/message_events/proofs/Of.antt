@@ -1,6 +1,6 @@
 -- What an edit of messages owes is of the guild, and about messages, reactions or typing.
-use Rattle.std.proofs.Common.{◌≡◌, ℕ, Bool, true, false, [], ◌∷◌, Option, Some, None, if◌then◌else◌, refl, ap}
-use Rattle.std.specs.Prelude.{◌/◌, All, option_map}
+use Rattle.std.proofs.Common.{◌≡◌, ℕ, Bool, true, false, [], ◌∷◌, Option, Some, None, if◌then◌else◌, refl, ap, ◌∙◌}
+use Rattle.std.specs.Prelude.{All, option_map}
 use Rattle.std.proofs.lemmas.List.Elements.{All-nil, All-cons, All-weaker}
 use Rattle.guild_model.specs.Record.{Record}
 use Rattle.guild_model.specs.Heads.{find_head}
@@ -9,16 +9,16 @@ use Rattle.message_edit.specs.declared.MessageEdit.TheVariants as edit
 use Rattle.dispatch_types.specs.declared.viewer.Viewer.{Viewer}
 use Rattle.dispatch_types.specs.declared.messages.MessageObject.{MessageObject}
 use Rattle.dispatch_types.specs.declared.dispatch.Dispatch.{Dispatch}
-use Rattle.dispatch_types.specs.declared.dispatch.Dispatch.TheVariants.{MessageDelete, TypingStart}
+use Rattle.dispatch_types.specs.declared.dispatch.Dispatch.TheVariants.{MessageCreate, MessageUpdate, MessageDelete}
 use Rattle.dispatch_types.specs.Kinds.{kind_of}
-use Rattle.dispatch_types.proofs.Folds.{guild_of}
+use Rattle.dispatch_types.specs.GuildOf.{guild_of}
 use Rattle.event_views.proofs.Steps.{IsOf}
 use Rattle.message_gate.specs.Redacted.{is_for, emptied, redacted}
 use Rattle.message_gate.specs.Shows.{shows}
 use Rattle.message_events.specs.declared.notes.MessageNote.{MessageNote}
 use Rattle.message_events.specs.declared.notes.MessageNote.TheVariants.{Nothing, Stood}
 use Rattle.message_events.specs.Messages.{is_message}
-use Rattle.message_events.specs.Rows.{About, user_of, message_of, created, updated, reacted, unreacted, shown, message_row}
+use Rattle.message_events.specs.Rows.{About, user_of, created, updated, reacted, unreacted, typed, told_to, about_to, shown, message_row}
 
 pub record IsMessageOf (guild : ℕ) (d : Dispatch) : Type 0 where
   pub message : is_message d ≡ true
@@ -31,28 +31,33 @@ redacted-guild m v = by_test (is_for m v)
     by_test true = refl
     by_test false = refl
 
+-- as a viewer is told it, a dispatch is of the same guild
+told-of : (guild : ℕ) (v : Viewer) (d : Dispatch) → IsMessageOf guild d → IsMessageOf guild (told_to v d)
+told-of guild v (MessageCreate m) of = record { message = refl; of = ap (λ guild. Some guild) (redacted-guild m v) ∙ of.of }
+told-of guild v (MessageUpdate m) of = record { message = refl; of = ap (λ guild. Some guild) (redacted-guild m v) ∙ of.of }
+told-of guild v d of = of
+
 module _ (s : Record) (v : Viewer) where
-  shown-of : (about : About) → IsMessageOf s.id about.dispatch → All (IsMessageOf s.id) (shown s v (Some about))
-  shown-of about of = by_test (shows s v about.place (kind_of about.dispatch))
+  shown-of : (about : About) → IsMessageOf s.id about.dispatch → All (IsMessageOf s.id) (shown s v (Some (about_to v about)))
+  shown-of about of = by_test (shows s v about.place (kind_of (told_to v about.dispatch)))
     where
-      by_test : (b : Bool) → All (IsMessageOf s.id) (if b then about.dispatch ∷ [] else [])
-      by_test true = All-cons (IsMessageOf s.id) about.dispatch [] of (All-nil (IsMessageOf s.id))
+      by_test : (b : Bool) → All (IsMessageOf s.id) (if b then told_to v about.dispatch ∷ [] else [])
+      by_test true = All-cons (IsMessageOf s.id) (told_to v about.dispatch) [] (told-of s.id v about.dispatch of) (All-nil (IsMessageOf s.id))
       by_test false = All-nil (IsMessageOf s.id)
 
-  shown-if : {T : Type 0} (f : T → About) (o : Option T) → ((x : T) → IsMessageOf s.id (f x).dispatch) → All (IsMessageOf s.id) (shown s v (option_map f o))
+  shown-if : {T : Type 0} (f : T → About) (o : Option T) → ((x : T) → IsMessageOf s.id (f x).dispatch) → All (IsMessageOf s.id) (shown s v (option_map (about_to v) (option_map f o)))
   shown-if f None of = All-nil (IsMessageOf s.id)
   shown-if f (Some x) of = shown-of (f x) (of x)
 
   pub row-messages : (note : MessageNote) (e : MessageEdit) → All (IsMessageOf s.id) (message_row s v note e)
-  row-messages note (edit.MessageCreate message place author body) =
-      shown-if (created s v message place body) (user_of s author) (λ user. record { message = refl; of = ap (λ guild. Some guild) (redacted-guild (message_of s message place body user) v) })
-  row-messages note (edit.MessageUpdate message body) =
-      shown-if (updated s v body) (find_head message s.messages) (λ head. record { message = refl; of = ap (λ guild. Some guild) (redacted-guild (message_of s head.id head.place body head.author) v) })
-  row-messages (Stood place) (edit.MessageDelete message) = shown-of (record { place = place; dispatch = MessageDelete s.id place message }) (record { message = refl; of = refl })
+  row-messages note (edit.MessageCreate e) = shown-if (created s e) (user_of s e.author) (λ user. record { message = refl; of = refl })
+  row-messages note (edit.MessageUpdate e) = shown-if (updated s e) (find_head e.message s.messages) (λ head. record { message = refl; of = refl })
+  row-messages (Stood place) (edit.MessageDelete message) =
+      shown-of (record { place = place; dispatch = MessageDelete (record { guild = s.id; channel = place; id = message }) }) (record { message = refl; of = refl })
   row-messages Nothing (edit.MessageDelete message) = All-nil (IsMessageOf s.id)
-  row-messages note (edit.ReactionAdd message user emoji) = shown-if (reacted s v user emoji) (find_head message s.messages) (λ head. record { message = refl; of = refl })
-  row-messages note (edit.ReactionRemove message user emoji) = shown-if (unreacted s v user emoji) (find_head message s.messages) (λ head. record { message = refl; of = refl })
-  row-messages note (edit.Typing place user at) = shown-of (record { place = place; dispatch = TypingStart s.id place user (at / 1000) }) (record { message = refl; of = refl })
+  row-messages note (edit.ReactionAdd reaction) = shown-if (reacted s reaction) (find_head reaction.message s.messages) (λ head. record { message = refl; of = refl })
+  row-messages note (edit.ReactionRemove reaction) = shown-if (unreacted s reaction) (find_head reaction.message s.messages) (λ head. record { message = refl; of = refl })
+  row-messages note (edit.Typing e) = shown-of (typed s.id e) (record { message = refl; of = refl })
 
   pub row-of : (note : MessageNote) (e : MessageEdit) → All (IsOf s.id) (message_row s v note e)
   row-of note e = All-weaker (IsMessageOf s.id) (IsOf s.id) (λ d told. told.of) (message_row s v note e) (row-messages note e)

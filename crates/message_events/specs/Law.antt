@@ -1,4 +1,4 @@
--- What a client holds after it was told what an edit of messages owes, and who is owed the same.
+-- What a client holds after it is told what an edit of messages owes, and who is owed the same.
 use Rattle.std.specs.Prelude.{◌≡◌}
 use Rattle.guild_model.specs.declared.member.Member.{Member}
 use Rattle.guild_model.specs.Record.{Record}

@@ -6,8 +6,8 @@ use Rattle.dispatch_types.specs.declared.dispatch.Dispatch.TheVariants.{MessageC
 abbrev pub is_message : Dispatch → Bool
 is_message (MessageCreate message) = true
 is_message (MessageUpdate message) = true
-is_message (MessageDelete guild channel id) = true
+is_message (MessageDelete delete) = true
 is_message (MessageReactionAdd reaction) = true
 is_message (MessageReactionRemove reaction) = true
-is_message (TypingStart guild channel user seconds) = true
+is_message (TypingStart typing) = true
 is_message _ = false

@@ -12,7 +12,7 @@ abbrev pub note_of : Option MessageHead → MessageNote
 note_of None = Nothing
 note_of (Some head) = Stood head.place
 
--- where a message stood that goes
+-- where a message stood that is deleted
 abbrev pub message_note : Record → MessageEdit → MessageNote
 message_note s (MessageDelete message) = note_of (find_head message s.messages)
 message_note s _ = Nothing

@@ -1,21 +1,23 @@
-//! How an edit of messages is told a viewer, without the dispatch being made.
+//! In which form an edit of messages is told a viewer. No dispatch is made for it.
 
-ghost use Rattle.std.specs.Prelude.{◌≡◌, ◌==◌, true};
+ghost use Rattle.std.specs.Prelude.{◌≡◌, ◌==◌, true, option_map};
 ghost use Rattle.std.specs.List.{list_any};
+ghost use Rattle.guild_model.specs.Heads.{find_head};
 ghost use Rattle.message_gate.specs.Redacted.{mentions, reads};
 ghost use Rattle.message_gate.specs.Shows.{shows};
-ghost use Rattle.message_events.specs.Rows.{mentioned};
-ghost use Rattle.message_events.specs.Forms.{form_by, message_form};
+ghost use Rattle.message_events.specs.Rows.{user_of, mentioned, created, updated};
+ghost use Rattle.message_events.specs.Forms.{form_by, form_of, message_form};
 
 use crate::notes::MessageNote;
 use dispatch_types::Viewer;
 use guild_model::Guild;
 use intent_set::Kind;
-use message_edit::{MessageBody, MessageEdit};
+use message_edit::{MessageBody, MessageCreate, MessageEdit, MessageUpdate};
 use message_gate::{reads, shows};
 use snowflake_id::Snowflake;
 
-/// How an edit of messages, reactions or typing is told a viewer. Viewers of one form are told the same.
+/// How an edit of messages, reactions or typing is told a viewer. Viewers of one form are told the
+/// same.
 #[derive(Clone, Copy, PartialEq, Eq, Debug)]
 pub enum MessageForm {
     /// It is not shown to the viewer.
@@ -32,7 +34,8 @@ fn names(users: &[Snowflake], user: Snowflake) -> bool
     users.iter().any(|one| *one == user)
 }
 
-// Whether a user is among those that a message mentions as the members that they are.
+// Whether a message that names these users mentions a user. Users who are not members are not
+// mentioned.
 #[tactic(auto, using(crate::proofs::Forming::mentions_member))]
 fn mentions(guild: &Guild, users: &[Snowflake], user: Snowflake) -> bool
     ensures { result ≡ mentions (mentioned guild.now users.now) user }
@@ -40,81 +43,73 @@ fn mentions(guild: &Guild, users: &[Snowflake], user: Snowflake) -> bool
     names(users, user) && guild.member(user).is_some()
 }
 
-fn form_by(is_shown: bool, is_whole: bool) -> MessageForm
-    ensures { result ≡ form_by is_shown is_whole }
+// The form of a message of an author that is shown to the viewer.
+fn by_content(after: &Guild, viewer: &Viewer, author: Snowflake, body: &MessageBody) -> MessageForm
+    ensures { result ≡ form_by true (reads viewer.now author (mentions (mentioned after.now body.now.mentions) viewer.now.user)) }
 {
-    if !is_shown {
-        MessageForm::Hidden
-    } else if is_whole {
+    let is_mentioned = mentions(after, body.mentions.as_slice(), viewer.user);
+    if reads(viewer, author, is_mentioned) {
         MessageForm::Whole
     } else {
         MessageForm::Emptied
     }
 }
 
-// The form of a message of an author.
-fn written(
-    after: &Guild,
-    viewer: &Viewer,
-    place: Snowflake,
-    kind: Kind,
-    author: Snowflake,
-    body: &MessageBody,
-) -> MessageForm
-    ensures { result ≡ form_by (shows after.now viewer.now place kind) (reads viewer.now author (mentions (mentioned after.now body.now.mentions) viewer.now.user)) }
+fn created(after: &Guild, viewer: &Viewer, edit: &MessageCreate) -> MessageForm
+    ensures { result ≡ form_of after.now viewer.now (option_map (created after.now edit.now) (user_of after.now edit.now.author)) }
 {
-    if !shows(after, viewer, place, kind) {
+    let Some(member) = after.member(edit.author) else {
+        return MessageForm::Hidden;
+    };
+    if !shows(after, viewer, edit.place, Kind::MessageCreate) {
         return MessageForm::Hidden;
     }
-    let is_mentioned = mentions(after, body.mentions.as_slice(), viewer.user);
-    form_by(true, reads(viewer, author, is_mentioned))
+    by_content(after, viewer, member.user.id, &edit.body)
 }
 
-// The form of what has no content.
+fn updated(after: &Guild, viewer: &Viewer, edit: &MessageUpdate) -> MessageForm
+    ensures { result ≡ form_of after.now viewer.now (option_map (updated after.now edit.now) (find_head edit.now.message after.now.messages)) }
+{
+    let Some(head) = after.message(edit.message) else {
+        return MessageForm::Hidden;
+    };
+    if !shows(after, viewer, head.place, Kind::MessageUpdate) {
+        return MessageForm::Hidden;
+    }
+    by_content(after, viewer, head.author.id, &edit.body)
+}
+
+// The form of a dispatch without content.
 fn plain(after: &Guild, viewer: &Viewer, place: Snowflake, kind: Kind) -> MessageForm
     ensures { result ≡ form_by (shows after.now viewer.now place kind) true }
 {
-    form_by(shows(after, viewer, place, kind), true)
+    if shows(after, viewer, place, kind) {
+        MessageForm::Whole
+    } else {
+        MessageForm::Hidden
+    }
 }
 
-/// How an edit is told a viewer, by what was noted before the edit and the record after it. Takes no
-/// memory.
-#[tactic(auto, using(crate::proofs::Forming::created_form, crate::proofs::Forming::updated_form))]
+/// The form of an edit for a viewer, by what was noted before the edit and the record after it. Does
+/// not allocate.
 pub fn form(note: &MessageNote, after: &Guild, viewer: &Viewer, edit: &MessageEdit) -> MessageForm
     ensures { result ≡ message_form after.now viewer.now note.now edit.now }
 {
     match edit {
-        MessageEdit::MessageCreate {
-            place,
-            author,
-            body,
-            ..
-        } => match after.member(*author) {
-            Some(member) => {
-                let author = member.user.id;
-                written(after, viewer, *place, Kind::MessageCreate, author, body)
-            }
-            None => MessageForm::Hidden,
-        },
-        MessageEdit::MessageUpdate { message, body } => match after.message(*message) {
-            Some(head) => {
-                let author = head.author.id;
-                written(after, viewer, head.place, Kind::MessageUpdate, author, body)
-            }
-            None => MessageForm::Hidden,
-        },
+        MessageEdit::MessageCreate(edit) => created(after, viewer, edit),
+        MessageEdit::MessageUpdate(edit) => updated(after, viewer, edit),
         MessageEdit::MessageDelete { .. } => match note {
             MessageNote::Stood(place) => plain(after, viewer, *place, Kind::MessageDelete),
             MessageNote::Nothing => MessageForm::Hidden,
         },
-        MessageEdit::ReactionAdd { message, .. } => match after.message(*message) {
+        MessageEdit::ReactionAdd(reaction) => match after.message(reaction.message) {
             Some(head) => plain(after, viewer, head.place, Kind::MessageReactionAdd),
             None => MessageForm::Hidden,
         },
-        MessageEdit::ReactionRemove { message, .. } => match after.message(*message) {
+        MessageEdit::ReactionRemove(reaction) => match after.message(reaction.message) {
             Some(head) => plain(after, viewer, head.place, Kind::MessageReactionRemove),
             None => MessageForm::Hidden,
         },
-        MessageEdit::Typing { place, .. } => plain(after, viewer, *place, Kind::TypingStart),
+        MessageEdit::Typing(edit) => plain(after, viewer, edit.place, Kind::TypingStart),
     }
 }

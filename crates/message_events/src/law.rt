@@ -1,3 +1,5 @@
+//! Laws on what edits of messages owe.
+
 ghost use Rattle.message_events.specs.Law.{MessageEditKeeps, FormDecides};
 
 /// After what an edit of messages owes, a client holds its member's view of the record after it.
@@ -5,7 +7,7 @@ pub fn message_edit_keeps()
     ensures { MessageEditKeeps }
 {}
 
-/// Viewers to which an edit of messages is told in one form are owed the same.
+/// Viewers of one form are owed the same.
 pub fn form_decides()
     ensures { FormDecides }
 {}

@@ -10,4 +10,4 @@ pub mod rows;
 
 pub use forms::{MessageForm, form};
 pub use notes::{MessageNote, note};
-pub use rows::row;
+pub use rows::{in_form, row};

@@ -13,7 +13,7 @@ use snowflake_id::Snowflake;
 pub enum MessageNote {
     /// Nothing: the record after the edit says all.
     Nothing,
-    /// The message that goes stood in this channel or thread.
+    /// The message that is deleted stood in this channel or thread.
     Stood(Snowflake),
 }
 
@@ -26,16 +26,16 @@ fn stood(before: &Guild, message: Snowflake) -> MessageNote
     }
 }
 
-/// Keeps what [`row`](crate::row) has to know of the record before an edit.
+/// Notes what [`row`](crate::row) has to know of the record before an edit.
 pub fn note(before: &Guild, edit: &MessageEdit) -> MessageNote
     ensures { result ≡ message_note before.now edit.now }
 {
     match edit {
         MessageEdit::MessageDelete { message } => stood(before, *message),
-        MessageEdit::MessageCreate { .. } => MessageNote::Nothing,
-        MessageEdit::MessageUpdate { .. } => MessageNote::Nothing,
-        MessageEdit::ReactionAdd { .. } => MessageNote::Nothing,
-        MessageEdit::ReactionRemove { .. } => MessageNote::Nothing,
-        MessageEdit::Typing { .. } => MessageNote::Nothing,
+        MessageEdit::MessageCreate(_) => MessageNote::Nothing,
+        MessageEdit::MessageUpdate(_) => MessageNote::Nothing,
+        MessageEdit::ReactionAdd(_) => MessageNote::Nothing,
+        MessageEdit::ReactionRemove(_) => MessageNote::Nothing,
+        MessageEdit::Typing(_) => MessageNote::Nothing,
     }
 }

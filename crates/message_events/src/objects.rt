@@ -1,17 +1,19 @@
 //! Messages and reactions as they are sent (Message Resource, Message Object; Gateway Events, Message
 //! Reaction Add).
 
-ghost use Rattle.std.specs.Prelude.{◌≡◌, ◌++◌, IfOk, OnOk};
-ghost use Rattle.message_events.specs.Rows.{mentioned, message_of, named, reaction_of, user_of};
+ghost use Rattle.std.specs.Prelude.{◌≡◌, ◌++◌, [], IfOk, OnOk, if◌then◌else◌};
+ghost use Rattle.std.specs.Option.{option_to_list};
+ghost use Rattle.message_events.specs.Rows.{mentioned, message_of, reaction_of, user_of};
+ghost use Rattle.message_events.specs.Forms.{content_if};
 
 use collections::{Duplicate, Seq, Text};
 use dispatch_types::{MessageObject, Reaction};
-use guild_model::{Guild, MessageHead, User};
-use message_edit::MessageBody;
+use guild_model::{Guild, MessageHead, PartCount, User};
+use message_edit::{MessageBody, ReactionBody};
 use snowflake_id::Snowflake;
 use std::alloc::{AllocError, Global};
 
-/// A user as the member that it is now, and nothing exactly where it is none.
+/// A user as the member that it is now. `None` exactly if it is not a member.
 pub fn user_of(alloc: Global, guild: &Guild, user: Snowflake) -> Result<Option<User>, AllocError>
     ensures { IfOk result (λ found. found ≡ user_of guild.now user) }
 {
@@ -21,13 +23,13 @@ pub fn user_of(alloc: Global, guild: &Guild, user: Snowflake) -> Result<Option<U
     }
 }
 
-fn add_named(
+fn add_mentioned(
     alloc: Global,
     guild: &Guild,
     user: Snowflake,
     list: &mut Seq<User>,
 ) -> Result<(), AllocError>
-    ensures { OnOk result (list.new ≡ list.old ++ named (user_of guild.now user)) }
+    ensures { OnOk result (list.new ≡ list.old ++ option_to_list (user_of guild.now user)) }
 {
     match user_of(alloc, guild, user)? {
         Some(user) => list.push(user),
@@ -41,50 +43,73 @@ fn mentioned(alloc: Global, guild: &Guild, users: &[Snowflake]) -> Result<Seq<Us
 {
     let mut list = Seq::new(alloc);
     for user in users {
-        add_named(alloc, guild, *user, &mut list)?;
+        add_mentioned(alloc, guild, *user, &mut list)?;
     }
     Ok(list)
 }
 
-/// A message of an author, as it is sent.
+/// Which message a dispatch is about, and who wrote it.
+#[derive(Drop)]
+pub struct Written {
+    pub channel: Snowflake,
+    pub id: Snowflake,
+    pub author: User,
+}
+
+fn content(alloc: Global, with_content: bool, body: &MessageBody) -> Result<Text, AllocError>
+    ensures { IfOk result (λ text. text ≡ (if with_content then body.now.content else [])) }
+{
+    if with_content {
+        body.content.copy(alloc)
+    } else {
+        Ok(Text::empty(alloc))
+    }
+}
+
+fn parts(with_content: bool, count: PartCount) -> PartCount
+    ensures { result ≡ (if with_content then count else 0) }
+{
+    if with_content { count } else { PartCount::NONE }
+}
+
+/// A message of this body, as it is sent with its content or without.
 pub fn message_of(
     alloc: Global,
     guild: &Guild,
-    message: Snowflake,
-    place: Snowflake,
+    with_content: bool,
+    written: Written,
     body: &MessageBody,
-    author: User,
 ) -> Result<MessageObject, AllocError>
-    ensures { IfOk result (λ object. object ≡ message_of guild.now message place body.now author) }
+    ensures { IfOk result (λ object. object
+        ≡ content_if with_content (message_of guild.now written.id written.channel body.now written.author)) }
 {
     Ok(MessageObject {
         guild: guild.id,
-        channel: place,
-        id: message,
-        author,
-        content: body.content.copy(alloc)?,
+        channel: written.channel,
+        id: written.id,
+        author: written.author,
+        content: content(alloc, with_content, body)?,
         mentions: mentioned(alloc, guild, body.mentions.as_slice())?,
-        embeds: body.embeds,
-        attachments: body.attachments,
-        components: body.components,
+        embeds: parts(with_content, body.embeds),
+        attachments: parts(with_content, body.attachments),
+        components: parts(with_content, body.components),
     })
 }
 
-/// A reaction of a user to a message, as it is sent.
+/// A reaction to a message, as it is sent.
 pub fn reaction_of(
     alloc: Global,
     guild: &Guild,
-    user: Snowflake,
-    emoji: &Text,
+    reaction: &ReactionBody,
     head: &MessageHead,
 ) -> Result<Reaction, AllocError>
-    ensures { IfOk result (λ reaction. reaction ≡ reaction_of guild.now user emoji.now head.now) }
+    ensures { IfOk result (λ sent. sent ≡ reaction_of guild.now reaction.now head.now) }
 {
     Ok(Reaction {
         guild: guild.id,
         channel: head.place,
         message: head.id,
-        user,
-        emoji: emoji.copy(alloc)?,
+        user: reaction.user,
+        emoji: reaction.emoji.copy(alloc)?,
     })
 }

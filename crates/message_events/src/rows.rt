@@ -1,183 +1,178 @@
-//! The dispatch of each edit of messages, reactions and typing, where it is shown.
+//! The dispatch of each edit of messages, reactions and typing, in each form.
 
-ghost use Rattle.std.specs.Prelude.{◌≡◌, ◌/◌, IfOk, Some, option_map};
+ghost use Rattle.std.specs.Prelude.{◌≡◌, ◌++◌, Bool, IfOk, OnOk, option_map};
 ghost use Rattle.guild_model.specs.Heads.{find_head};
-ghost use Rattle.message_events.specs.Rows.{created, updated, reacted, unreacted, user_of, message_told, shown, message_row};
+ghost use Rattle.message_events.specs.Rows.{created, updated, deleted, reacted, unreacted, typed, user_of, message_whole, message_row};
+ghost use Rattle.message_events.specs.Forms.{told_with, told_by, in_form};
 
+use crate::forms::{MessageForm, form};
 use crate::notes::MessageNote;
-use crate::objects::{message_of, reaction_of, user_of};
-use collections::{Duplicate, Text};
-use dispatch_types::{Dispatch, Viewer};
-use event_views::one;
-use guild_model::{Guild, MessageHead, Moment};
-use intent_set::Kind;
-use message_edit::{MessageBody, MessageEdit};
-use message_gate::{redact, shows};
+use crate::objects::{Written, message_of, reaction_of, user_of};
+use collections::Duplicate;
+use dispatch_types::{Dispatch, MessageDelete, TypingStart};
+use event_views::Recipient;
+use guild_model::Guild;
+use message_edit::{MessageCreate, MessageEdit, MessageUpdate, ReactionBody, Typing};
 use snowflake_id::Snowflake;
 use std::alloc::{AllocError, Global};
 
 fn created(
     alloc: Global,
+    with_content: bool,
     after: &Guild,
-    viewer: &Viewer,
-    message: Snowflake,
-    place: Snowflake,
-    author: Snowflake,
-    body: &MessageBody,
-) -> Result<Vec<Dispatch>, AllocError>
-    ensures { IfOk result (λ list. list.items ≡ shown after.now viewer.now (option_map (created after.now viewer.now message place body.now) (user_of after.now author))) }
+    edit: &MessageCreate,
+) -> Result<Option<Dispatch>, AllocError>
+    ensures { IfOk result (λ told. told
+        ≡ told_by with_content (option_map (created after.now edit.now) (user_of after.now edit.now.author))) }
 {
-    if !shows(after, viewer, place, Kind::MessageCreate) {
-        return Ok(Vec::new(alloc));
-    }
-    match user_of(alloc, after, author)? {
-        Some(author) => {
-            let object = message_of(alloc, after, message, place, body, author)?;
-            one(alloc, Dispatch::MessageCreate(redact(object, viewer)))
-        }
-        None => Ok(Vec::new(alloc)),
-    }
+    let Some(author) = user_of(alloc, after, edit.author)? else {
+        return Ok(None);
+    };
+    let written = Written {
+        channel: edit.place,
+        id: edit.message,
+        author,
+    };
+    let message = message_of(alloc, after, with_content, written, &edit.body)?;
+    Ok(Some(Dispatch::MessageCreate(message)))
 }
 
 fn updated(
     alloc: Global,
+    with_content: bool,
     after: &Guild,
-    viewer: &Viewer,
-    body: &MessageBody,
-    head: &MessageHead,
-) -> Result<Vec<Dispatch>, AllocError>
-    ensures { IfOk result (λ list. list.items ≡ shown after.now viewer.now (Some (updated after.now viewer.now body.now head.now))) }
+    edit: &MessageUpdate,
+) -> Result<Option<Dispatch>, AllocError>
+    ensures { IfOk result (λ told. told
+        ≡ told_by with_content (option_map (updated after.now edit.now) (find_head edit.now.message after.now.messages))) }
 {
-    if !shows(after, viewer, head.place, Kind::MessageUpdate) {
-        return Ok(Vec::new(alloc));
-    }
-    let author = head.author.duplicate(alloc)?;
-    let object = message_of(alloc, after, head.id, head.place, body, author)?;
-    one(alloc, Dispatch::MessageUpdate(redact(object, viewer)))
+    let Some(head) = after.message(edit.message) else {
+        return Ok(None);
+    };
+    let written = Written {
+        channel: head.place,
+        id: head.id,
+        author: head.author.duplicate(alloc)?,
+    };
+    let message = message_of(alloc, after, with_content, written, &edit.body)?;
+    Ok(Some(Dispatch::MessageUpdate(message)))
 }
 
-fn deleted(
-    alloc: Global,
-    note: &MessageNote,
-    after: &Guild,
-    viewer: &Viewer,
-    message: Snowflake,
-) -> Result<Vec<Dispatch>, AllocError>
-    ensures { IfOk result (λ list. list.items ≡ message_row after.now viewer.now note.now (MessageEdit.MessageDelete message)) }
+fn deleted(note: &MessageNote, guild: Snowflake, message: Snowflake) -> Option<Dispatch>
+    ensures { result ≡ option_map (λ about. about.dispatch) (deleted guild note.now message) }
 {
     match note {
-        MessageNote::Stood(place) => {
-            if !shows(after, viewer, *place, Kind::MessageDelete) {
-                return Ok(Vec::new(alloc));
-            }
-            let dispatch = Dispatch::MessageDelete {
-                guild: after.id,
-                channel: *place,
-                id: message,
-            };
-            one(alloc, dispatch)
-        }
-        MessageNote::Nothing => Ok(Vec::new(alloc)),
+        MessageNote::Stood(place) => Some(Dispatch::MessageDelete(MessageDelete {
+            guild,
+            channel: *place,
+            id: message,
+        })),
+        MessageNote::Nothing => None,
     }
 }
 
 fn reacted(
     alloc: Global,
     after: &Guild,
-    viewer: &Viewer,
-    user: Snowflake,
-    emoji: &Text,
-    head: &MessageHead,
-) -> Result<Vec<Dispatch>, AllocError>
-    ensures { IfOk result (λ list. list.items ≡ shown after.now viewer.now (Some (reacted after.now viewer.now user emoji.now head.now))) }
+    reaction: &ReactionBody,
+) -> Result<Option<Dispatch>, AllocError>
+    ensures { IfOk result (λ told. (with_content : Bool) → told
+        ≡ told_by with_content (option_map (reacted after.now reaction.now) (find_head reaction.now.message after.now.messages))) }
 {
-    if !shows(after, viewer, head.place, Kind::MessageReactionAdd) {
-        return Ok(Vec::new(alloc));
+    match after.message(reaction.message) {
+        Some(head) => {
+            let sent = reaction_of(alloc, after, reaction, head)?;
+            Ok(Some(Dispatch::MessageReactionAdd(sent)))
+        }
+        None => Ok(None),
     }
-    let reaction = reaction_of(alloc, after, user, emoji, head)?;
-    one(alloc, Dispatch::MessageReactionAdd(reaction))
 }
 
 fn unreacted(
     alloc: Global,
     after: &Guild,
-    viewer: &Viewer,
-    user: Snowflake,
-    emoji: &Text,
-    head: &MessageHead,
-) -> Result<Vec<Dispatch>, AllocError>
-    ensures { IfOk result (λ list. list.items ≡ shown after.now viewer.now (Some (unreacted after.now viewer.now user emoji.now head.now))) }
+    reaction: &ReactionBody,
+) -> Result<Option<Dispatch>, AllocError>
+    ensures { IfOk result (λ told. (with_content : Bool) → told
+        ≡ told_by with_content (option_map (unreacted after.now reaction.now) (find_head reaction.now.message after.now.messages))) }
 {
-    if !shows(after, viewer, head.place, Kind::MessageReactionRemove) {
-        return Ok(Vec::new(alloc));
+    match after.message(reaction.message) {
+        Some(head) => {
+            let sent = reaction_of(alloc, after, reaction, head)?;
+            Ok(Some(Dispatch::MessageReactionRemove(sent)))
+        }
+        None => Ok(None),
     }
-    let reaction = reaction_of(alloc, after, user, emoji, head)?;
-    one(alloc, Dispatch::MessageReactionRemove(reaction))
 }
 
-fn typing(
+fn typed(guild: Snowflake, edit: &Typing) -> Dispatch
+    ensures { result ≡ (typed guild edit.now).dispatch }
+{
+    Dispatch::TypingStart(TypingStart {
+        guild,
+        channel: edit.place,
+        user: edit.user,
+        seconds: edit.at.millis() / 1000,
+    })
+}
+
+// The dispatch of an edit, with the content of its message or without.
+fn told(
     alloc: Global,
+    with_content: bool,
+    note: &MessageNote,
     after: &Guild,
-    viewer: &Viewer,
-    place: Snowflake,
-    user: Snowflake,
-    at: Moment,
-) -> Result<Vec<Dispatch>, AllocError>
-    ensures { IfOk result (λ list. list.items ≡ shown after.now viewer.now (Some (record { place = place; dispatch = Dispatch.TypingStart after.now.id place user (at / 1000) }))) }
+    edit: &MessageEdit,
+) -> Result<Option<Dispatch>, AllocError>
+    ensures { IfOk result (λ told. told ≡ told_by with_content (message_whole after.now note.now edit.now)) }
 {
-    if !shows(after, viewer, place, Kind::TypingStart) {
-        return Ok(Vec::new(alloc));
+    match edit {
+        MessageEdit::MessageCreate(edit) => created(alloc, with_content, after, edit),
+        MessageEdit::MessageUpdate(edit) => updated(alloc, with_content, after, edit),
+        MessageEdit::MessageDelete { message } => Ok(deleted(note, after.id, *message)),
+        MessageEdit::ReactionAdd(reaction) => reacted(alloc, after, reaction),
+        MessageEdit::ReactionRemove(reaction) => unreacted(alloc, after, reaction),
+        MessageEdit::Typing(edit) => Ok(Some(typed(after.id, edit))),
     }
-    let dispatch = Dispatch::TypingStart {
-        guild: after.id,
-        channel: place,
-        user,
-        seconds: at.millis() / 1000,
-    };
-    one(alloc, dispatch)
 }
 
-/// The dispatch of an edit exactly where it is shown to the viewer, by what was noted before the edit
-/// and the record after it; else nothing.
+/// The dispatch of an edit for viewers of a form, by what was noted before the edit and the record
+/// after it. `None` for the form [`MessageForm::Hidden`].
+pub fn in_form(
+    alloc: Global,
+    form: MessageForm,
+    note: &MessageNote,
+    after: &Guild,
+    edit: &MessageEdit,
+) -> Result<Option<Dispatch>, AllocError>
+    ensures { IfOk result (λ told. told ≡ in_form form (message_whole after.now note.now edit.now)) }
+{
+    match form {
+        MessageForm::Hidden => Ok(None),
+        MessageForm::Emptied => told(alloc, false, note, after, edit),
+        MessageForm::Whole => told(alloc, true, note, after, edit),
+    }
+}
+
+/// Adds the dispatch of an edit if it is shown to the viewer, by what was noted before the edit and
+/// the record after it.
+#[tactic(auto, using(crate::proofs::Alike::row_in_form))]
 pub fn row(
     alloc: Global,
     note: &MessageNote,
-    after: &Guild,
-    viewer: &Viewer,
+    to: &Recipient<'_>,
     edit: &MessageEdit,
-) -> Result<Vec<Dispatch>, AllocError>
-    ensures { IfOk result (λ list. list.items ≡ message_row after.now viewer.now note.now edit.now) }
+    list: &mut Vec<Dispatch>,
+) -> Result<(), AllocError>
+    ensures { OnOk result (list.new.items
+        ≡ list.old.items ++ message_row to.now.after to.now.viewer note.now edit.now) }
 {
-    match edit {
-        MessageEdit::MessageCreate {
-            message,
-            place,
-            author,
-            body,
-        } => created(alloc, after, viewer, *message, *place, *author, body),
-        MessageEdit::MessageUpdate { message, body } => match after.message(*message) {
-            Some(head) => updated(alloc, after, viewer, body, head),
-            None => Ok(Vec::new(alloc)),
-        },
-        MessageEdit::MessageDelete { message } => deleted(alloc, note, after, viewer, *message),
-        MessageEdit::ReactionAdd {
-            message,
-            user,
-            emoji,
-        } => match after.message(*message) {
-            Some(head) => reacted(alloc, after, viewer, *user, emoji, head),
-            None => Ok(Vec::new(alloc)),
-        },
-        MessageEdit::ReactionRemove {
-            message,
-            user,
-            emoji,
-        } => match after.message(*message) {
-            Some(head) => unreacted(alloc, after, viewer, *user, emoji, head),
-            None => Ok(Vec::new(alloc)),
-        },
-        MessageEdit::Typing { place, user, at } => {
-            typing(alloc, after, viewer, *place, *user, *at)
+    let form = form(note, to.after, to.viewer, edit);
+    match in_form(alloc, form, note, to.after, edit)? {
+        Some(dispatch) => {
+            list.push(dispatch)?;
+            Ok(())
         }
+        None => Ok(()),
     }
 }

@@ -19,25 +19,26 @@ use Rattle.guild_model.specs.Sight.{standing}
 use Rattle.guild_model.proofs.Tests.{first_passes, not_refused}
 use Rattle.dispatch_types.specs.declared.viewer.Viewer.{Viewer}
 use Rattle.dispatch_types.specs.declared.dispatch.Dispatch.{Dispatch}
-use Rattle.dispatch_types.specs.declared.dispatch.Dispatch.TheVariants.{GuildRoleCreate, GuildMemberAdd}
-use Rattle.dispatch_types.specs.Objects.{member_object}
+use Rattle.dispatch_types.specs.declared.dispatch.Dispatch.TheVariants.{GuildMemberAdd}
 use Rattle.dispatch_types.specs.Fold.{Held, fold_from}
 use Rattle.thread_sync.specs.ChannelSights.{sights}
 use Rattle.thread_sync.specs.BySights.{sync_by}
-use Rattle.role_member_edit.specs.Roles.{role_taken, everyone_role, with_role_set}
+use Rattle.role_member_edit.specs.declared.role_body.RoleBody.{RoleBody}
+use Rattle.role_member_edit.specs.declared.member_add.MemberAdd.{MemberAdd as Addition}
+use Rattle.role_member_edit.specs.Roles.{role_taken, everyone_role, role_of, role_create_verdict, role_created}
 use Rattle.role_member_edit.specs.Members.{new_member, member_added, member_add_verdict, owner_stays, member_removed, nick_verdict, with_member_changed, with_nick, with_timeout}
 use Rattle.role_member_edit.specs.HeldRoles.{holds, with_role}
 use Rattle.event_views.specs.Asked.{asked, told_if}
-use Rattle.event_views.specs.Synced.{synced}
 use Rattle.event_views.specs.Has.{Has}
 use Rattle.role_member_edit.specs.declared.RoleMemberEdit.{RoleMemberEdit}
 use Rattle.role_member_edit.specs.declared.RoleMemberEdit.TheVariants.{RoleCreate, RoleUpdate, RoleDelete, MemberAdd, MemberRemove, MemberNick, MemberTimeout, MemberRoleAdd, MemberRoleRemove}
 use Rattle.role_member_edit.specs.RoleMember.{role_member_verdict, role_member_applied}
-use Rattle.role_member_events.specs.Ends.{end_of, before_rights, before_nothing, before_own_rights, role_member_note}
-use Rattle.role_member_events.specs.Rows.{role_of, member_told, member_updated, member_ended, role_member_row}
+use Rattle.role_member_events.specs.declared.ends.RoleMemberNote.TheVariants.{Nothing, Leaving}
+use Rattle.role_member_events.specs.Ends.{end_of, before_end, before_rights, before_own_rights, role_member_note}
+use Rattle.role_member_events.specs.Rows.{added_member, member_told, member_updated, member_ended, roles_changed, role_member_row}
 use Rattle.role_member_events.proofs.Membership.{follows-member_changed, follows-other, follows-member_add}
 use Rattle.role_member_events.proofs.Gone.{follows-gone}
-use Rattle.role_member_events.proofs.Rights.{follows-role_create, follows-role_update, follows-role_delete, follows-member_roles}
+use Rattle.role_member_events.proofs.Rights.{created, follows-role_create, follows-role_update, follows-role_delete, follows-member_roles}
 
 -- what a test that passed says
 pub there_is : {T : Type 0} → (o : Option T) → not (is_some o) ≡ false → (x : T) × (o ≡ Some x)
@@ -63,11 +64,10 @@ module _ (s : Record) (v : Viewer) (h : Held) (me : Member) (well : IsWell s) (o
   same-me : (me' : Member) → find_id member_id v.user s.members ≡ Some me' → me ≡ me'
   same-me me' own' = cc
 
-  pub follows-create : (role : ℕ) (name : List ℕ) (perms position : ℕ) → first_of (role_taken s role ∷ too_many 250 (length s.roles) ∷ too_long 100 name ∷ []) ≡ None
-      → Has s v me h → Has (with_role_set s (role_of role name perms position)) v me (fold_from v.intents s.id h (asked v false (GuildRoleCreate s.id (role_of role name perms position))))
-  follows-create role name perms position ok has =
-      follows-role_create s v h me (role_of role name perms position) well opened own asks
-      (not_refused (has_id role_id role s.roles) IdTaken (first_passes (role_taken s role) (too_many 250 (length s.roles) ∷ too_long 100 name ∷ []) ok).0) has
+  pub follows-create : (e : RoleBody) → role_create_verdict s e ≡ None → Has s v me h → Has (role_created s e) v me (fold_from v.intents s.id h (asked v false (created s (role_of e))))
+  follows-create e ok has =
+      let new = (first_passes (role_taken s e.role) (too_many 250 (length s.roles) ∷ too_long 100 e.name ∷ []) ok).0 in
+      follows-role_create s v h me (role_of e) well opened own asks (not_refused (has_id role_id e.role s.roles) IdTaken new) has
 
   -- a member that changes is told as it then is
   told-changed : (user : ℕ) (f : Member → Member) (x : Member) → ((m : Member) → (f m).user.id ≡ m.user.id) → find_id member_id user s.members ≡ Some x
@@ -93,7 +93,7 @@ module _ (s : Record) (v : Viewer) (h : Held) (me : Member) (well : IsWell s) (o
     t = with_member_changed s user f
 
     -- the own roles may change what is seen, and those of others do not
-    pub follows-roles : Has s v me h → Has t v me' (fold_from v.intents s.id h (member_updated t v user ++ synced (before_own_rights s me user).sights t v me'))
+    pub follows-roles : Has s v me h → Has t v me' (fold_from v.intents s.id h (roles_changed (before_own_rights s me user) t v me' user))
     follows-roles has = by_own (user == me.user.id) refl
       where
         found : (x : Member) × (find_id member_id user s.members ≡ Some x)
@@ -102,7 +102,7 @@ module _ (s : Record) (v : Viewer) (h : Held) (me : Member) (well : IsWell s) (o
         ordered : IsById own_id (f found.0).roles
         ordered = roles-ordered user f found.0 same after found.1
 
-        by_own : (b : Bool) → (user == me.user.id) ≡ b → Has t v me' (fold_from v.intents s.id h (member_updated t v user ++ synced (if b then before_rights s me else before_nothing).sights t v me'))
+        by_own : (b : Bool) → (user == me.user.id) ≡ b → Has t v me' (fold_from v.intents s.id h (roles_changed (if b then before_rights s me else Nothing) t v me' user))
         by_own true is =
             subst (λ (o : Option Member). Has t v me' (fold_from v.intents s.id h (member_told t v o ++ told_if v (sync_by (sights (standing s me)) t me')))) (sym (told-changed user f found.0 same found.1))
             (follows-member_roles s v user f found.0 me me' same well found.1 own own' h ordered asks has)
@@ -112,38 +112,41 @@ module _ (s : Record) (v : Viewer) (h : Held) (me : Member) (well : IsWell s) (o
             (subst (λ (o : Option Member). Has t v me' (fold_from v.intents s.id h (member_told t v o))) (sym (told-changed user f found.0 same found.1))
             (follows-other s v user f found.0 me me' same well.ascending found.1 own own' h ordered other has))
 
-  -- one that comes is not the viewer's bot, which is there
-  pub follows-add : (user : ℕ) (name : List ℕ) (bot : Bool) (at : ℕ) (me' : Member) → find_id member_id v.user (member_added s user name bot at).members ≡ Some me' → member_add_verdict s user name ≡ None
-      → Has s v me h → Has (member_added s user name bot at) v me' (fold_from v.intents s.id h (asked v (user == v.user) (GuildMemberAdd s.id (member_object (new_member user name bot at)))))
-  follows-add user name bot at me' own' ok has =
-      subst (λ (m : Member). Has (member_added s user name bot at) v m (fold_from v.intents s.id h (asked v (user == v.user) (GuildMemberAdd s.id (member_object (new_member user name bot at)))))) stays
-      (follows-member_add s v h me (new_member user name bot at) well.ascending few tt new (user == v.user) has)
+  -- one that is added is not the viewer's bot, which is there
+  pub follows-add : (e : Addition) (me' : Member) → find_id member_id v.user (member_added s e).members ≡ Some me' → member_add_verdict s e ≡ None
+      → Has s v me h → Has (member_added s e) v me' (fold_from v.intents s.id h (asked v (e.user == v.user) (GuildMemberAdd (added_member s.id e))))
+  follows-add e me' own' ok has =
+      subst (λ (m : Member). Has (member_added s e) v m (fold_from v.intents s.id h (asked v (e.user == v.user) (GuildMemberAdd (added_member s.id e))))) stays
+      (follows-member_add s v h me added well.ascending few tt new (e.user == v.user) has)
     where
-      tests : (refused_if (has_id member_id user s.members) IdTaken ≡ None) × (first_of (too_many 1000 (length s.members) ∷ too_long 100 name ∷ []) ≡ None)
-      tests = first_passes (refused_if (has_id member_id user s.members) IdTaken) (too_many 1000 (length s.members) ∷ too_long 100 name ∷ []) ok
+      added : Member
+      added = new_member e.user e.name e.bot e.at
 
-      new : find_id member_id user s.members ≡ None
-      new = there_is_none (find_id member_id user s.members) (not_refused (has_id member_id user s.members) IdTaken tests.0)
+      tests : (refused_if (has_id member_id e.user s.members) IdTaken ≡ None) × (first_of (too_many 1000 (length s.members) ∷ too_long 100 e.name ∷ []) ≡ None)
+      tests = first_passes (refused_if (has_id member_id e.user s.members) IdTaken) (too_many 1000 (length s.members) ∷ too_long 100 e.name ∷ []) ok
+
+      new : find_id member_id e.user s.members ≡ None
+      new = there_is_none (find_id member_id e.user s.members) (not_refused (has_id member_id e.user s.members) IdTaken tests.0)
 
       few : length s.members < 2 ^ 32 - 1
-      few = let e = below (length s.members) 1000 (first_passes (too_many 1000 (length s.members)) (too_long 100 name ∷ []) tests.1).0 in omega (arith, e)
+      few = let fits = below (length s.members) 1000 (first_passes (too_many 1000 (length s.members)) (too_long 100 e.name ∷ []) tests.1).0 in omega (arith, fits)
 
-      by_own : (b : Bool) → (user == v.user) ≡ b → (if b then Some (new_member user name bot at) else find_id member_id v.user s.members) ≡ Some me' → me ≡ me'
-      by_own true is e =
-          let none : find_id member_id v.user s.members ≡ None = subst (λ (u : ℕ). find_id member_id u s.members ≡ None) (eqb-true user v.user is) new in
+      by_own : (b : Bool) → (e.user == v.user) ≡ b → (if b then Some added else find_id member_id v.user s.members) ≡ Some me' → me ≡ me'
+      by_own true is found =
+          let none : find_id member_id v.user s.members ≡ None = subst (λ (u : ℕ). find_id member_id u s.members ≡ None) (eqb-true e.user v.user is) new in
           absurd (cc)
-      by_own false is e = cc
+      by_own false is found = cc
 
       stays : me ≡ me'
-      stays = by_own (user == v.user) refl (sym (find-put member_id (new_member user name bot at) v.user s.members) ∙ own')
+      stays = by_own (e.user == v.user) refl (sym (find-put member_id added v.user s.members) ∙ own')
 
-  -- nor is one that goes, who is there after it
+  -- nor is one that is removed, who is there after it
   pub follows-remove : (user : ℕ) (me' : Member) → find_id member_id v.user (member_removed s user).members ≡ Some me' → unknown_member s user ≡ None → IsAscending (member_removed s user)
-      → Has s v me h → Has (member_removed s user) v me' (fold_from v.intents s.id h (member_ended (member_removed s user) v (end_of s me (find_id member_id user s.members))))
+      → Has s v me h → Has (member_removed s user) v me' (fold_from v.intents s.id h (member_ended (member_removed s user) v (before_end s me (find_id member_id user s.members))))
   follows-remove user me' own' known after has =
-      subst (λ (m : Member). Has (member_removed s user) v m (fold_from v.intents s.id h (member_ended (member_removed s user) v (end_of s me (find_id member_id user s.members))))) stays
-      (subst (λ (o : Option Member). Has (member_removed s user) v me (fold_from v.intents s.id h (member_ended (member_removed s user) v (end_of s me o)))) (sym found.1)
-      (subst (λ (u : ℕ). Has (member_removed s u) v me (fold_from v.intents s.id h (member_ended (member_removed s u) v (end_of s me (Some found.0))))) at
+      subst (λ (m : Member). Has (member_removed s user) v m (fold_from v.intents s.id h (member_ended (member_removed s user) v (before_end s me (find_id member_id user s.members))))) stays
+      (subst (λ (o : Option Member). Has (member_removed s user) v me (fold_from v.intents s.id h (member_ended (member_removed s user) v (before_end s me o)))) (sym found.1)
+      (subst (λ (u : ℕ). Has (member_removed s u) v me (fold_from v.intents s.id h (member_ended (member_removed s u) v (Leaving (end_of s me found.0))))) at
       (follows-gone s v me found.0 well.ascending (key-found member_id v.user s.members me own) asks
       (subst (λ (u : ℕ). IsAscending (member_removed s u)) (sym at) after) h
       (subst (λ (u : ℕ). find_id member_id u s.members ≡ Some found.0) (sym at) found.1) has)))
@@ -168,23 +171,25 @@ Follows s v h me me' e = Has (role_member_applied s e) v me' (fold_from v.intent
 pub follows-role_member : (s : Record) (v : Viewer) (h : Held) (me me' : Member) (e : RoleMemberEdit) → IsWell s → IsWell (role_member_applied s e) → s.opened ≡ true → role_member_verdict s e ≡ None
     → find_id member_id v.user s.members ≡ Some me → find_id member_id v.user (role_member_applied s e).members ≡ Some me' → has_bit v.intents guilds ≡ true
     → Has s v me h → Follows s v h me me' e
-follows-role_member s v h me me' (RoleCreate role name perms position) well after opened ok own own' asks has =
-    subst (λ (m : Member). Follows s v h me m (RoleCreate role name perms position)) (same-me s v h me well opened own asks me' own') (follows-create s v h me well opened own asks role name perms position ok has)
-follows-role_member s v h me me' (RoleUpdate role name perms position) well after opened ok own own' asks has =
-    subst (λ (m : Member). Follows s v h me m (RoleUpdate role name perms position)) (same-me s v h me well opened own asks me' own') (follows-role_update s v h me (role_of role name perms position) well asks has)
+follows-role_member s v h me me' (RoleCreate e) well after opened ok own own' asks has =
+    subst (λ (m : Member). Follows s v h me m (RoleCreate e)) (same-me s v h me well opened own asks me' own') (follows-create s v h me well opened own asks e ok has)
+follows-role_member s v h me me' (RoleUpdate e) well after opened ok own own' asks has =
+    subst (λ (m : Member). Follows s v h me m (RoleUpdate e)) (same-me s v h me well opened own asks me' own') (follows-role_update s v h me (role_of e) well asks has)
 follows-role_member s v h me me' (RoleDelete role) well after opened ok own own' asks has =
     let became : Some (without_role role me) ≡ Some me' = sym (find-map member_id member_id (without_role role) (λ m. refl) v.user s.members ∙ ap (option_map (without_role role)) own) ∙ own' in
     subst (λ (m : Member). Follows s v h me m (RoleDelete role)) (cc) (follows-role_delete s v h me role well asks has)
-follows-role_member s v h me me' (MemberAdd user name bot at) well after opened ok own own' asks has = follows-add s v h me well opened own asks user name bot at me' own' ok has
+follows-role_member s v h me me' (MemberAdd e) well after opened ok own own' asks has = follows-add s v h me well opened own asks e me' own' ok has
 follows-role_member s v h me me' (MemberRemove user) well after opened ok own own' asks has =
     follows-remove s v h me well opened own asks user me' own' (first_passes (unknown_member s user) (owner_stays s user ∷ []) ok).0 after.ascending has
-follows-role_member s v h me me' (MemberNick user nick) well after opened ok own own' asks has =
-    follows-change s v h me well opened own asks user (with_nick nick) (λ m. refl) after.ascending me' own' (first_passes (unknown_member s user) (nick_verdict nick ∷ []) ok).0 (λ m. refl) has
-follows-role_member s v h me me' (MemberTimeout user until) well after opened ok own own' asks has =
-    follows-change s v h me well opened own asks user (with_timeout until) (λ m. refl) after.ascending me' own' ok (λ m. refl) has
-follows-role_member s v h me me' (MemberRoleAdd user role) well after opened ok own own' asks has =
-    let tests = first_passes (everyone_role s role) (unknown_member s user ∷ unknown_role s role ∷ refused_if (holds s user role) IdTaken ∷ []) ok in
-    follows-roles s v h me well opened own asks user (with_role role) (λ m. refl) after.ascending me' own' (first_passes (unknown_member s user) (unknown_role s role ∷ refused_if (holds s user role) IdTaken ∷ []) tests.1).0 has
-follows-role_member s v h me me' (MemberRoleRemove user role) well after opened ok own own' asks has =
-    let tests = first_passes (everyone_role s role) (unknown_member s user ∷ refused_if (not (holds s user role)) UnknownRole ∷ []) ok in
-    follows-roles s v h me well opened own asks user (without_role role) (λ m. refl) after.ascending me' own' (first_passes (unknown_member s user) (refused_if (not (holds s user role)) UnknownRole ∷ []) tests.1).0 has
+follows-role_member s v h me me' (MemberNick e) well after opened ok own own' asks has =
+    follows-change s v h me well opened own asks e.user (with_nick e.nick) (λ m. refl) after.ascending me' own' (first_passes (unknown_member s e.user) (nick_verdict e.nick ∷ []) ok).0 (λ m. refl) has
+follows-role_member s v h me me' (MemberTimeout e) well after opened ok own own' asks has =
+    follows-change s v h me well opened own asks e.user (with_timeout e.until) (λ m. refl) after.ascending me' own' ok (λ m. refl) has
+follows-role_member s v h me me' (MemberRoleAdd e) well after opened ok own own' asks has =
+    let held = refused_if (holds s e.user e.role) IdTaken in
+    let tests = first_passes (everyone_role s e.role) (unknown_member s e.user ∷ unknown_role s e.role ∷ held ∷ []) ok in
+    follows-roles s v h me well opened own asks e.user (with_role e.role) (λ m. refl) after.ascending me' own' (first_passes (unknown_member s e.user) (unknown_role s e.role ∷ held ∷ []) tests.1).0 has
+follows-role_member s v h me me' (MemberRoleRemove e) well after opened ok own own' asks has =
+    let free = refused_if (not (holds s e.user e.role)) UnknownRole in
+    let tests = first_passes (everyone_role s e.role) (unknown_member s e.user ∷ free ∷ []) ok in
+    follows-roles s v h me well opened own asks e.user (without_role e.role) (λ m. refl) after.ascending me' own' (first_passes (unknown_member s e.user) (free ∷ []) tests.1).0 has

@@ -1,4 +1,4 @@
--- A member that goes: its presence, its voice state, its threads and itself, one after another.
+-- A member that is removed: its presence, its voice state, its threads and itself, one after another.
 use Rattle.std.proofs.Common.{◌≡◌, ℕ, Bool, true, false, not, List, [], ◌∷◌, ◌++◌, map, Option, Some, None, if◌then◌else◌, refl, sym, ap, subst, ◌∙◌}
 use Rattle.std.specs.Prelude.{◌==◌, is_some, cond}
 use Rattle.collections.specs.ById.{find_id, has_id, without_id}
@@ -22,6 +22,7 @@ use Rattle.event_views.proofs.Steps.{fold-append}
 use Rattle.event_views.proofs.Voices.{follows-voice_gone}
 use Rattle.event_views.proofs.Left.{follows-user_left}
 use Rattle.voice_presence_events.proofs.Follows.{follows-presence}
+use Rattle.role_member_events.specs.declared.ends.RoleMemberNote.TheVariants.{Leaving}
 use Rattle.role_member_events.specs.Ends.{end_of}
 use Rattle.role_member_events.specs.Rows.{presence_ended, voice_ended, member_ended}
 use Rattle.role_member_events.proofs.Membership.{follows-member_gone}
@@ -76,12 +77,12 @@ module _ (s : Record) (v : Viewer) (me x : Member) (ascends : IsAscending s) (ow
     }
 
     pub follows-gone : (h : Held) → find_id member_id user s.members ≡ Some x → Has s v me h
-        → Has (member_removed s user) v me (fold_from v.intents s.id h (member_ended (member_removed s user) v (end_of s me (Some x))))
+        → Has (member_removed s user) v me (fold_from v.intents s.id h (member_ended (member_removed s user) v (Leaving (end_of s me x))))
     follows-gone h found has =
         let first : List Dispatch = presence_ended s v user (has_id presence_id user s.presences) in
         let second : List Dispatch = voice_ended s v (find_id voice_id user s.voices) in
         let third : List Dispatch = user_leaves s.id v user (map (without_user user) s.threads) (threads_left s me user) in
-        let last : List Dispatch = asked v (user == v.user) (GuildMemberRemove s.id x.user) in
+        let last : List Dispatch = asked v (user == v.user) (GuildMemberRemove (record { guild = s.id; user = x.user })) in
         let h1 : Held = fold_from v.intents s.id h first in
         let h2 : Held = fold_from v.intents s.id h1 second in
         let h3 : Held = fold_from v.intents s.id h2 third in

@@ -1,4 +1,4 @@
--- Members that come, change and go, and what a client then holds of them.
+-- Members that are added, changed and removed, and what a client then holds of them.
 use Rattle.std.proofs.Common.{◌≡◌, ℕ, ◌<◌, ◌-◌, ◌^◌, Bool, true, false, List, [], Some, None, if◌then◌else◌, refl, sym, ap, subst, ◌∙◌, arith}
 use Rattle.std.specs.Prelude.{◌==◌, ◌||◌, filter, length, option_map}
 use Rattle.std.proofs.lemmas.Bool.{or_parts}
@@ -15,17 +15,19 @@ use Rattle.guild_model.specs.Ascending.{IsAscending}
 use Rattle.dispatch_types.specs.declared.viewer.Viewer.{Viewer}
 use Rattle.dispatch_types.specs.declared.view.OpenView.{OpenView}
 use Rattle.dispatch_types.specs.declared.view.ThreadView.{ThreadView}
+use Rattle.dispatch_types.specs.declared.dispatch.Dispatch.{Dispatch}
 use Rattle.dispatch_types.specs.declared.dispatch.Dispatch.TheVariants.{GuildMemberAdd, GuildMemberUpdate, GuildMemberRemove}
 use Rattle.dispatch_types.specs.Objects.{member_object, member_of}
 use Rattle.dispatch_types.specs.Projection.{told, listed, is_known, open_view}
 use Rattle.dispatch_types.specs.Fold.{Held, one_more, one_less, set_me, add_member, update_member, remove_member, folded, fold_from}
 use Rattle.dispatch_types.proofs.Objects.{member-back}
+use Rattle.dispatch_types.proofs.Folds.{folded-here}
 use Rattle.role_member_edit.specs.Members.{with_member_changed}
 use Rattle.thread_sync.proofs.Sights.{threads_stay, members-changed-keep}
 use Rattle.event_views.specs.Asked.{asked}
 use Rattle.event_views.specs.Has.{Has}
 use Rattle.event_views.proofs.Steps.{whole, untold, by_asked}
-use Rattle.event_views.proofs.Told.{told-member_add, told-member_update, told-member_remove}
+use Rattle.role_member_events.specs.Rows.{guild_member}
 use Rattle.event_views.proofs.Lists.{known-put, known-without, length-changed, length-put, length-without, listed-same, told-same, listed-again, same-parts}
 
 -- the same view with other threads
@@ -108,17 +110,17 @@ module _ (s : Record) (v : Viewer) (user : ℕ) (f : Member → Member) (x me me
 
   -- where the own member holds the roles that it held, what is seen stays
   pub follows-held : (h : Held) → IsById own_id (f x).roles → me'.roles ≡ me.roles
-      → Has s v me h → Has after v me' (fold_from v.intents s.id h (asked v ((f x).user.id == v.user) (GuildMemberUpdate s.id (member_object (f x)))))
+      → Has s v me h → Has after v me' (fold_from v.intents s.id h (asked v ((f x).user.id == v.user) (GuildMemberUpdate (guild_member s.id (f x)))))
   follows-held h ordered held-after has =
-      by_asked after v s.id h me' ((f x).user.id == v.user) (GuildMemberUpdate s.id (member_object (f x))) tells keeps_silent
+      by_asked after v s.id h me' ((f x).user.id == v.user) (GuildMemberUpdate (guild_member s.id (f x))) tells keeps_silent
     where
       threads : (known' : List ℕ) → (open_view after v.intents known' me').threads ≡ (open_view s v.intents h.known me).threads
       threads known' = threads_stay s after me me' v.intents h.known known' ascends refl own-user (members-changed-keep s me after.members me' own-user held-after)
 
-      tells : (((f x).user.id == v.user) || has_bit v.intents guild_members) ≡ true → Has after v me' (folded v.intents s.id h (GuildMemberUpdate s.id (member_object (f x))))
+      tells : (((f x).user.id == v.user) || has_bit v.intents guild_members) ≡ true → Has after v me' (folded v.intents s.id h (GuildMemberUpdate (guild_member s.id (f x))))
       tells e =
-          whole s after v h me me' (GuildMemberUpdate s.id (member_object (f x))) (update_member v.intents h.bot (member_of (member_object (f x)))) (put_id own_id (f x).user.id) refl
-          (told-member_update v.intents s.id h (member_object (f x)))
+          whole s after v h me me' (GuildMemberUpdate (guild_member s.id (f x))) (update_member v.intents h.bot (member_of (member_object (f x)))) (put_id own_id (f x).user.id) refl
+          (folded-here v.intents s.id h (GuildMemberUpdate (guild_member s.id (f x))) refl refl)
           (ap (λ (m : Member). update_member v.intents h.bot m (open_view s v.intents h.known me)) (member-back (f x) ordered)
           ∙ (ap (λ bot. update_member v.intents bot (f x) (open_view s v.intents h.known me)) has.bot
           ∙ (updates h.known ∙ ap (showing (open_view after v.intents (put_id own_id (f x).user.id h.known) me')) (sym (threads (put_id own_id (f x).user.id h.known)))))) has
@@ -130,7 +132,7 @@ module _ (s : Record) (v : Viewer) (user : ℕ) (f : Member → Member) (x me me
 
   -- as it does where no roles change
   pub follows-member_changed : (h : Held) → IsById own_id (f x).roles → ((m : Member) → (f m).roles ≡ m.roles)
-      → Has s v me h → Has after v me' (fold_from v.intents s.id h (asked v ((f x).user.id == v.user) (GuildMemberUpdate s.id (member_object (f x)))))
+      → Has s v me h → Has after v me' (fold_from v.intents s.id h (asked v ((f x).user.id == v.user) (GuildMemberUpdate (guild_member s.id (f x)))))
   follows-member_changed h ordered held has = follows-held h ordered (by_own (user == v.user) refl) has
     where
       by_own : (b : Bool) → (user == v.user) ≡ b → me'.roles ≡ me.roles
@@ -139,15 +141,15 @@ module _ (s : Record) (v : Viewer) (user : ℕ) (f : Member → Member) (x me me
 
   -- and where those of another member do
   pub follows-other : (h : Held) → IsById own_id (f x).roles → (user == v.user) ≡ false
-      → Has s v me h → Has after v me' (fold_from v.intents s.id h (asked v ((f x).user.id == v.user) (GuildMemberUpdate s.id (member_object (f x)))))
+      → Has s v me h → Has after v me' (fold_from v.intents s.id h (asked v ((f x).user.id == v.user) (GuildMemberUpdate (guild_member s.id (f x)))))
   follows-other h ordered other has = follows-held h ordered (ap (λ (m : Member). m.roles) (own-stays other)) has
 
--- ---- a member that comes
+-- ---- a member that is added
 
 pub follows-member_add : (s : Record) (v : Viewer) (h : Held) (me m : Member) → IsAscending s → length s.members < 2 ^ 32 - 1 → IsById own_id m.roles
     → find_id member_id m.user.id s.members ≡ None → (own : Bool)
-    → Has s v me h → Has (record s { members = put_id member_id m s.members }) v me (fold_from v.intents s.id h (asked v own (GuildMemberAdd s.id (member_object m))))
-follows-member_add s v h me m ascends few ordered new own has = by_asked after v s.id h me own (GuildMemberAdd s.id (member_object m)) tells keeps_silent
+    → Has s v me h → Has (record s { members = put_id member_id m s.members }) v me (fold_from v.intents s.id h (asked v own (GuildMemberAdd (guild_member s.id m))))
+follows-member_add s v h me m ascends few ordered new own has = by_asked after v s.id h me own (GuildMemberAdd (guild_member s.id m)) tells keeps_silent
   where
     after : Record
     after = record s { members = put_id member_id m s.members }
@@ -171,10 +173,10 @@ follows-member_add s v h me m ascends few ordered new own has = by_asked after v
     turns : add_member v.intents m (open_view s v.intents h.known me) ≡ open_view after v.intents (put_id own_id m.user.id h.known) me
     turns = same-parts (open_view s v.intents h.known me) members count (sym (threads (put_id own_id m.user.id h.known)))
 
-    tells : has_bit v.intents guild_members ≡ true → Has after v me (folded v.intents s.id h (GuildMemberAdd s.id (member_object m)))
+    tells : has_bit v.intents guild_members ≡ true → Has after v me (folded v.intents s.id h (GuildMemberAdd (guild_member s.id m)))
     tells e =
-        whole s after v h me me (GuildMemberAdd s.id (member_object m)) (add_member v.intents (member_of (member_object m))) (put_id own_id m.user.id) refl
-        (told-member_add v.intents s.id h (member_object m))
+        whole s after v h me me (GuildMemberAdd (guild_member s.id m)) (add_member v.intents (member_of (member_object m))) (put_id own_id m.user.id) refl
+        (folded-here v.intents s.id h (GuildMemberAdd (guild_member s.id m)) refl refl)
         (ap (λ (x : Member). add_member v.intents x (open_view s v.intents h.known me)) (member-back m ordered) ∙ turns) has
 
     keeps_silent : has_bit v.intents guild_members ≡ false → Has after v me h
@@ -183,13 +185,16 @@ follows-member_add s v h me m ascends few ordered new own has = by_asked after v
         let none : told v.intents guild_members (length s.members) ≡ told v.intents guild_members (length after.members) = told-same v.intents guild_members _ _ (λ e. absurd (cc)) in
         untold s after v h me me (same-parts (open_view s v.intents h.known me) same none (sym (threads h.known))) has
 
--- ---- a member that goes
+-- ---- a member that is removed
 
 pub follows-member_gone : (s : Record) (v : Viewer) (h : Held) (me x : Member) (user : User) → IsAscending s
     → find_id member_id user.id s.members ≡ Some x → (own : Bool)
-    → Has s v me h → Has (record s { members = without_id member_id user.id s.members }) v me (fold_from v.intents s.id h (asked v own (GuildMemberRemove s.id user)))
-follows-member_gone s v h me x user ascends found own has = by_asked after v s.id h me own (GuildMemberRemove s.id user) tells keeps_silent
+    → Has s v me h → Has (record s { members = without_id member_id user.id s.members }) v me (fold_from v.intents s.id h (asked v own (GuildMemberRemove (record { guild = s.id; user = user }))))
+follows-member_gone s v h me x user ascends found own has = by_asked after v s.id h me own gone tells keeps_silent
   where
+    gone : Dispatch
+    gone = GuildMemberRemove (record { guild = s.id; user = user })
+
     after : Record
     after = record s { members = without_id member_id user.id s.members }
 
@@ -216,8 +221,8 @@ follows-member_gone s v h me x user ascends found own has = by_asked after v s.i
     turns : remove_member user.id (open_view s v.intents h.known me) ≡ open_view after v.intents (without_id own_id user.id h.known) me
     turns = same-parts (open_view s v.intents h.known me) members count (sym (threads (without_id own_id user.id h.known)))
 
-    tells : has_bit v.intents guild_members ≡ true → Has after v me (folded v.intents s.id h (GuildMemberRemove s.id user))
-    tells e = whole s after v h me me (GuildMemberRemove s.id user) (remove_member user.id) (without_id own_id user.id) refl (told-member_remove v.intents s.id h user) turns has
+    tells : has_bit v.intents guild_members ≡ true → Has after v me (folded v.intents s.id h gone)
+    tells e = whole s after v h me me gone (remove_member user.id) (without_id own_id user.id) refl (folded-here v.intents s.id h gone refl refl) turns has
 
     keeps_silent : has_bit v.intents guild_members ≡ false → Has after v me h
     keeps_silent blind =

@@ -1,4 +1,4 @@
--- Roles that come, change and go, and members that are given and lose them.
+-- Roles that are created, replaced and deleted, and members that are given and lose them.
 use Rattle.std.proofs.Common.{◌≡◌, ℕ, Bool, true, false, List, [], ◌∷◌, ◌++◌, map, Option, Some, None, if◌then◌else◌, refl, sym, ap, subst, ◌∙◌}
 use Rattle.std.specs.Prelude.{◌==◌, filter, length, option_map}
 use Rattle.std.proofs.lemmas.Bool.{or_parts}
@@ -15,11 +15,13 @@ use Rattle.guild_model.specs.Ascending.{IsWell}
 use Rattle.guild_model.specs.Sight.{standing}
 use Rattle.dispatch_types.specs.declared.viewer.Viewer.{Viewer}
 use Rattle.dispatch_types.specs.declared.view.ThreadView.{ThreadView}
+use Rattle.dispatch_types.specs.declared.dispatch.Dispatch.{Dispatch}
 use Rattle.dispatch_types.specs.declared.dispatch.Dispatch.TheVariants.{GuildRoleCreate, GuildRoleUpdate, GuildRoleDelete, GuildMemberUpdate}
 use Rattle.dispatch_types.specs.Objects.{member_object, member_of}
 use Rattle.dispatch_types.specs.Projection.{told, listed, is_known, open_view}
 use Rattle.dispatch_types.specs.Fold.{Held, set_role, drop_role, update_member, fold_from}
 use Rattle.dispatch_types.proofs.Objects.{member-back}
+use Rattle.dispatch_types.proofs.Folds.{folded-here}
 use Rattle.role_member_edit.specs.Roles.{with_role_set, role_deleted}
 use Rattle.role_member_edit.specs.Members.{with_member_changed}
 use Rattle.thread_sync.specs.ChannelSights.{sights}
@@ -32,43 +34,53 @@ use Rattle.thread_sync.proofs.Sights.{threads_stay, role-created-keeps}
 use Rattle.thread_sync.proofs.Rights.{rights_sync_is_whole}
 use Rattle.event_views.specs.Asked.{asked, told_if}
 use Rattle.event_views.specs.Has.{Has}
-use Rattle.event_views.proofs.Steps.{whole, by_guilds, by_asked_then}
-use Rattle.event_views.proofs.Told.{same, told-role_create, told-role_update, told-role_delete, told-member_update}
+use Rattle.event_views.proofs.Steps.{same, whole, by_guilds, by_asked_then}
 use Rattle.event_views.proofs.Lists.{same-parts}
 use Rattle.event_views.proofs.Rights.{follows-rights, follows-unsaid}
+use Rattle.role_member_events.specs.Rows.{guild_member}
 use Rattle.role_member_events.proofs.Membership.{updates, silent, own-user, other-user}
 
--- a role that comes changes nothing of what is seen
+-- the dispatches of a role
+abbrev pub created : Record → Role → Dispatch
+created s r = GuildRoleCreate (record { guild = s.id; role = r })
+
+abbrev pub replaced : Record → Role → Dispatch
+replaced s r = GuildRoleUpdate (record { guild = s.id; role = r })
+
+abbrev pub deleted : Record → ℕ → Dispatch
+deleted s role = GuildRoleDelete (record { guild = s.id; role = role })
+
+-- a role that is created changes nothing of what is seen
 pub follows-role_create : (s : Record) (v : Viewer) (h : Held) (me : Member) (r : Role) → IsWell s → s.opened ≡ true
     → find_id member_id v.user s.members ≡ Some me → has_bit v.intents guilds ≡ true → has_id role_id r.id s.roles ≡ false
-    → Has s v me h → Has (with_role_set s r) v me (fold_from v.intents s.id h (asked v false (GuildRoleCreate s.id r)))
+    → Has s v me h → Has (with_role_set s r) v me (fold_from v.intents s.id h (asked v false (created s r)))
 follows-role_create s v h me r well opened found asks new has =
     let t : Record = with_role_set s r in
     let stays = threads_stay s t me me v.intents h.known h.known well.ascending refl refl (role-created-keeps s me r v.user well.consistent opened found new) in
-    by_guilds t v s.id h me false (GuildRoleCreate s.id r) asks refl
-    (whole s t v h me me (GuildRoleCreate s.id r) (set_role r) same refl (told-role_create v.intents s.id h r)
+    by_guilds t v s.id h me false (created s r) asks refl
+    (whole s t v h me me (created s r) (set_role r) same refl (folded-here v.intents s.id h (created s r) refl refl)
     (ap (λ (threads : List ThreadView). record (open_view t v.intents h.known me) { threads = threads }) (sym stays)) has)
 
--- one that changes may change what is seen
+-- one that is replaced may change what is seen
 pub follows-role_update : (s : Record) (v : Viewer) (h : Held) (me : Member) (r : Role) → IsWell s → has_bit v.intents guilds ≡ true
-    → Has s v me h → Has (with_role_set s r) v me (fold_from v.intents s.id h (asked v false (GuildRoleUpdate s.id r) ++ told_if v (sync_by (sights (standing s me)) (with_role_set s r) me)))
+    → Has s v me h → Has (with_role_set s r) v me (fold_from v.intents s.id h (asked v false (replaced s r) ++ told_if v (sync_by (sights (standing s me)) (with_role_set s r) me)))
 follows-role_update s v h me r well asks has =
     let t : Record = with_role_set s r in
     let rights : ChangesRights s t = record { id = refl; channels = λ c. refl; threads = refl } in
-    subst (λ o. Has t v me (fold_from v.intents s.id h (asked v false (GuildRoleUpdate s.id r) ++ told_if v o))) (sym (rights_sync_is_whole s t me me well.ascending refl))
-    (by_asked_then t v s.id h me false (GuildRoleUpdate s.id r) (told_if v (sync (visible_to s me) t me))
-    (λ e. follows-rights s t v h me me well rights refl asks (GuildRoleUpdate s.id r) (set_role r) same (told-role_update v.intents s.id h r) refl has)
+    subst (λ o. Has t v me (fold_from v.intents s.id h (asked v false (replaced s r) ++ told_if v o))) (sym (rights_sync_is_whole s t me me well.ascending refl))
+    (by_asked_then t v s.id h me false (replaced s r) (told_if v (sync (visible_to s me) t me))
+    (λ e. follows-rights s t v h me me well rights refl asks (replaced s r) (set_role r) same (folded-here v.intents s.id h (replaced s r) refl refl) refl has)
     (λ e. absurd (cc)))
 
--- and so may one that goes
+-- and so may one that is deleted
 pub follows-role_delete : (s : Record) (v : Viewer) (h : Held) (me : Member) (role : ℕ) → IsWell s → has_bit v.intents guilds ≡ true
-    → Has s v me h → Has (role_deleted s role) v (without_role role me) (fold_from v.intents s.id h (asked v false (GuildRoleDelete s.id role) ++ told_if v (sync_by (sights (standing s me)) (role_deleted s role) (without_role role me))))
+    → Has s v me h → Has (role_deleted s role) v (without_role role me) (fold_from v.intents s.id h (asked v false (deleted s role) ++ told_if v (sync_by (sights (standing s me)) (role_deleted s role) (without_role role me))))
 follows-role_delete s v h me role well asks has =
     let t : Record = role_deleted s role in
     let rights : ChangesRights s t = record { id = refl; channels = kinds; threads = refl } in
-    subst (λ o. Has t v (without_role role me) (fold_from v.intents s.id h (asked v false (GuildRoleDelete s.id role) ++ told_if v o))) (sym (rights_sync_is_whole s t me (without_role role me) well.ascending refl))
-    (by_asked_then t v s.id h (without_role role me) false (GuildRoleDelete s.id role) (told_if v (sync (visible_to s me) t (without_role role me)))
-    (λ e. follows-rights s t v h me (without_role role me) well rights refl asks (GuildRoleDelete s.id role) (drop_role role) same (told-role_delete v.intents s.id h role) drops has)
+    subst (λ o. Has t v (without_role role me) (fold_from v.intents s.id h (asked v false (deleted s role) ++ told_if v o))) (sym (rights_sync_is_whole s t me (without_role role me) well.ascending refl))
+    (by_asked_then t v s.id h (without_role role me) false (deleted s role) (told_if v (sync (visible_to s me) t (without_role role me)))
+    (λ e. follows-rights s t v h me (without_role role me) well rights refl asks (deleted s role) (drop_role role) same (folded-here v.intents s.id h (deleted s role) refl refl) drops has)
     (λ e. absurd (cc)))
   where
     kinds : (channel : ℕ) → option_map kind_in (find_id channel_id channel (map (without_role_overwrite role) s.channels)) ≡ option_map kind_in (find_id channel_id channel s.channels)
@@ -96,15 +108,15 @@ follows-role_delete s v h me role well asks has =
 pub follows-member_roles : (s : Record) (v : Viewer) (user : ℕ) (f : Member → Member) (x me me' : Member) → ((m : Member) → (f m).user.id ≡ m.user.id) → IsWell s
     → find_id member_id user s.members ≡ Some x → find_id member_id v.user s.members ≡ Some me → find_id member_id v.user (with_member_changed s user f).members ≡ Some me'
     → (h : Held) → IsById own_id (f x).roles → has_bit v.intents guilds ≡ true
-    → Has s v me h → Has (with_member_changed s user f) v me' (fold_from v.intents s.id h (asked v ((f x).user.id == v.user) (GuildMemberUpdate s.id (member_object (f x))) ++ told_if v (sync_by (sights (standing s me)) (with_member_changed s user f) me')))
+    → Has s v me h → Has (with_member_changed s user f) v me' (fold_from v.intents s.id h (asked v ((f x).user.id == v.user) (GuildMemberUpdate (guild_member s.id (f x))) ++ told_if v (sync_by (sights (standing s me)) (with_member_changed s user f) me')))
 follows-member_roles s v user f x me me' same_user well found own own' h ordered asks has =
     let t : Record = with_member_changed s user f in
     let rights : ChangesRights s t = record { id = refl; channels = λ c. refl; threads = refl } in
     let mine = own-user s v user f x me me' same_user well.ascending found own own' in
-    subst (λ o. Has t v me' (fold_from v.intents s.id h (asked v ((f x).user.id == v.user) (GuildMemberUpdate s.id (member_object (f x))) ++ told_if v o))) (sym (rights_sync_is_whole s t me me' well.ascending refl))
-    (by_asked_then t v s.id h me' ((f x).user.id == v.user) (GuildMemberUpdate s.id (member_object (f x))) (told_if v (sync (visible_to s me) t me'))
-    (λ e. follows-rights s t v h me me' well rights mine asks (GuildMemberUpdate s.id (member_object (f x))) (update_member v.intents h.bot (member_of (member_object (f x)))) (put_id own_id (f x).user.id)
-    (told-member_update v.intents s.id h (member_object (f x)))
+    subst (λ o. Has t v me' (fold_from v.intents s.id h (asked v ((f x).user.id == v.user) (GuildMemberUpdate (guild_member s.id (f x))) ++ told_if v o))) (sym (rights_sync_is_whole s t me me' well.ascending refl))
+    (by_asked_then t v s.id h me' ((f x).user.id == v.user) (GuildMemberUpdate (guild_member s.id (f x))) (told_if v (sync (visible_to s me) t me'))
+    (λ e. follows-rights s t v h me me' well rights mine asks (GuildMemberUpdate (guild_member s.id (f x))) (update_member v.intents h.bot (member_of (member_object (f x)))) (put_id own_id (f x).user.id)
+    (folded-here v.intents s.id h (GuildMemberUpdate (guild_member s.id (f x))) refl refl)
     (ap (λ (m : Member). update_member v.intents h.bot m (open_view s v.intents h.known me)) (member-back (f x) ordered)
     ∙ (ap (λ bot. update_member v.intents bot (f x) (open_view s v.intents h.known me)) has.bot
     ∙ updates s v user f x me me' same_user well.ascending found own own' h.known)) has)

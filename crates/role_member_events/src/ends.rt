@@ -4,7 +4,7 @@ ghost use Rattle.std.specs.Prelude.{◌≡◌, IfOk};
 ghost use Rattle.collections.specs.ById.{find_id};
 ghost use Rattle.guild_model.specs.Record.{member_id};
 ghost use Rattle.event_views.specs.Threads.{threads_left};
-ghost use Rattle.role_member_events.specs.Ends.{end_of, before_rights, before_own_rights, role_member_note};
+ghost use Rattle.role_member_events.specs.Ends.{end_of, before_end, before_rights, before_own_rights, role_member_note};
 
 use collections::{ById, Duplicate, Seq};
 use guild_model::{Guild, Member, User, Voice};
@@ -14,7 +14,7 @@ use snowflake_id::Snowflake;
 use std::alloc::{AllocError, Global};
 use thread_sync::{ChannelSight, sights_of};
 
-/// A member that goes.
+/// A member that is removed.
 #[derive(Drop)]
 pub struct MemberEnd {
     pub user: User,
@@ -26,13 +26,15 @@ pub struct MemberEnd {
     pub threads: Seq<Snowflake>,
 }
 
-/// What is noted before an edit.
+/// What [`row`](crate::row) has to know of the record before an edit.
 #[derive(Drop)]
-pub struct RoleMemberNote {
-    /// The sights of the channels that the viewer saw, where the edit may change them.
-    pub sights: Option<ById<ChannelSight>>,
-    /// The member that goes, if one does.
-    pub end: Option<MemberEnd>,
+pub enum RoleMemberNote {
+    /// Nothing: no member is removed, and what the viewer may do stays as it is.
+    Nothing,
+    /// The sights of the channels that the viewer saw, which the edit may change.
+    Sights(ById<ChannelSight>),
+    /// The member that is removed.
+    Leaving(MemberEnd),
 }
 
 fn threads_left(
@@ -57,29 +59,39 @@ fn end_of(
     alloc: Global,
     before: &Guild,
     me: &Member,
-    user: Snowflake,
-) -> Result<Option<MemberEnd>, AllocError>
-    ensures { IfOk result (λ end. end ≡ end_of before.now me.now (find_id member_id user before.now.members)) }
+    member: &Member,
+) -> Result<MemberEnd, AllocError>
+    ensures { IfOk result (λ end. end ≡ end_of before.now me.now member.now) }
 {
-    let Some(member) = before.member(user) else {
-        return Ok(None);
-    };
     let user = member.user.id;
-    Ok(Some(MemberEnd {
+    Ok(MemberEnd {
         user: member.user.duplicate(alloc)?,
         presence: before.presences.contains(user.0),
         voice: before.voices.get(user.0).copied(),
         threads: Seq::from_vec(threads_left(alloc, before, me, user)?),
-    }))
+    })
+}
+
+fn before_end(
+    alloc: Global,
+    before: &Guild,
+    me: &Member,
+    user: Snowflake,
+) -> Result<RoleMemberNote, AllocError>
+    ensures { IfOk result (λ note. note
+        ≡ before_end before.now me.now (find_id member_id user before.now.members)) }
+{
+    match before.member(user) {
+        Some(member) => Ok(RoleMemberNote::Leaving(end_of(alloc, before, me, member)?)),
+        None => Ok(RoleMemberNote::Nothing),
+    }
 }
 
 fn before_rights(alloc: Global, before: &Guild, me: &Member) -> Result<RoleMemberNote, AllocError>
     ensures { IfOk result (λ note. note ≡ before_rights before.now me.now) }
 {
-    Ok(RoleMemberNote {
-        sights: Some(sights_of(alloc, before, me)?),
-        end: None,
-    })
+    let sights = sights_of(alloc, before, me)?;
+    Ok(RoleMemberNote::Sights(sights))
 }
 
 // Before the roles of a user change: what the viewer sees changes only where the user is its own.
@@ -94,10 +106,7 @@ fn before_own_rights(
     if user == me.user.id {
         before_rights(alloc, before, me)
     } else {
-        Ok(RoleMemberNote {
-            sights: None,
-            end: None,
-        })
+        Ok(RoleMemberNote::Nothing)
     }
 }
 
@@ -112,22 +121,14 @@ pub fn note(
     ensures { IfOk result (λ note. note ≡ role_member_note before.now me.now edit.now) }
 {
     match edit {
-        RoleMemberEdit::RoleUpdate { .. } => before_rights(alloc, before, me),
+        RoleMemberEdit::RoleUpdate(_) => before_rights(alloc, before, me),
         RoleMemberEdit::RoleDelete { .. } => before_rights(alloc, before, me),
-        RoleMemberEdit::MemberRoleAdd { user, .. } => before_own_rights(alloc, before, me, *user),
-        RoleMemberEdit::MemberRoleRemove { user, .. } => before_own_rights(
-            alloc, before, me, *user,
-        ),
-        RoleMemberEdit::MemberRemove { user } => Ok(RoleMemberNote {
-            sights: None,
-            end: end_of(alloc, before, me, *user)?,
-        }),
-        RoleMemberEdit::RoleCreate { .. }
-        | RoleMemberEdit::MemberAdd { .. }
-        | RoleMemberEdit::MemberNick { .. }
-        | RoleMemberEdit::MemberTimeout { .. } => Ok(RoleMemberNote {
-            sights: None,
-            end: None,
-        }),
+        RoleMemberEdit::MemberRoleAdd(edit) => before_own_rights(alloc, before, me, edit.user),
+        RoleMemberEdit::MemberRoleRemove(edit) => before_own_rights(alloc, before, me, edit.user),
+        RoleMemberEdit::MemberRemove { user } => before_end(alloc, before, me, *user),
+        RoleMemberEdit::RoleCreate(_)
+        | RoleMemberEdit::MemberAdd(_)
+        | RoleMemberEdit::MemberNick(_)
+        | RoleMemberEdit::MemberTimeout(_) => Ok(RoleMemberNote::Nothing),
     }
 }

@@ -1,186 +1,177 @@
-//! Members that come, change and go (Gateway Events, Guild Member Add, Update and Remove).
+//! GUILD_MEMBER_ADD, GUILD_MEMBER_UPDATE and GUILD_MEMBER_REMOVE, and what ends with a member (Gateway
+//! Events, Guild Member Add, Guild Member Update and Guild Member Remove).
 
-ghost use Rattle.std.specs.Prelude.{◌≡◌, ◌++◌, ◌==◌, OnOk, IfOk};
-ghost use Rattle.dispatch_types.specs.Objects.{member_object};
-ghost use Rattle.role_member_edit.specs.Members.{new_member};
-ghost use Rattle.event_views.specs.Asked.{asked};
+ghost use Rattle.std.specs.Prelude.{◌≡◌, ◌++◌, OnOk, IfOk};
 ghost use Rattle.event_views.specs.Threads.{user_leaves};
-ghost use Rattle.role_member_events.specs.Rows.{member_updated, presence_ended, voice_ended, member_ended};
+ghost use Rattle.role_member_events.specs.Rows.{added_member, member_adds, member_removes, member_updated, presence_ended, voice_ended, member_ended};
 
-use crate::ends::MemberEnd;
-use collections::{Duplicate, Seq, Text};
-use dispatch_types::{Dispatch, MemberObject, PresenceObject, Viewer};
-use event_views::add_voice_end;
+use crate::ends::RoleMemberNote;
+use collections::{Duplicate, Seq};
+use dispatch_types::{Dispatch, GuildMember, GuildMemberRemove, MemberObject, PresenceObject};
 use event_views::thread_told::add_left;
-use guild_model::{Guild, Moment, User, Voice};
+use event_views::{Recipient, add_voice_end};
+use guild_model::{User, Voice};
 use intent_set::Kind;
+use role_member_edit::MemberAdd;
 use snowflake_id::Snowflake;
 use std::alloc::{AllocError, Global};
 
-fn new_member(
+fn added_member(
     alloc: Global,
-    user: Snowflake,
-    name: &Text,
-    bot: bool,
-    at: Moment,
-) -> Result<MemberObject, AllocError>
-    ensures { IfOk result (λ member. member ≡ member_object (new_member user name.now bot at)) }
+    to: &Recipient<'_>,
+    edit: &MemberAdd,
+) -> Result<GuildMember, AllocError>
+    ensures { IfOk result (λ member. member ≡ added_member to.now.after.id edit.now) }
 {
-    Ok(MemberObject {
-        user: User {
-            id: user,
-            name: name.copy(alloc)?,
-            bot,
+    Ok(GuildMember {
+        guild: to.guild(),
+        member: MemberObject {
+            user: User {
+                id: edit.user,
+                name: edit.name.copy(alloc)?,
+                bot: edit.bot,
+            },
+            nick: None,
+            roles: Seq::new(alloc),
+            joined: edit.at,
+            timeout: None,
         },
-        nick: None,
-        roles: Seq::new(alloc),
-        joined: at,
-        timeout: None,
     })
 }
 
-/// A member that comes, without roles.
-pub fn add_come(
+/// Adds GUILD_MEMBER_ADD.
+pub fn add_added(
     alloc: Global,
-    after: &Guild,
-    viewer: &Viewer,
-    user: Snowflake,
-    name: &Text,
-    bot: bool,
-    at: Moment,
+    to: &Recipient<'_>,
+    edit: &MemberAdd,
     list: &mut Vec<Dispatch>,
 ) -> Result<(), AllocError>
-    ensures { OnOk result (list.new.items ≡ list.old.items ++ asked viewer.now (user == viewer.now.user) (Dispatch.GuildMemberAdd after.now.id (member_object (new_member user name.now bot at)))) }
+    ensures { OnOk result (list.new.items
+        ≡ list.old.items ++ member_adds to.now.after to.now.viewer edit.now) }
 {
-    let own = user == viewer.user;
-    if !viewer.intents.asks(Kind::GuildMemberAdd, own) {
+    if !to.asks(Kind::GuildMemberAdd, edit.user == to.user()) {
         return Ok(());
     }
-    let member = new_member(alloc, user, name, bot, at)?;
-    list.push(Dispatch::GuildMemberAdd {
-        guild: after.id,
-        member,
-    })?;
+    let member = added_member(alloc, to, edit)?;
+    list.push(Dispatch::GuildMemberAdd(member))?;
     Ok(())
 }
 
-/// A member as it now is.
+/// Adds GUILD_MEMBER_UPDATE of a member as it is after the edit.
 pub fn add_updated(
     alloc: Global,
-    after: &Guild,
-    viewer: &Viewer,
+    to: &Recipient<'_>,
     user: Snowflake,
     list: &mut Vec<Dispatch>,
 ) -> Result<(), AllocError>
-    ensures { OnOk result (list.new.items ≡ list.old.items ++ member_updated after.now viewer.now user) }
+    ensures { OnOk result (list.new.items
+        ≡ list.old.items ++ member_updated to.now.after to.now.viewer user) }
 {
-    let Some(found) = after.member(user) else {
+    let Some(found) = to.after.member(user) else {
         return Ok(());
     };
-    let own = found.user.id == viewer.user;
-    if !viewer.intents.asks(Kind::GuildMemberUpdate, own) {
+    let own = found.user.id == to.user();
+    if !to.asks(Kind::GuildMemberUpdate, own) {
         return Ok(());
     }
     let member = MemberObject::of(alloc, found)?;
-    list.push(Dispatch::GuildMemberUpdate {
-        guild: after.id,
-        member,
-    })?;
+    let guild = to.guild();
+    list.push(Dispatch::GuildMemberUpdate(GuildMember { guild, member }))?;
     Ok(())
 }
 
-// It is offline, where it was not.
+// Adds PRESENCE_UPDATE of a removed member: it is offline after that, where it had a presence.
 fn add_presence_ended(
-    after: &Guild,
-    viewer: &Viewer,
+    to: &Recipient<'_>,
     user: Snowflake,
     presence: bool,
     list: &mut Vec<Dispatch>,
 ) -> Result<(), AllocError>
-    ensures { OnOk result (list.new.items ≡ list.old.items ++ presence_ended after.now viewer.now user presence) }
+    ensures { OnOk result (list.new.items
+        ≡ list.old.items ++ presence_ended to.now.after to.now.viewer user presence) }
 {
-    if !presence || !viewer.intents.asks(Kind::PresenceUpdate, false) {
+    if !presence || !to.asks(Kind::PresenceUpdate, false) {
         return Ok(());
     }
     list.push(Dispatch::PresenceUpdate(PresenceObject {
-        guild: after.id,
+        guild: to.guild(),
         user,
         status: None,
     }))?;
     Ok(())
 }
 
-// It is in voice no longer, where it was.
+// Adds VOICE_STATE_UPDATE of a removed member that was in voice.
 fn add_voice_ended(
-    after: &Guild,
-    viewer: &Viewer,
+    to: &Recipient<'_>,
     voice: &Option<Voice>,
     list: &mut Vec<Dispatch>,
 ) -> Result<(), AllocError>
-    ensures { OnOk result (list.new.items ≡ list.old.items ++ voice_ended after.now viewer.now voice.now) }
+    ensures { OnOk result (list.new.items
+        ≡ list.old.items ++ voice_ended to.now.after to.now.viewer voice.now) }
 {
     match voice {
-        Some(voice) => add_voice_end(after.id, viewer, voice, list),
+        Some(voice) => add_voice_end(to, voice, list),
         None => Ok(()),
     }
 }
 
-// It is in these threads no longer.
+// Adds THREAD_MEMBERS_UPDATE of each of the threads that a removed member was in.
 fn add_each_left(
     alloc: Global,
-    after: &Guild,
-    viewer: &Viewer,
+    to: &Recipient<'_>,
     user: Snowflake,
     threads: &[Snowflake],
     list: &mut Vec<Dispatch>,
 ) -> Result<(), AllocError>
-    ensures { OnOk result (list.new.items ≡ list.old.items ++ user_leaves after.now.id viewer.now user after.now.threads threads.now) }
+    ensures { OnOk result (list.new.items ≡ list.old.items
+        ++ user_leaves to.now.after.id to.now.viewer user to.now.after.threads threads.now) }
 {
     for thread in threads {
-        if let Some(found) = after.thread(*thread) {
-            add_left(alloc, after.id, viewer, user, found, list)?;
+        if let Some(found) = to.after.thread(*thread) {
+            add_left(alloc, to, user, found, list)?;
         }
     }
     Ok(())
 }
 
-// It is a member no longer.
+// Adds GUILD_MEMBER_REMOVE.
 fn add_removed(
     alloc: Global,
-    after: &Guild,
-    viewer: &Viewer,
+    to: &Recipient<'_>,
     user: &User,
     list: &mut Vec<Dispatch>,
 ) -> Result<(), AllocError>
-    ensures { OnOk result (list.new.items ≡ list.old.items ++ asked viewer.now (user.now.id == viewer.now.user) (Dispatch.GuildMemberRemove after.now.id user.now)) }
+    ensures { OnOk result (list.new.items
+        ≡ list.old.items ++ member_removes to.now.after to.now.viewer user.now) }
 {
-    let own = user.id == viewer.user;
-    if !viewer.intents.asks(Kind::GuildMemberRemove, own) {
+    if !to.asks(Kind::GuildMemberRemove, user.id == to.user()) {
         return Ok(());
     }
-    list.push(Dispatch::GuildMemberRemove {
-        guild: after.id,
+    list.push(Dispatch::GuildMemberRemove(GuildMemberRemove {
+        guild: to.guild(),
         user: user.duplicate(alloc)?,
-    })?;
+    }))?;
     Ok(())
 }
 
-/// A member that goes: its presence, its voice state, the threads that it was in, and itself.
+/// Adds the end of a member: of its presence, its voice state and its part in threads, and then
+/// GUILD_MEMBER_REMOVE.
 pub fn add_ended(
     alloc: Global,
-    after: &Guild,
-    viewer: &Viewer,
-    end: &Option<MemberEnd>,
+    note: &RoleMemberNote,
+    to: &Recipient<'_>,
     list: &mut Vec<Dispatch>,
 ) -> Result<(), AllocError>
-    ensures { OnOk result (list.new.items ≡ list.old.items ++ member_ended after.now viewer.now end.now) }
+    ensures { OnOk result (list.new.items
+        ≡ list.old.items ++ member_ended to.now.after to.now.viewer note.now) }
 {
-    if let Some(end) = end {
+    if let RoleMemberNote::Leaving(end) = note {
         let user = end.user.id;
-        add_presence_ended(after, viewer, user, end.presence, list)?;
-        add_voice_ended(after, viewer, &end.voice, list)?;
-        add_each_left(alloc, after, viewer, user, end.threads.as_slice(), list)?;
-        add_removed(alloc, after, viewer, &end.user, list)?;
+        add_presence_ended(to, user, end.presence, list)?;
+        add_voice_ended(to, &end.voice, list)?;
+        add_each_left(alloc, to, user, end.threads.as_slice(), list)?;
+        add_removed(alloc, to, &end.user, list)?;
     }
     Ok(())
 }

@@ -1,97 +1,74 @@
-//! Roles that come, change and go (Gateway Events, Guild Role Create, Update and Delete).
+//! GUILD_ROLE_CREATE, GUILD_ROLE_UPDATE and GUILD_ROLE_DELETE (Gateway Events, Guild Role Create, Guild
+//! Role Update and Guild Role Delete).
 
-ghost use Rattle.std.specs.Prelude.{◌≡◌, ◌++◌, false, OnOk, IfOk};
-ghost use Rattle.event_views.specs.Asked.{asked};
-ghost use Rattle.role_member_events.specs.Rows.{role_of};
+ghost use Rattle.std.specs.Prelude.{◌≡◌, ◌++◌, OnOk, IfOk};
+ghost use Rattle.role_member_events.specs.Rows.{guild_role, role_creates, role_updates, role_deletes};
 
-use collections::Text;
-use dispatch_types::{Dispatch, Viewer};
-use guild_model::{Guild, Role};
+use dispatch_types::{Dispatch, GuildRole, GuildRoleDelete};
+use event_views::Recipient;
 use intent_set::Kind;
-use perm_bits::Perms;
+use role_member_edit::RoleBody;
 use snowflake_id::Snowflake;
 use std::alloc::{AllocError, Global};
 
-fn role_of(
-    alloc: Global,
-    id: Snowflake,
-    name: &Text,
-    permissions: Perms,
-    position: u32,
-) -> Result<Role, AllocError>
-    ensures { IfOk result (λ role. role ≡ role_of id name.now permissions position) }
+fn guild_role(alloc: Global, to: &Recipient<'_>, edit: &RoleBody) -> Result<GuildRole, AllocError>
+    ensures { IfOk result (λ role. role ≡ guild_role to.now.after.id edit.now) }
 {
-    Ok(Role {
-        id,
-        name: name.copy(alloc)?,
-        permissions,
-        position,
+    Ok(GuildRole {
+        guild: to.guild(),
+        role: edit.role_of(alloc)?,
     })
 }
 
-/// A role that comes.
+/// Adds GUILD_ROLE_CREATE.
 pub fn add_created(
     alloc: Global,
-    after: &Guild,
-    viewer: &Viewer,
-    id: Snowflake,
-    name: &Text,
-    permissions: Perms,
-    position: u32,
+    to: &Recipient<'_>,
+    edit: &RoleBody,
     list: &mut Vec<Dispatch>,
 ) -> Result<(), AllocError>
-    ensures { OnOk result (list.new.items ≡ list.old.items ++ asked viewer.now false (Dispatch.GuildRoleCreate after.now.id (role_of id name.now permissions position))) }
+    ensures { OnOk result (list.new.items
+        ≡ list.old.items ++ role_creates to.now.after to.now.viewer edit.now) }
 {
-    if !viewer.intents.asks(Kind::GuildRoleCreate, false) {
+    if !to.asks(Kind::GuildRoleCreate, false) {
         return Ok(());
     }
-    let role = role_of(alloc, id, name, permissions, position)?;
-    list.push(Dispatch::GuildRoleCreate {
-        guild: after.id,
-        role,
-    })?;
+    let role = guild_role(alloc, to, edit)?;
+    list.push(Dispatch::GuildRoleCreate(role))?;
     Ok(())
 }
 
-/// A role that is another.
+/// Adds GUILD_ROLE_UPDATE.
 pub fn add_updated(
     alloc: Global,
-    after: &Guild,
-    viewer: &Viewer,
-    id: Snowflake,
-    name: &Text,
-    permissions: Perms,
-    position: u32,
+    to: &Recipient<'_>,
+    edit: &RoleBody,
     list: &mut Vec<Dispatch>,
 ) -> Result<(), AllocError>
-    ensures { OnOk result (list.new.items ≡ list.old.items ++ asked viewer.now false (Dispatch.GuildRoleUpdate after.now.id (role_of id name.now permissions position))) }
+    ensures { OnOk result (list.new.items
+        ≡ list.old.items ++ role_updates to.now.after to.now.viewer edit.now) }
 {
-    if !viewer.intents.asks(Kind::GuildRoleUpdate, false) {
+    if !to.asks(Kind::GuildRoleUpdate, false) {
         return Ok(());
     }
-    let role = role_of(alloc, id, name, permissions, position)?;
-    list.push(Dispatch::GuildRoleUpdate {
-        guild: after.id,
-        role,
-    })?;
+    let role = guild_role(alloc, to, edit)?;
+    list.push(Dispatch::GuildRoleUpdate(role))?;
     Ok(())
 }
 
-/// A role that goes.
+/// Adds GUILD_ROLE_DELETE.
 pub fn add_deleted(
-    after: &Guild,
-    viewer: &Viewer,
+    to: &Recipient<'_>,
     role: Snowflake,
     list: &mut Vec<Dispatch>,
 ) -> Result<(), AllocError>
-    ensures { OnOk result (list.new.items ≡ list.old.items ++ asked viewer.now false (Dispatch.GuildRoleDelete after.now.id role)) }
+    ensures { OnOk result (list.new.items
+        ≡ list.old.items ++ role_deletes to.now.after to.now.viewer role) }
 {
-    if !viewer.intents.asks(Kind::GuildRoleDelete, false) {
+    if !to.asks(Kind::GuildRoleDelete, false) {
         return Ok(());
     }
-    list.push(Dispatch::GuildRoleDelete {
-        guild: after.id,
-        role,
-    })?;
+    let guild = to.guild();
+    list.push(Dispatch::GuildRoleDelete(GuildRoleDelete { guild, role }))?;
     Ok(())
 }

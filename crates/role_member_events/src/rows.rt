@@ -1,85 +1,80 @@
 //! The dispatches of an edit of roles or members, in their order.
 
-ghost use Rattle.std.specs.Prelude.{◌≡◌, ◌++◌, OnOk, IfOk};
-ghost use Rattle.role_member_events.specs.Rows.{role_member_row};
+ghost use Rattle.std.specs.Prelude.{◌≡◌, ◌++◌, OnOk};
+ghost use Rattle.role_member_events.specs.Rows.{synced_by, roles_changed, role_member_row};
 
 use crate::ends::RoleMemberNote;
 use crate::{members, roles};
-use dispatch_types::{Dispatch, Viewer};
-use event_views::add_synced;
-use guild_model::{Guild, Member};
+use dispatch_types::Dispatch;
+use event_views::{Recipient, add_sync};
 use role_member_edit::RoleMemberEdit;
+use snowflake_id::Snowflake;
 use std::alloc::{AllocError, Global};
 
-fn add_row(
+// Adds THREAD_LIST_SYNC of what a change of the viewer's permissions uncovers.
+fn add_synced_by(
     alloc: Global,
     note: &RoleMemberNote,
-    after: &Guild,
-    viewer: &Viewer,
-    me: &Member,
-    edit: &RoleMemberEdit,
+    to: &Recipient<'_>,
     list: &mut Vec<Dispatch>,
 ) -> Result<(), AllocError>
-    ensures { OnOk result (list.new.items ≡ list.old.items ++ role_member_row note.now after.now viewer.now me.now edit.now) }
+    ensures { OnOk result (list.new.items
+        ≡ list.old.items ++ synced_by note.now to.now.after to.now.viewer to.now.me) }
 {
-    match edit {
-        RoleMemberEdit::RoleCreate {
-            role,
-            name,
-            perms,
-            position,
-        } => {
-            roles::add_created(alloc, after, viewer, *role, name, *perms, *position, list)?;
-        }
-        RoleMemberEdit::RoleUpdate {
-            role,
-            name,
-            perms,
-            position,
-        } => {
-            roles::add_updated(alloc, after, viewer, *role, name, *perms, *position, list)?;
-            add_synced(alloc, &note.sights, after, viewer, me, list)?;
-        }
-        RoleMemberEdit::RoleDelete { role } => {
-            roles::add_deleted(after, viewer, *role, list)?;
-            add_synced(alloc, &note.sights, after, viewer, me, list)?;
-        }
-        RoleMemberEdit::MemberAdd {
-            user,
-            name,
-            bot,
-            at,
-        } => {
-            members::add_come(alloc, after, viewer, *user, name, *bot, *at, list)?;
-        }
-        RoleMemberEdit::MemberRemove { .. } => {
-            members::add_ended(alloc, after, viewer, &note.end, list)?;
-        }
-        RoleMemberEdit::MemberNick { user, .. } | RoleMemberEdit::MemberTimeout { user, .. } => {
-            members::add_updated(alloc, after, viewer, *user, list)?;
-        }
-        RoleMemberEdit::MemberRoleAdd { user, .. }
-        | RoleMemberEdit::MemberRoleRemove { user, .. } => {
-            members::add_updated(alloc, after, viewer, *user, list)?;
-            add_synced(alloc, &note.sights, after, viewer, me, list)?;
-        }
+    match note {
+        RoleMemberNote::Sights(before) => add_sync(alloc, before, to, list),
+        RoleMemberNote::Leaving(_) | RoleMemberNote::Nothing => Ok(()),
     }
+}
+
+// Adds a change of a member's roles: the member, and then what the change uncovers.
+fn add_roles_changed(
+    alloc: Global,
+    note: &RoleMemberNote,
+    to: &Recipient<'_>,
+    user: Snowflake,
+    list: &mut Vec<Dispatch>,
+) -> Result<(), AllocError>
+    ensures { OnOk result (list.new.items
+        ≡ list.old.items ++ roles_changed note.now to.now.after to.now.viewer to.now.me user) }
+{
+    members::add_updated(alloc, to, user, list)?;
+    add_synced_by(alloc, note, to, list)?;
     Ok(())
 }
 
-/// What an edit owes to a viewer that is served before and after it, by what was noted before, the
-/// record after and the viewer's own member after.
+/// Adds what an edit owes to a viewer that is served before and after it, by what
+/// [`note`](crate::note) kept.
 pub fn row(
     alloc: Global,
     note: &RoleMemberNote,
-    after: &Guild,
-    viewer: &Viewer,
-    me: &Member,
+    to: &Recipient<'_>,
     edit: &RoleMemberEdit,
-) -> Result<Vec<Dispatch>, AllocError>
-    ensures { IfOk result (λ list. list.items ≡ role_member_row note.now after.now viewer.now me.now edit.now) }
+    list: &mut Vec<Dispatch>,
+) -> Result<(), AllocError>
+    ensures { OnOk result (list.new.items ≡ list.old.items
+        ++ role_member_row note.now to.now.after to.now.viewer to.now.me edit.now) }
 {
-    let mut list = Vec::new(alloc);
-    add_row(alloc, note, after, viewer, me, edit, &mut list)?;
-    Ok(list)
+    match edit {
+        RoleMemberEdit::RoleCreate(edit) => roles::add_created(alloc, to, edit, list)?,
+        RoleMemberEdit::RoleUpdate(edit) => {
+            roles::add_updated(alloc, to, edit, list)?;
+            add_synced_by(alloc, note, to, list)?;
+        }
+        RoleMemberEdit::RoleDelete { role } => {
+            roles::add_deleted(to, *role, list)?;
+            add_synced_by(alloc, note, to, list)?;
+        }
+        RoleMemberEdit::MemberAdd(edit) => members::add_added(alloc, to, edit, list)?,
+        RoleMemberEdit::MemberRemove { .. } => members::add_ended(alloc, note, to, list)?,
+        RoleMemberEdit::MemberNick(edit) => members::add_updated(alloc, to, edit.user, list)?,
+        RoleMemberEdit::MemberTimeout(edit) => members::add_updated(alloc, to, edit.user, list)?,
+        RoleMemberEdit::MemberRoleAdd(edit) => {
+            add_roles_changed(alloc, note, to, edit.user, list)?;
+        }
+        RoleMemberEdit::MemberRoleRemove(edit) => {
+            add_roles_changed(alloc, note, to, edit.user, list)?;
+        }
+    }
+    Ok(())
 }

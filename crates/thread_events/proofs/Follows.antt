@@ -10,7 +10,6 @@ use Rattle.perm_bits.specs.Bits.{has_bit}
 use Rattle.intent_set.specs.Intents.{guilds}
 use Rattle.guild_model.specs.declared.member.Member.{Member}
 use Rattle.guild_model.specs.declared.thread.Thread.{Thread}
-use Rattle.guild_model.specs.declared.thread.ThreadKind.{ThreadKind}
 use Rattle.guild_model.specs.declared.thread.ThreadMember.{ThreadMember}
 use Rattle.guild_model.specs.declared.verdict.Verdict.{Verdict}
 use Rattle.guild_model.specs.declared.verdict.Verdict.TheVariants.{UnknownThread, IdTaken, Archived, NotArchived, InThread, NotInThread}
@@ -27,12 +26,16 @@ use Rattle.dispatch_types.specs.Objects.{thread_object, thread_member_object}
 use Rattle.dispatch_types.specs.Projection.{is_active}
 use Rattle.dispatch_types.specs.Fold.{Held, fold_from}
 use Rattle.thread_edit.specs.declared.ThreadEdit.{ThreadEdit}
-use Rattle.thread_edit.specs.declared.ThreadEdit.TheVariants.{ThreadCreate, ThreadRename, ThreadArchive, ThreadUnarchive, ThreadDelete, ThreadJoin, ThreadLeave}
+use Rattle.thread_edit.specs.declared.ThreadEdit.TheVariants as edit
+use Rattle.thread_edit.specs.declared.thread_create.ThreadCreate.{ThreadCreate}
+use Rattle.thread_edit.specs.declared.thread_rename.ThreadRename.{ThreadRename}
+use Rattle.thread_edit.specs.declared.thread_join.ThreadJoin.{ThreadJoin}
+use Rattle.thread_edit.specs.declared.thread_leave.ThreadLeave.{ThreadLeave}
 use Rattle.thread_edit.specs.Threads.{is_archived, unknown_thread, not_active, too_many_active, wrong_kind, thread_create_verdict, thread_rename_verdict, new_thread, new_thread_member, thread_created, thread_renamed, thread_deleted, with_thread_name}
 use Rattle.thread_edit.specs.Archives.{thread_archive_verdict, thread_unarchive_verdict, not_archived, with_archived, thread_archived, thread_unarchived}
 use Rattle.thread_edit.specs.ThreadMembers.{is_in_thread, thread_join_verdict, thread_leave_verdict, with_joined, with_left, thread_joined, thread_left}
 use Rattle.event_views.specs.Has.{Has}
-use Rattle.event_views.specs.Threads.{thread_count, membership, seen_thread, thread_creates, thread_updates, member_comes, thread_joins, thread_leaves}
+use Rattle.event_views.specs.Threads.{membership, members_update, seen_thread, thread_creates, thread_updates, member_comes, thread_joins, thread_leaves}
 use Rattle.event_views.proofs.Steps.{IsOf, asked-of, append-of}
 use Rattle.event_views.proofs.Threads.{shows, unseen, follows-thread_comes, follows-thread_renamed, follows-thread_archived, follows-thread_goes, goes_unseen, follows-thread_joined, follows-thread_entered, follows-thread_left, left_unseen}
 use Rattle.event_views.proofs.Unarchived.{follows-thread_unarchived}
@@ -86,36 +89,36 @@ module _ (s : Record) (v : Viewer) (h : Held) (me : Member) (well : IsWell s) (a
   by_its_id : (thread : ℕ) (x : Thread) → find_id thread_id thread s.threads ≡ Some x → find_id thread_id x.id s.threads ≡ Some x
   by_its_id thread x found = subst (λ (k : ℕ). find_id thread_id k s.threads ≡ Some x) (sym (key-found thread_id thread s.threads x found)) found
 
-  follows-create : (thread parent : ℕ) (kind : ThreadKind) (name : List ℕ) (owner at : ℕ) → thread_create_verdict s thread parent kind name owner ≡ None
-      → Has (thread_created s thread parent kind name owner at) v me (fold_from v.intents s.id h (thread_creates s.id v true (seen_thread (thread_created s thread parent kind name owner at) me thread)))
-  follows-create thread parent kind name owner at accepted =
-      subst (λ (o : Option Thread). Has (thread_created s thread parent kind name owner at) v me (fold_from v.intents s.id h (thread_creates s.id v true (keep_if (member_sees s me) o)))) (sym finds)
-      (follows-thread_comes s v h me own asks well.ascending.threads t true refl (ap (keep_if (shows s v h me)) (absent (find_id thread_id thread s.threads) (new (has_id channel_id thread s.channels) _ free))) has)
+  follows-create : (e : ThreadCreate) → thread_create_verdict s e ≡ None
+      → Has (thread_created s e) v me (fold_from v.intents s.id h (thread_creates s.id v true (seen_thread (thread_created s e) me e.thread)))
+  follows-create e accepted =
+      subst (λ (o : Option Thread). Has (thread_created s e) v me (fold_from v.intents s.id h (thread_creates s.id v true (keep_if (member_sees s me) o)))) (sym finds)
+      (follows-thread_comes s v h me own asks well.ascending.threads t true refl (ap (keep_if (shows s v h me)) (absent (find_id thread_id e.thread s.threads) (new (has_id channel_id e.thread s.channels) _ free))) has)
     where
       t : Thread
-      t = new_thread thread parent kind name owner at
+      t = new_thread e
 
-      finds : find_id thread_id thread (put_id thread_id t s.threads) ≡ Some t
-      finds = find-put thread_id t thread s.threads ∙ ap (λ b. if b then Some t else find_id thread_id thread s.threads) (eq-eqb thread thread refl)
+      finds : find_id thread_id e.thread (put_id thread_id t s.threads) ≡ Some t
+      finds = find-put thread_id t e.thread s.threads ∙ ap (λ b. if b then Some t else find_id thread_id e.thread s.threads) (eq-eqb e.thread e.thread refl)
 
-      free : is_place s thread ≡ false
-      free = not_refused (is_place s thread) IdTaken (first_passes (refused_if (is_place s thread) IdTaken) (unknown_channel s parent ∷ wrong_kind s parent kind ∷ unknown_member s owner ∷ too_many_active s ∷ too_many 4096 (length s.threads) ∷ too_long 100 name ∷ []) accepted).0
+      free : is_place s e.thread ≡ false
+      free = not_refused (is_place s e.thread) IdTaken (first_passes (refused_if (is_place s e.thread) IdTaken) (unknown_channel s e.parent ∷ wrong_kind s e.parent e.kind ∷ unknown_member s e.owner ∷ too_many_active s ∷ too_many 4096 (length s.threads) ∷ too_long 100 e.name ∷ []) accepted).0
 
       new : (a b : Bool) → (a || b) ≡ false → b ≡ false
-      new true b e = absurd (cc)
-      new false b e = e
+      new true b is = absurd (cc)
+      new false b is = is
 
       absent : (o : Option Thread) → is_some o ≡ false → o ≡ None
-      absent None e = refl
-      absent (Some x) e = absurd (cc)
+      absent None is = refl
+      absent (Some x) is = absurd (cc)
 
-  follows-rename : (thread : ℕ) (name : List ℕ) → thread_rename_verdict s thread name ≡ None
-      → Has (thread_renamed s thread name) v me (fold_from v.intents s.id h (thread_updates s.id v (seen_thread (thread_renamed s thread name) me thread)))
-  follows-rename thread name accepted =
-      let tests = known s thread (not_active s thread ∷ too_long 100 name ∷ []) accepted in
-      let one = found_one s thread true tests.0 (active_now s thread (too_long 100 name ∷ []) tests.1) in
-      changes thread (with_thread_name name) one.there (λ (o : Option Thread). thread_updates s.id v (keep_if (member_sees s me) o)) (λ t. refl) one.found
-      (follows-thread_renamed s v h me own asks well.ascending.threads one.there name (by_its_id thread one.there one.found) one.is has)
+  follows-rename : (e : ThreadRename) → thread_rename_verdict s e ≡ None
+      → Has (thread_renamed s e) v me (fold_from v.intents s.id h (thread_updates s.id v (seen_thread (thread_renamed s e) me e.thread)))
+  follows-rename e accepted =
+      let tests = known s e.thread (not_active s e.thread ∷ too_long 100 e.name ∷ []) accepted in
+      let one = found_one s e.thread true tests.0 (active_now s e.thread (too_long 100 e.name ∷ []) tests.1) in
+      changes e.thread (with_thread_name e.name) one.there (λ (o : Option Thread). thread_updates s.id v (keep_if (member_sees s me) o)) (λ t. refl) one.found
+      (follows-thread_renamed s v h me own asks well.ascending.threads one.there e.name (by_its_id e.thread one.there one.found) one.is has)
 
   follows-archive : (thread : ℕ) → thread_archive_verdict s thread ≡ None
       → Has (thread_archived s thread) v me (fold_from v.intents s.id h (thread_updates s.id v (seen_thread (thread_archived s thread) me thread)))
@@ -149,59 +152,59 @@ module _ (s : Record) (v : Viewer) (h : Held) (me : Member) (well : IsWell s) (a
               goes_unseen s v h me own asks well.ascending.threads thread
               (ap (keep_if (shows s v h me)) e ∙ ap (λ b. if b then Some x else None) (unseen s v h me own asks well.ascending.threads x hidden)) has
 
-  follows-join : (thread user at : ℕ) → thread_join_verdict s thread user ≡ None
-      → Has (thread_joined s thread user at) v me (fold_from v.intents s.id h (joined (note_of (seen_thread s me thread)) (thread_joined s thread user at) v me thread user))
-  follows-join thread user at accepted =
-      let tests = known s thread (unknown_member s user ∷ not_active s thread ∷ refused_if (is_in_thread s thread user) InThread ∷ []) accepted in
-      let rest = first_passes (unknown_member s user) (not_active s thread ∷ refused_if (is_in_thread s thread user) InThread ∷ []) tests.1 in
-      let one = found_one s thread true tests.0 (active_now s thread (refused_if (is_in_thread s thread user) InThread ∷ []) rest.1) in
-      subst (λ (o : Option Thread). Has (thread_joined s thread user at) v me (fold_from v.intents s.id h (joined (note_of (keep_if (member_sees s me) o)) (thread_joined s thread user at) v me thread user))) (sym one.found)
+  follows-join : (e : ThreadJoin) → thread_join_verdict s e ≡ None
+      → Has (thread_joined s e) v me (fold_from v.intents s.id h (joined (note_of (seen_thread s me e.thread)) (thread_joined s e) v me e))
+  follows-join e accepted =
+      let tests = known s e.thread (unknown_member s e.user ∷ not_active s e.thread ∷ refused_if (is_in_thread s e.thread e.user) InThread ∷ []) accepted in
+      let rest = first_passes (unknown_member s e.user) (not_active s e.thread ∷ refused_if (is_in_thread s e.thread e.user) InThread ∷ []) tests.1 in
+      let one = found_one s e.thread true tests.0 (active_now s e.thread (refused_if (is_in_thread s e.thread e.user) InThread ∷ []) rest.1) in
+      subst (λ (o : Option Thread). Has (thread_joined s e) v me (fold_from v.intents s.id h (joined (note_of (keep_if (member_sees s me) o)) (thread_joined s e) v me e))) (sym one.found)
       (by_sight one.there one.found one.is (member_sees s me one.there) refl)
     where
       m : ThreadMember
-      m = new_thread_member user at
+      m = new_thread_member e.user e.at
 
-      by_sight : (x : Thread) → find_id thread_id thread s.threads ≡ Some x → is_active x ≡ true → (b : Bool) → member_sees s me x ≡ b
-          → Has (thread_joined s thread user at) v me (fold_from v.intents s.id h (joined (note_of (if b then Some x else None)) (thread_joined s thread user at) v me thread user))
+      by_sight : (x : Thread) → find_id thread_id e.thread s.threads ≡ Some x → is_active x ≡ true → (b : Bool) → member_sees s me x ≡ b
+          → Has (thread_joined s e) v me (fold_from v.intents s.id h (joined (note_of (if b then Some x else None)) (thread_joined s e) v me e))
       by_sight x found active true seen =
-          changes thread (with_joined user at) x (λ (o : Option Thread). thread_joins s.id v user o) (λ t. refl) found
-          (follows-thread_joined s v h me own asks well.ascending.threads x (by_its_id thread x found) has.bot (new_thread_member user at) active seen has)
+          changes e.thread (with_joined e.user e.at) x (λ (o : Option Thread). thread_joins s.id v e.user o) (λ t. refl) found
+          (follows-thread_joined s v h me own asks well.ascending.threads x (by_its_id e.thread x found) has.bot (new_thread_member e.user e.at) active seen has)
       by_sight x found active false hidden =
-          changes thread (with_joined user at) x (λ (o : Option Thread). thread_creates s.id v false (keep_if (member_sees s me) o)) (λ t. refl) found
-          (follows-thread_entered s v h me own asks well.ascending.threads x (by_its_id thread x found) has.bot (new_thread_member user at) active hidden has)
+          changes e.thread (with_joined e.user e.at) x (λ (o : Option Thread). thread_creates s.id v false (keep_if (member_sees s me) o)) (λ t. refl) found
+          (follows-thread_entered s v h me own asks well.ascending.threads x (by_its_id e.thread x found) has.bot (new_thread_member e.user e.at) active hidden has)
 
-  follows-leave : (thread user : ℕ) → thread_leave_verdict s thread user ≡ None
-      → Has (thread_left s thread user) v me (fold_from v.intents s.id h (left (note_of (seen_thread s me thread)) (thread_left s thread user) v thread user))
-  follows-leave thread user accepted =
-      let tests = known s thread (not_active s thread ∷ refused_if (not (is_in_thread s thread user)) NotInThread ∷ []) accepted in
-      let one = found_one s thread true tests.0 (active_now s thread (refused_if (not (is_in_thread s thread user)) NotInThread ∷ []) tests.1) in
-      subst (λ (o : Option Thread). Has (thread_left s thread user) v me (fold_from v.intents s.id h (left (note_of (keep_if (member_sees s me) o)) (thread_left s thread user) v thread user))) (sym one.found)
+  follows-leave : (e : ThreadLeave) → thread_leave_verdict s e ≡ None
+      → Has (thread_left s e) v me (fold_from v.intents s.id h (left (note_of (seen_thread s me e.thread)) (thread_left s e) v e))
+  follows-leave e accepted =
+      let tests = known s e.thread (not_active s e.thread ∷ refused_if (not (is_in_thread s e.thread e.user)) NotInThread ∷ []) accepted in
+      let one = found_one s e.thread true tests.0 (active_now s e.thread (refused_if (not (is_in_thread s e.thread e.user)) NotInThread ∷ []) tests.1) in
+      subst (λ (o : Option Thread). Has (thread_left s e) v me (fold_from v.intents s.id h (left (note_of (keep_if (member_sees s me) o)) (thread_left s e) v e))) (sym one.found)
       (by_sight one.there one.found one.is (member_sees s me one.there) refl)
     where
-      by_sight : (x : Thread) → find_id thread_id thread s.threads ≡ Some x → is_active x ≡ true → (b : Bool) → member_sees s me x ≡ b
-          → Has (thread_left s thread user) v me (fold_from v.intents s.id h (left (note_of (if b then Some x else None)) (thread_left s thread user) v thread user))
+      by_sight : (x : Thread) → find_id thread_id e.thread s.threads ≡ Some x → is_active x ≡ true → (b : Bool) → member_sees s me x ≡ b
+          → Has (thread_left s e) v me (fold_from v.intents s.id h (left (note_of (if b then Some x else None)) (thread_left s e) v e))
       by_sight x found active true seen =
-          changes thread (with_left user) x (λ (o : Option Thread). thread_leaves s.id v user o) (λ t. refl) found
-          (follows-thread_left s v h me own asks well.ascending.threads x (by_its_id thread x found) has.bot user active seen has)
+          changes e.thread (with_left e.user) x (λ (o : Option Thread). thread_leaves s.id v e.user o) (λ t. refl) found
+          (follows-thread_left s v h me own asks well.ascending.threads x (by_its_id e.thread x found) has.bot e.user active seen has)
       by_sight x found active false hidden =
-          changes thread (with_left user) x (λ (o : Option Thread). []) (λ t. refl) found
-          (left_unseen s v h me own asks well.ascending.threads x (by_its_id thread x found) has.bot user (unseen s v h me own asks well.ascending.threads x hidden) has)
+          changes e.thread (with_left e.user) x (λ (o : Option Thread). []) (λ t. refl) found
+          (left_unseen s v h me own asks well.ascending.threads x (by_its_id e.thread x found) has.bot e.user (unseen s v h me own asks well.ascending.threads x hidden) has)
 
 -- after what an edit of threads owes, the client holds the view after it
 pub follows-thread : ThreadEditKeeps
-follows-thread s v h me (ThreadCreate thread parent kind name owner at) well after opened accepted own asks has = follows-create s v h me well own asks has thread parent kind name owner at accepted
-follows-thread s v h me (ThreadRename thread name) well after opened accepted own asks has = follows-rename s v h me well own asks has thread name accepted
-follows-thread s v h me (ThreadArchive thread) well after opened accepted own asks has = follows-archive s v h me well own asks has thread accepted
-follows-thread s v h me (ThreadUnarchive thread) well after opened accepted own asks has = follows-unarchive s v h me well own asks has thread accepted
-follows-thread s v h me (ThreadDelete thread) well after opened accepted own asks has = follows-delete s v h me well own asks has thread
-follows-thread s v h me (ThreadJoin thread user at) well after opened accepted own asks has = follows-join s v h me well own asks has thread user at accepted
-follows-thread s v h me (ThreadLeave thread user) well after opened accepted own asks has = follows-leave s v h me well own asks has thread user accepted
+follows-thread s v h me (edit.ThreadCreate e) well after opened accepted own asks has = follows-create s v h me well own asks has e accepted
+follows-thread s v h me (edit.ThreadRename e) well after opened accepted own asks has = follows-rename s v h me well own asks has e accepted
+follows-thread s v h me (edit.ThreadArchive thread) well after opened accepted own asks has = follows-archive s v h me well own asks has thread accepted
+follows-thread s v h me (edit.ThreadUnarchive thread) well after opened accepted own asks has = follows-unarchive s v h me well own asks has thread accepted
+follows-thread s v h me (edit.ThreadDelete thread) well after opened accepted own asks has = follows-delete s v h me well own asks has thread
+follows-thread s v h me (edit.ThreadJoin e) well after opened accepted own asks has = follows-join s v h me well own asks has e accepted
+follows-thread s v h me (edit.ThreadLeave e) well after opened accepted own asks has = follows-leave s v h me well own asks has e accepted
 
 -- ---- each of the dispatches is of the guild
 
 creates-of : (guild : ℕ) (v : Viewer) (newly : Bool) (o : Option Thread) → All (IsOf guild) (thread_creates guild v newly o)
 creates-of guild v newly None = All-nil (IsOf guild)
-creates-of guild v newly (Some t) = asked-of guild v false (dispatch.ThreadCreate (thread_object guild t) newly (option_map (thread_member_object t.id) (membership v.user t))) refl
+creates-of guild v newly (Some t) = asked-of guild v false (dispatch.ThreadCreate (record { thread = thread_object guild t; newly_created = newly; member = option_map (thread_member_object t.id) (membership v.user t) })) refl
 
 updates-of : (guild : ℕ) (v : Viewer) (o : Option Thread) → All (IsOf guild) (thread_updates guild v o)
 updates-of guild v None = All-nil (IsOf guild)
@@ -213,25 +216,25 @@ joins-of guild v user (Some t) = by_member (membership user t)
   where
     by_member : (o : Option ThreadMember) → All (IsOf guild) (member_comes guild v t o)
     by_member None = All-nil (IsOf guild)
-    by_member (Some m) = asked-of guild v (m.user == v.user) (dispatch.ThreadMembersUpdate guild t.id (thread_count t) (thread_member_object t.id m ∷ []) []) refl
+    by_member (Some m) = asked-of guild v (m.user == v.user) (dispatch.ThreadMembersUpdate (members_update guild t (thread_member_object t.id m ∷ []) [])) refl
 
 leaves-of : (guild : ℕ) (v : Viewer) (user : ℕ) (o : Option Thread) → All (IsOf guild) (thread_leaves guild v user o)
 leaves-of guild v user None = All-nil (IsOf guild)
-leaves-of guild v user (Some t) = asked-of guild v (user == v.user) (dispatch.ThreadMembersUpdate guild t.id (thread_count t) [] (user ∷ [])) refl
+leaves-of guild v user (Some t) = asked-of guild v (user == v.user) (dispatch.ThreadMembersUpdate (members_update guild t [] (user ∷ []))) refl
 
 pub row-of : (n : ThreadNote) (after : Record) (v : Viewer) (me : Member) (e : ThreadEdit) → All (IsOf after.id) (thread_row n after v me e)
-row-of n after v me (ThreadCreate thread parent kind name owner at) = creates-of after.id v true (seen_thread after me thread)
-row-of n after v me (ThreadRename thread name) = updates-of after.id v (seen_thread after me thread)
-row-of n after v me (ThreadArchive thread) = updates-of after.id v (seen_thread after me thread)
-row-of n after v me (ThreadUnarchive thread) =
+row-of n after v me (edit.ThreadCreate e) = creates-of after.id v true (seen_thread after me e.thread)
+row-of n after v me (edit.ThreadRename e) = updates-of after.id v (seen_thread after me e.thread)
+row-of n after v me (edit.ThreadArchive thread) = updates-of after.id v (seen_thread after me thread)
+row-of n after v me (edit.ThreadUnarchive thread) =
     append-of after.id (thread_updates after.id v (seen_thread after me thread)) (thread_joins after.id v v.user (seen_thread after me thread))
     (updates-of after.id v (seen_thread after me thread)) (joins-of after.id v v.user (seen_thread after me thread))
-row-of Nothing after v me (ThreadDelete thread) = All-nil (IsOf after.id)
-row-of Unseen after v me (ThreadDelete thread) = All-nil (IsOf after.id)
-row-of (Seen parent kind) after v me (ThreadDelete thread) = asked-of after.id v false (dispatch.ThreadDelete after.id thread parent kind) refl
-row-of Nothing after v me (ThreadJoin thread user at) = creates-of after.id v false (seen_thread after me thread)
-row-of Unseen after v me (ThreadJoin thread user at) = creates-of after.id v false (seen_thread after me thread)
-row-of (Seen parent kind) after v me (ThreadJoin thread user at) = joins-of after.id v user (find_id thread_id thread after.threads)
-row-of Nothing after v me (ThreadLeave thread user) = All-nil (IsOf after.id)
-row-of Unseen after v me (ThreadLeave thread user) = All-nil (IsOf after.id)
-row-of (Seen parent kind) after v me (ThreadLeave thread user) = leaves-of after.id v user (find_id thread_id thread after.threads)
+row-of Nothing after v me (edit.ThreadDelete thread) = All-nil (IsOf after.id)
+row-of Unseen after v me (edit.ThreadDelete thread) = All-nil (IsOf after.id)
+row-of (Seen parent kind) after v me (edit.ThreadDelete thread) = asked-of after.id v false (dispatch.ThreadDelete (record { guild = after.id; id = thread; parent = parent; kind = kind })) refl
+row-of Nothing after v me (edit.ThreadJoin e) = creates-of after.id v false (seen_thread after me e.thread)
+row-of Unseen after v me (edit.ThreadJoin e) = creates-of after.id v false (seen_thread after me e.thread)
+row-of (Seen parent kind) after v me (edit.ThreadJoin e) = joins-of after.id v e.user (find_id thread_id e.thread after.threads)
+row-of Nothing after v me (edit.ThreadLeave e) = All-nil (IsOf after.id)
+row-of Unseen after v me (edit.ThreadLeave e) = All-nil (IsOf after.id)
+row-of (Seen parent kind) after v me (edit.ThreadLeave e) = leaves-of after.id v e.user (find_id thread_id e.thread after.threads)

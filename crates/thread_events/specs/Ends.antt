@@ -16,6 +16,6 @@ note_of (Some t) = Seen t.parent t.kind
 -- whether the viewer's member saw the thread, for the edits whose dispatches depend on it
 abbrev pub thread_note : Record → Member → ThreadEdit → ThreadNote
 thread_note s me (ThreadDelete thread) = note_of (seen_thread s me thread)
-thread_note s me (ThreadJoin thread user at) = note_of (seen_thread s me thread)
-thread_note s me (ThreadLeave thread user) = note_of (seen_thread s me thread)
+thread_note s me (ThreadJoin edit) = note_of (seen_thread s me edit.thread)
+thread_note s me (ThreadLeave edit) = note_of (seen_thread s me edit.thread)
 thread_note s me _ = Nothing

@@ -1,189 +1,157 @@
 //! The dispatches of each edit of threads.
 
-ghost use Rattle.std.specs.Prelude.{◌≡◌, ◌++◌, OnOk, IfOk};
+ghost use Rattle.std.specs.Prelude.{◌≡◌, ◌++◌, OnOk};
 ghost use Rattle.event_views.specs.Threads.{seen_thread, thread_creates, thread_updates};
 ghost use Rattle.thread_events.specs.Rows.{unarchived, deleted, joined, left, thread_row};
 
 use crate::sight::{ThreadNote, seen_thread};
-use dispatch_types::{Dispatch, Viewer};
-use event_views::thread_told;
-use guild_model::{Guild, Member};
+use dispatch_types::{Dispatch, ThreadDelete};
+use event_views::{Recipient, thread_told};
 use intent_set::Kind;
 use snowflake_id::Snowflake;
 use std::alloc::{AllocError, Global};
-use thread_edit::ThreadEdit;
+use thread_edit::{ThreadEdit, ThreadJoin, ThreadLeave};
 
-// A thread that comes into sight, if it does.
+// Adds THREAD_CREATE of a thread that the viewer sees now. `newly` if the thread itself is new.
 fn add_created(
     alloc: Global,
-    after: &Guild,
-    viewer: &Viewer,
-    me: &Member,
+    to: &Recipient<'_>,
     newly: bool,
     thread: Snowflake,
     list: &mut Vec<Dispatch>,
 ) -> Result<(), AllocError>
-    ensures { OnOk result (list.new.items ≡ list.old.items ++ thread_creates after.now.id viewer.now newly (seen_thread after.now me.now thread)) }
+    ensures { OnOk result (list.new.items ≡ list.old.items
+        ++ thread_creates to.now.after.id to.now.viewer newly (seen_thread to.now.after to.now.me thread)) }
 {
-    match seen_thread(after, me, thread) {
-        Some(thread) => thread_told::add_created(alloc, after.id, viewer, newly, thread, list),
+    match seen_thread(to.after, to.me, thread) {
+        Some(thread) => thread_told::add_created(alloc, to, newly, thread, list),
         None => Ok(()),
     }
 }
 
+// Adds THREAD_UPDATE of a thread that the viewer sees.
 fn add_updated(
     alloc: Global,
-    after: &Guild,
-    viewer: &Viewer,
-    me: &Member,
+    to: &Recipient<'_>,
     thread: Snowflake,
     list: &mut Vec<Dispatch>,
 ) -> Result<(), AllocError>
-    ensures { OnOk result (list.new.items ≡ list.old.items ++ thread_updates after.now.id viewer.now (seen_thread after.now me.now thread)) }
+    ensures { OnOk result (list.new.items ≡ list.old.items
+        ++ thread_updates to.now.after.id to.now.viewer (seen_thread to.now.after to.now.me thread)) }
 {
-    match seen_thread(after, me, thread) {
-        Some(thread) => thread_told::add_updated(alloc, after.id, viewer, thread, list),
+    match seen_thread(to.after, to.me, thread) {
+        Some(thread) => thread_told::add_updated(alloc, to, thread, list),
         None => Ok(()),
     }
 }
 
-// An active thread again, and then the viewer's own membership.
+// Adds THREAD_UPDATE of a thread that is active again, and then the viewer's own membership.
 fn add_unarchived(
     alloc: Global,
-    after: &Guild,
-    viewer: &Viewer,
-    me: &Member,
+    to: &Recipient<'_>,
     thread: Snowflake,
     list: &mut Vec<Dispatch>,
 ) -> Result<(), AllocError>
-    ensures { OnOk result (list.new.items ≡ list.old.items ++ unarchived after.now viewer.now me.now thread) }
+    ensures { OnOk result (list.new.items ≡ list.old.items
+        ++ unarchived to.now.after to.now.viewer to.now.me thread) }
 {
-    match seen_thread(after, me, thread) {
+    match seen_thread(to.after, to.me, thread) {
         Some(thread) => {
-            thread_told::add_updated(alloc, after.id, viewer, thread, list)?;
-            thread_told::add_joined(alloc, after.id, viewer, viewer.user, thread, list)?;
+            thread_told::add_updated(alloc, to, thread, list)?;
+            thread_told::add_joined(alloc, to, to.user(), thread, list)?;
             Ok(())
         }
         None => Ok(()),
     }
 }
 
+// Adds THREAD_DELETE of a thread that the viewer saw.
 fn add_deleted(
     note: &ThreadNote,
-    guild: Snowflake,
-    viewer: &Viewer,
+    to: &Recipient<'_>,
     thread: Snowflake,
     list: &mut Vec<Dispatch>,
 ) -> Result<(), AllocError>
-    ensures { OnOk result (list.new.items ≡ list.old.items ++ deleted note.now guild viewer.now thread) }
+    ensures { OnOk result (list.new.items ≡ list.old.items
+        ++ deleted note.now to.now.after.id to.now.viewer thread) }
 {
-    match note {
-        ThreadNote::Seen { parent, kind } => {
-            if !viewer.intents.asks(Kind::ThreadDelete, false) {
-                return Ok(());
-            }
-            list.push(Dispatch::ThreadDelete {
-                guild,
-                id: thread,
-                parent: *parent,
-                kind: *kind,
-            })?;
-            Ok(())
-        }
-        _ => Ok(()),
+    let ThreadNote::Seen { parent, kind } = note else {
+        return Ok(());
+    };
+    if !to.asks(Kind::ThreadDelete, false) {
+        return Ok(());
     }
+    list.push(Dispatch::ThreadDelete(ThreadDelete {
+        guild: to.guild(),
+        id: thread,
+        parent: *parent,
+        kind: *kind,
+    }))?;
+    Ok(())
 }
 
+// Adds what is told of a user that joins a thread: of one that the viewer saw, the membership; of
+// another, the thread, if the viewer sees it now.
 fn add_joined(
     alloc: Global,
     note: &ThreadNote,
-    after: &Guild,
-    viewer: &Viewer,
-    me: &Member,
-    thread: Snowflake,
-    user: Snowflake,
+    to: &Recipient<'_>,
+    edit: &ThreadJoin,
     list: &mut Vec<Dispatch>,
 ) -> Result<(), AllocError>
-    ensures { OnOk result (list.new.items ≡ list.old.items ++ joined note.now after.now viewer.now me.now thread user) }
+    ensures { OnOk result (list.new.items ≡ list.old.items
+        ++ joined note.now to.now.after to.now.viewer to.now.me edit.now) }
 {
     match note {
-        ThreadNote::Seen { .. } => match after.thread(thread) {
-            Some(thread) => thread_told::add_joined(alloc, after.id, viewer, user, thread, list),
+        ThreadNote::Seen { .. } => match to.after.thread(edit.thread) {
+            Some(thread) => thread_told::add_joined(alloc, to, edit.user, thread, list),
             None => Ok(()),
         },
-        _ => add_created(alloc, after, viewer, me, false, thread, list),
+        ThreadNote::Unseen | ThreadNote::Nothing => {
+            add_created(alloc, to, false, edit.thread, list)
+        }
     }
 }
 
+// Adds what is told of a user that leaves a thread that the viewer saw.
 fn add_left(
     alloc: Global,
     note: &ThreadNote,
-    after: &Guild,
-    viewer: &Viewer,
-    thread: Snowflake,
-    user: Snowflake,
+    to: &Recipient<'_>,
+    edit: &ThreadLeave,
     list: &mut Vec<Dispatch>,
 ) -> Result<(), AllocError>
-    ensures { OnOk result (list.new.items ≡ list.old.items ++ left note.now after.now viewer.now thread user) }
+    ensures { OnOk result (list.new.items ≡ list.old.items
+        ++ left note.now to.now.after to.now.viewer edit.now) }
 {
     match note {
-        ThreadNote::Seen { .. } => match after.thread(thread) {
-            Some(thread) => thread_told::add_left(alloc, after.id, viewer, user, thread, list),
+        ThreadNote::Seen { .. } => match to.after.thread(edit.thread) {
+            Some(thread) => thread_told::add_left(alloc, to, edit.user, thread, list),
             None => Ok(()),
         },
-        _ => Ok(()),
+        ThreadNote::Unseen | ThreadNote::Nothing => Ok(()),
     }
 }
 
-fn add_row(
-    alloc: Global,
-    note: &ThreadNote,
-    after: &Guild,
-    viewer: &Viewer,
-    me: &Member,
-    edit: &ThreadEdit,
-    list: &mut Vec<Dispatch>,
-) -> Result<(), AllocError>
-    ensures { OnOk result (list.new.items ≡ list.old.items ++ thread_row note.now after.now viewer.now me.now edit.now) }
-{
-    match edit {
-        ThreadEdit::ThreadCreate { thread, .. } => {
-            add_created(alloc, after, viewer, me, true, *thread, list)
-        }
-        ThreadEdit::ThreadRename { thread, .. } => {
-            add_updated(alloc, after, viewer, me, *thread, list)
-        }
-        ThreadEdit::ThreadArchive { thread } => {
-            add_updated(alloc, after, viewer, me, *thread, list)
-        }
-        ThreadEdit::ThreadUnarchive { thread } => {
-            add_unarchived(alloc, after, viewer, me, *thread, list)
-        }
-        ThreadEdit::ThreadDelete { thread } => {
-            add_deleted(note, after.id, viewer, *thread, list)
-        }
-        ThreadEdit::ThreadJoin { thread, user, .. } => {
-            add_joined(alloc, note, after, viewer, me, *thread, *user, list)
-        }
-        ThreadEdit::ThreadLeave { thread, user } => {
-            add_left(alloc, note, after, viewer, *thread, *user, list)
-        }
-    }
-}
-
-/// The dispatches of an edit, by what was noted before it, the record after it and the viewer's own
-/// member.
+/// Adds the dispatches of an edit, by what was noted before it, the record after it and the viewer's
+/// own member.
 pub fn row(
     alloc: Global,
     note: &ThreadNote,
-    after: &Guild,
-    viewer: &Viewer,
-    me: &Member,
+    to: &Recipient<'_>,
     edit: &ThreadEdit,
-) -> Result<Vec<Dispatch>, AllocError>
-    ensures { IfOk result (λ list. list.items ≡ thread_row note.now after.now viewer.now me.now edit.now) }
+    list: &mut Vec<Dispatch>,
+) -> Result<(), AllocError>
+    ensures { OnOk result (list.new.items ≡ list.old.items
+        ++ thread_row note.now to.now.after to.now.viewer to.now.me edit.now) }
 {
-    let mut list = Vec::new(alloc);
-    add_row(alloc, note, after, viewer, me, edit, &mut list)?;
-    Ok(list)
+    match edit {
+        ThreadEdit::ThreadCreate(edit) => add_created(alloc, to, true, edit.thread, list),
+        ThreadEdit::ThreadRename(edit) => add_updated(alloc, to, edit.thread, list),
+        ThreadEdit::ThreadArchive { thread } => add_updated(alloc, to, *thread, list),
+        ThreadEdit::ThreadUnarchive { thread } => add_unarchived(alloc, to, *thread, list),
+        ThreadEdit::ThreadDelete { thread } => add_deleted(note, to, *thread, list),
+        ThreadEdit::ThreadJoin(edit) => add_joined(alloc, note, to, edit, list),
+        ThreadEdit::ThreadLeave(edit) => add_left(alloc, note, to, edit, list),
+    }
 }

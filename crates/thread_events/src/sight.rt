@@ -20,7 +20,7 @@ pub enum ThreadNote {
     Seen { parent: Snowflake, kind: ThreadKind },
 }
 
-/// The thread of an id, archived or not, where the member sees it (Threads, Private Threads).
+/// The thread of an id, archived or not, if the member sees it (Threads, Private Threads).
 pub fn seen_thread<'a>(guild: &'a Guild, me: &Member, thread: Snowflake) -> Option<&'a Thread>
     ensures { option_copied result ≡ seen_thread guild.now me.now thread }
 {
@@ -54,10 +54,10 @@ pub fn note(before: &Guild, me: &Member, edit: &ThreadEdit) -> ThreadNote
 {
     match edit {
         ThreadEdit::ThreadDelete { thread } => seen_before(before, me, *thread),
-        ThreadEdit::ThreadJoin { thread, .. } => seen_before(before, me, *thread),
-        ThreadEdit::ThreadLeave { thread, .. } => seen_before(before, me, *thread),
-        ThreadEdit::ThreadCreate { .. } => ThreadNote::Nothing,
-        ThreadEdit::ThreadRename { .. } => ThreadNote::Nothing,
+        ThreadEdit::ThreadJoin(edit) => seen_before(before, me, edit.thread),
+        ThreadEdit::ThreadLeave(edit) => seen_before(before, me, edit.thread),
+        ThreadEdit::ThreadCreate(_) => ThreadNote::Nothing,
+        ThreadEdit::ThreadRename(_) => ThreadNote::Nothing,
         ThreadEdit::ThreadArchive { .. } => ThreadNote::Nothing,
         ThreadEdit::ThreadUnarchive { .. } => ThreadNote::Nothing,
     }

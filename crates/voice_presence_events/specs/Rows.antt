@@ -1,6 +1,6 @@
 -- What the edits of voice states and presences owe to a viewer that is served before and after them
 -- (Gateway Events, Voice State Update and Presence Update).
-use Rattle.std.specs.Prelude.{ℕ, List, Bool, false, Option}
+use Rattle.std.specs.Prelude.{ℕ, List, false, Option}
 use Rattle.guild_model.specs.declared.presence.Activity.{Activity}
 use Rattle.guild_model.specs.Record.{Record}
 use Rattle.guild_model.specs.Statuses.{status_activity}
@@ -10,17 +10,26 @@ use Rattle.dispatch_types.specs.declared.presences.PresenceObject.{PresenceObjec
 use Rattle.dispatch_types.specs.declared.dispatch.Dispatch.{Dispatch}
 use Rattle.dispatch_types.specs.declared.dispatch.Dispatch.TheVariants.{VoiceStateUpdate, PresenceUpdate}
 use Rattle.voice_presence.specs.declared.VoicePresenceEdit.{VoicePresenceEdit}
-use Rattle.voice_presence.specs.declared.VoicePresenceEdit.TheVariants.{VoiceSet, PresenceSet}
+use Rattle.voice_presence.specs.declared.VoicePresenceEdit.TheVariants as edit
+use Rattle.voice_presence.specs.declared.voice_set.VoiceSet.{VoiceSet}
+use Rattle.voice_presence.specs.declared.presence_set.PresenceSet.{PresenceSet}
 use Rattle.event_views.specs.Asked.{asked}
 
 -- a user in a voice channel, or in none
-abbrev pub voice_told : ℕ → Option ℕ → Bool → Bool → VoiceObject
-voice_told user channel mute deaf = record { user = user; channel = channel; self_mute = mute; self_deaf = deaf }
+abbrev pub voice_told : VoiceSet → VoiceObject
+voice_told edit = record { user = edit.user; channel = edit.channel; self_mute = edit.self_mute; self_deaf = edit.self_deaf }
 
 -- a user with an activity, or one that is seen as offline
 abbrev pub presence_told : ℕ → ℕ → Option Activity → PresenceObject
 presence_told guild user activity = record { guild = guild; user = user; status = activity }
 
+-- of the guild of this id
+abbrev pub voice_update : ℕ → Viewer → VoiceSet → List Dispatch
+voice_update guild v edit = asked v false (VoiceStateUpdate (record { guild = guild; voice = voice_told edit }))
+
+abbrev pub presence_update : ℕ → Viewer → PresenceSet → List Dispatch
+presence_update guild v edit = asked v false (PresenceUpdate (presence_told guild edit.user (status_activity edit.status)))
+
 abbrev pub voice_presence_row : Record → Viewer → VoicePresenceEdit → List Dispatch
-voice_presence_row after v (VoiceSet user channel mute deaf) = asked v false (VoiceStateUpdate after.id (voice_told user channel mute deaf))
-voice_presence_row after v (PresenceSet user status) = asked v false (PresenceUpdate (presence_told after.id user (status_activity status)))
+voice_presence_row after v (edit.VoiceSet e) = voice_update after.id v e
+voice_presence_row after v (edit.PresenceSet e) = presence_update after.id v e

@@ -2,78 +2,69 @@
 //! them (Gateway Events, Voice State Update and Presence Update).
 #![tactic(auto)]
 
-ghost use Rattle.std.specs.Prelude.{◌≡◌, IfOk, false};
-ghost use Rattle.event_views.specs.Asked.{asked};
-ghost use Rattle.voice_presence_events.specs.Rows.{voice_told, presence_told, voice_presence_row};
+ghost use Rattle.std.specs.Prelude.{◌≡◌, ◌++◌, OnOk};
+ghost use Rattle.voice_presence_events.specs.Rows.{voice_update, presence_update, voice_presence_row};
 
-use dispatch_types::{Dispatch, PresenceObject, Viewer, VoiceObject};
-use event_views::one;
-use guild_model::Guild;
+use dispatch_types::{Dispatch, PresenceObject, VoiceObject, VoiceStateUpdate};
+use event_views::Recipient;
 use intent_set::Kind;
-use snowflake_id::Snowflake;
-use std::alloc::{AllocError, Global};
-use voice_presence::VoicePresenceEdit;
+use std::alloc::AllocError;
+use voice_presence::{PresenceSet, VoicePresenceEdit, VoiceSet};
 
-/// A voice state of a guild, where the viewer's intents ask for it.
-pub fn voice_update(
-    alloc: Global,
-    guild: Snowflake,
-    viewer: &Viewer,
-    voice: VoiceObject,
-) -> Result<Vec<Dispatch>, AllocError>
-    ensures { IfOk result (λ list. list.items ≡ asked viewer.now false (Dispatch.VoiceStateUpdate guild voice)) }
+// VOICE_STATE_UPDATE of a voice state that is set.
+fn add_voice(
+    to: &Recipient<'_>,
+    edit: &VoiceSet,
+    list: &mut Vec<Dispatch>,
+) -> Result<(), AllocError>
+    ensures { OnOk result (list.new.items
+        ≡ list.old.items ++ voice_update to.now.after.id to.now.viewer edit.now) }
 {
-    if !viewer.intents.asks(Kind::VoiceStateUpdate, false) {
-        return Ok(Vec::new(alloc));
+    if !to.asks(Kind::VoiceStateUpdate, false) {
+        return Ok(());
     }
-    one(alloc, Dispatch::VoiceStateUpdate { guild, voice })
+    let voice = VoiceObject {
+        user: edit.user,
+        channel: edit.channel,
+        self_mute: edit.self_mute,
+        self_deaf: edit.self_deaf,
+    };
+    let guild = to.guild();
+    list.push(Dispatch::VoiceStateUpdate(VoiceStateUpdate { guild, voice }))?;
+    Ok(())
 }
 
-/// A presence of a guild, where the viewer's intents ask for it.
-pub fn presence_update(
-    alloc: Global,
-    viewer: &Viewer,
-    presence: PresenceObject,
-) -> Result<Vec<Dispatch>, AllocError>
-    ensures { IfOk result (λ list. list.items ≡ asked viewer.now false (Dispatch.PresenceUpdate presence)) }
+// PRESENCE_UPDATE of a presence that is set.
+fn add_presence(
+    to: &Recipient<'_>,
+    edit: &PresenceSet,
+    list: &mut Vec<Dispatch>,
+) -> Result<(), AllocError>
+    ensures { OnOk result (list.new.items
+        ≡ list.old.items ++ presence_update to.now.after.id to.now.viewer edit.now) }
 {
-    if !viewer.intents.asks(Kind::PresenceUpdate, false) {
-        return Ok(Vec::new(alloc));
+    if !to.asks(Kind::PresenceUpdate, false) {
+        return Ok(());
     }
-    one(alloc, Dispatch::PresenceUpdate(presence))
+    list.push(Dispatch::PresenceUpdate(PresenceObject {
+        guild: to.guild(),
+        user: edit.user,
+        status: edit.status.activity(),
+    }))?;
+    Ok(())
 }
 
-/// The dispatches of an edit, by the record after it.
+/// Adds the dispatches of an edit, by the record after it.
 pub fn row(
-    alloc: Global,
-    after: &Guild,
-    viewer: &Viewer,
+    to: &Recipient<'_>,
     edit: &VoicePresenceEdit,
-) -> Result<Vec<Dispatch>, AllocError>
-    ensures { IfOk result (λ list. list.items ≡ voice_presence_row after.now viewer.now edit.now) }
+    list: &mut Vec<Dispatch>,
+) -> Result<(), AllocError>
+    ensures { OnOk result (list.new.items
+        ≡ list.old.items ++ voice_presence_row to.now.after to.now.viewer edit.now) }
 {
     match edit {
-        VoicePresenceEdit::VoiceSet {
-            user,
-            channel,
-            self_mute,
-            self_deaf,
-        } => {
-            let voice = VoiceObject {
-                user: *user,
-                channel: *channel,
-                self_mute: *self_mute,
-                self_deaf: *self_deaf,
-            };
-            voice_update(alloc, after.id, viewer, voice)
-        }
-        VoicePresenceEdit::PresenceSet { user, status } => {
-            let presence = PresenceObject {
-                guild: after.id,
-                user: *user,
-                status: status.activity(),
-            };
-            presence_update(alloc, viewer, presence)
-        }
+        VoicePresenceEdit::VoiceSet(edit) => add_voice(to, edit, list),
+        VoicePresenceEdit::PresenceSet(edit) => add_presence(to, edit, list),
     }
 }

@@ -4,4 +4,4 @@ use Rattle.event_views.specs.Ended.{voice_ends}
 use Rattle.channel_events.proofs.rows.add_each_left.Given as goal
 
 abbrev pub invariant-loop-voice : goal.invariant-loop-voice
-invariant-loop-voice l = l.list.items ≡ l.fn.list.items ++ flat_map (voice_ends l.after.id l.viewer) (take l.voice-index l.voices)
+invariant-loop-voice l = l.list.items ≡ l.fn.list.items ++ flat_map (voice_ends l.to.after.id l.to.viewer) (take l.voice-index l.voices)
