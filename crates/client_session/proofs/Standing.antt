@@ -1,4 +1,4 @@
--- A client's value stands for the client that keeps all its dispatches.
+-- A client's value represents the client that keeps all its dispatches.
 use Rattle.std.proofs.Common.{◌≡◌, ℕ, Bool, true, false, List, [], ◌∷◌, ◌++◌, Option, Some, None, refl, sym, ap, subst, ◌∙◌}
 use Rattle.std.specs.Prelude.{◌==◌, if◌then◌else◌, option_to_list, option_map}
 use Rattle.std.specs.Result.{result_ok}
@@ -10,7 +10,7 @@ use Rattle.gateway_frames.specs.declared.out.Out.{Out}
 use Rattle.gateway_frames.specs.declared.out.Out.TheVariants.{Hello, Ack, Invalid, Reconnect, Resumed}
 use Rattle.client_cache.specs.Cached.{Cached, held_of}
 use Rattle.client_session.specs.declared.heartbeat.Heartbeat.{Heartbeat}
-use Rattle.client_session.specs.declared.payload.Payload.TheVariants as payload
+use Rattle.client_session.specs.declared.received.Received.TheVariants as payload
 use Rattle.client_session.specs.State.{ClientState}
 use Rattle.client_session.specs.Table.{begun, session_after, is_final, is_due_at, after_other, other_acts, after_loss, loss_answer, after_beat, beat_act}
 use Rattle.client_session.specs.Step.{Event, Receives, Loses, Asks, after, acts, dispatch_of, Folds}
@@ -31,7 +31,7 @@ either false true e x y u v h k = absurd cc
 either false false e x y u v h k = k
 
 alike_other : (k : ClientState Cached) (c : Model) → Alike k c → (out : Out) (now : ℕ) → Alike (after_other k out now) (after_other c out now)
-alike_other k c h (Hello interval) now = record { token = h.token; intents = h.intents; session = h.session; heartbeat = refl }
+alike_other k c h (Hello interval_ms) now = record { token = h.token; intents = h.intents; session = h.session; heartbeat = refl }
 alike_other k c h Ack now = h
 alike_other k c h (Invalid true) now = h
 alike_other k c h (Invalid false) now = record { token = h.token; intents = h.intents; session = refl; heartbeat = h.heartbeat }
@@ -60,7 +60,7 @@ alike_after k c h (Loses code) = alike_loss k c h code
 alike_after k c h (Asks now) = alike_beat k c h now
 
 same_other : (k : ClientState Cached) (c : Model) → Alike k c → (out : Out) → other_acts k out ≡ other_acts c out
-same_other k c h (Hello interval) = cc
+same_other k c h (Hello interval_ms) = cc
 same_other k c h Ack = refl
 same_other k c h (Invalid true) = cc
 same_other k c h (Invalid false) = cc
@@ -98,7 +98,7 @@ choice true x y n h k = h
 choice false x y n h k = k
 
 other_stay : (c : Model) (out : Out) (now : ℕ) → (after_other c out now).intents ≡ c.intents
-other_stay c (Hello interval) now = refl
+other_stay c (Hello interval_ms) now = refl
 other_stay c Ack now = refl
 other_stay c (Invalid true) now = refl
 other_stay c (Invalid false) now = refl

@@ -1,4 +1,5 @@
--- Over any run, what a client holds of a guild is the fold of all dispatches that it has read, in order.
+-- Over any run, what a client holds of a guild is the fold of all dispatches that it has read, in
+-- order.
 use Rattle.std.specs.Prelude.{◌≡◌, ℕ, List, [], ◌++◌, option_to_list}
 use Rattle.dispatch_types.specs.declared.dispatch.Dispatch.{Dispatch}
 use Rattle.dispatch_types.specs.Fold.{fold}
@@ -22,11 +23,13 @@ pub record Stands (k : ClientState Cached) (c : Model) : Type 0 where
   pub heartbeat : k.heartbeat ≡ c.heartbeat
   pub held : (g : ℕ) → held_of k.kept g ≡ fold c.intents g c.kept
 
--- a new client stands for the new one that keeps all
+-- a new client represents the new one that keeps all
 unfoldable pub NewStands : Type 0
-NewStands = (token : List ℕ) (intents : ℕ) → Stands (new_client token intents (empty_cache intents)) (new_client token intents [])
+NewStands = (token : List ℕ) (intents : ℕ)
+    → Stands (new_client token intents (empty_cache intents)) (new_client token intents [])
 
 -- and each step keeps that, with the same acts
 unfoldable pub StepsStand : Type 0
-StepsStand = (old new : ClientState Cached) (c : Model) (event : Event) (done : List Act) → Stands old c → Steps old event new done
+StepsStand = (old new : ClientState Cached) (c : Model) (event : Event) (done : List Act)
+    → Stands old c → Steps old event new done
     → Stands new (taken c event) × (done ≡ acts c event)

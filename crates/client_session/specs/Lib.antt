@@ -1,4 +1,4 @@
-pub mod Payload
+pub mod Received
 pub mod State
 pub mod Table
 pub mod Step

@@ -1,5 +1,6 @@
--- What a client keeps of its session, its connection and its dispatches (Gateway, Connection Lifecycle). What is kept
--- of the dispatches is a parameter: the cache in the code, all of them in a law.
+-- What a client keeps of its session, its connection and its dispatches (Gateway, Connection
+-- Lifecycle). What is kept of the dispatches is a parameter: the cache in the code, all of them in
+-- a law.
 use Rattle.std.specs.Prelude.{ℕ, List, [], Option, None}
 use Rattle.client_cache.specs.Cached.{Cached}
 use Rattle.client_session.specs.declared.session.Session.{Session}
@@ -16,7 +17,13 @@ pub record ClientState (A : Type 0) : Type 0 where
 
 -- before the first connection
 abbrev pub new_client : {A : Type 0} → List ℕ → ℕ → A → ClientState A
-new_client token intents kept = record { token = token; intents = intents; session = None; heartbeat = None; kept = kept }
+new_client token intents kept = record {
+  token = token;
+  intents = intents;
+  session = None;
+  heartbeat = None;
+  kept = kept;
+}
 
 abbrev pub empty_cache : ℕ → Cached
 empty_cache intents = record { intents = intents; bot = 0; guilds = [] }

@@ -1,4 +1,5 @@
--- The step of a client: what comes, what it leaves, and what the client does. Laws over any schedule name it.
+-- The step of a client: what it receives, what it leaves, and what the client does. Laws over any
+-- schedule name it.
 use Rattle.std.specs.Prelude.{◌≡◌, ℕ, List, [], Option, Some, None, option_to_list}
 use Rattle.std.specs.Result.{result_ok}
 use Rattle.dispatch_types.specs.declared.dispatch.Dispatch.{Dispatch}
@@ -7,17 +8,17 @@ use Rattle.dispatch_types.specs.Fold.{folded}
 use Rattle.gateway_frames.specs.declared.out.Out.TheVariants.{Hello, Ack, Invalid, Reconnect, Resumed}
 use Rattle.client_cache.specs.Cached.{Cached, held_of}
 use Rattle.client_session.specs.declared.act.Act.{Act}
-use Rattle.client_session.specs.declared.payload.Payload.{Payload}
-use Rattle.client_session.specs.declared.payload.Payload.TheVariants as payload
+use Rattle.client_session.specs.declared.received.Received.{Received}
+use Rattle.client_session.specs.declared.received.Received.TheVariants as payload
 use Rattle.client_session.specs.declared.fault.ClientFault.{ClientFault}
 use Rattle.client_session.specs.declared.fault.ClientFault.TheVariants.{Memory}
 use Rattle.client_session.specs.State.{ClientState}
 use Rattle.client_session.specs.Table.{after_dispatch, after_other, other_acts, after_loss, loss_answer, after_beat, beat_act}
 
--- what comes to a client: a payload at a moment; the end of its connection, with the code if it was closed with one;
--- and its caller's question, at a moment, whether a heartbeat is due
+-- what a client is told: a payload at a moment; the end of its connection, with the code if it was
+-- closed with one; and its caller's question, at a moment, whether a heartbeat is due
 pub data Event : Type 0 where
-  Receives : (received : Payload) (now : ℕ) → Event
+  Receives : (received : Received) (now : ℕ) → Event
   Loses : (code : Option ℕ) → Event
   Asks : (now : ℕ) → Event
 
@@ -37,9 +38,9 @@ module _ {A : Type 0} where
   acts c (Asks now) = option_to_list (beat_act c now)
 
 -- the dispatch that comes, if one does
-abbrev pub dispatch_in : Payload → Option Dispatch
+abbrev pub dispatch_in : Received → Option Dispatch
 dispatch_in (payload.Dispatch dispatch number) = Some dispatch
-dispatch_in (payload.Other (Hello interval)) = None
+dispatch_in (payload.Other (Hello interval_ms)) = None
 dispatch_in (payload.Other Ack) = None
 dispatch_in (payload.Other (Invalid resumable)) = None
 dispatch_in (payload.Other Reconnect) = None
@@ -53,13 +54,16 @@ dispatch_of (Asks now) = None
 -- what is held of each guild is folded with the dispatch, by these intents
 abbrev pub Folds : ℕ → Cached → Option Dispatch → Cached → Type 0
 Folds intents old None new = new ≡ old
-Folds intents old (Some dispatch) new = (g : ℕ) → held_of new g ≡ folded intents g (held_of old g) dispatch
+Folds intents old (Some dispatch) new =
+    (g : ℕ) → held_of new g ≡ folded intents g (held_of old g) dispatch
 
 -- THE STEP: what it leaves, what is then held of each guild, and what the client does
 abbrev pub Steps : ClientState Cached → Event → ClientState Cached → List Act → Type 0
 Steps old event new done =
-    (new ≡ record (after old event) { kept = new.kept }) × Folds old.intents old.kept (dispatch_of event) new.kept × (done ≡ acts old event)
+    (new ≡ record (after old event) { kept = new.kept })
+    × Folds old.intents old.kept (dispatch_of event) new.kept
+    × (done ≡ acts old event)
 
--- what a call leaves that wants memory
+-- what a call leaves that runs out of memory
 abbrev pub Keeps : ClientState Cached → ClientState Cached → ClientFault → Type 0
 Keeps old new fault = (fault ≡ Memory) × (new ≡ old)

@@ -65,11 +65,11 @@ abbrev pub session_after : Option Session → ℕ → Option Session → Option 
 session_after None number session = option_map (λ (s : Session). record s { number = number }) session
 session_after (Some begun) number session = Some begun
 
--- ---- heartbeats: due where the interval has passed since Hello or the last one (Gateway, Sending Heartbeats)
+-- ---- heartbeats: due if the interval has passed since Hello or the last one (Gateway, Sending Heartbeats)
 
 abbrev pub is_due_at : Option Heartbeat → ℕ → Bool
 is_due_at None now = false
-is_due_at (Some h) now = nat_le (h.since + h.interval) now
+is_due_at (Some h) now = nat_le (h.since + h.interval_ms) now
 
 module _ {A : Type 0} where
   -- ---- changes
@@ -82,7 +82,7 @@ module _ {A : Type 0} where
   unlinked c = record c { heartbeat = None }
 
   abbrev pub linked : ClientState A → ℕ → ℕ → ClientState A
-  linked c interval now = record c { heartbeat = Some (record { interval = interval; since = now }) }
+  linked c interval_ms now = record c { heartbeat = Some (record { interval_ms = interval_ms; since = now }) }
 
   -- the interval counts from now
   abbrev pub beaten : ClientState A → ℕ → ClientState A
@@ -99,7 +99,7 @@ module _ {A : Type 0} where
   first_of c = first_frame c.token c.intents c.session
 
   abbrev pub after_other : ClientState A → AnOut → ℕ → ClientState A
-  after_other c (Hello interval) now = linked c interval now
+  after_other c (Hello interval_ms) now = linked c interval_ms now
   after_other c Ack now = c
   after_other c (Invalid true) now = c
   after_other c (Invalid false) now = forgotten c
@@ -107,7 +107,7 @@ module _ {A : Type 0} where
   after_other c (Resumed number) now = after_dispatch c ResumedDispatch number
 
   abbrev pub other_acts : ClientState A → AnOut → List Act
-  other_acts c (Hello interval) = sends (first_of c) ∷ []
+  other_acts c (Hello interval_ms) = sends (first_of c) ∷ []
   other_acts c Ack = []
   other_acts c (Invalid true) = sends (first_of c) ∷ []
   other_acts c (Invalid false) = sends (identify c.token c.intents) ∷ []

@@ -1,10 +1,10 @@
-//! A client: what it keeps, and what it does about what comes.
+//! A client: its state, and what it does after each text and each loss of its connection.
 
 ghost use Rattle.std.specs.Prelude.{◌≡◌, ◌⊎◌, ℕ, ◌∷◌, [], true, false, is_some, IfOk, IfErr, OnOk, OnErr, MatchResult, option_map, option_to_list};
-ghost use Rattle.client_session.specs.declared.payload.Payload.{Payload as APayload};
-ghost use Rattle.client_session.specs.declared.payload.Payload.TheVariants as payload;
+ghost use Rattle.client_session.specs.declared.received.Received.{Received as AReceived};
+ghost use Rattle.client_session.specs.declared.received.Received.TheVariants as payload;
 ghost use Rattle.client_session.specs.declared.fault.ClientFault.TheVariants.{BadText, Memory};
-ghost use Rattle.client_session.specs.Payload.{IsTextOf, IsUnread};
+ghost use Rattle.client_session.specs.Received.{IsTextOf, IsUnread};
 ghost use Rattle.client_session.specs.State.{new_client, empty_cache};
 ghost use Rattle.client_session.specs.Table.{frame_text, first_of, identify, heartbeat, dial, url_of, is_due, is_final, beaten, forgotten, unlinked, linked, after_loss, loss_answer};
 ghost use Rattle.client_session.specs.Step.{Receives, Asks, Steps, Keeps};
@@ -12,21 +12,18 @@ ghost use Rattle.gateway_frames.specs.declared.out.Out.TheVariants.{Hello, Inval
 
 use crate::heartbeat::{Heartbeat, is_due_at};
 use crate::session::{Session, begun, hold};
-use crate::{Act, ClientFault, Payload, frames};
+use crate::{Act, ClientFault, Received, frames};
 use client_cache::Cache;
 use collections::Text;
 use dispatch_types::Dispatch;
 use gateway_frames::Out;
+use gateway_frames::close::{
+    AUTHENTICATION_FAILED, DISALLOWED_INTENTS, INVALID_API_VERSION, INVALID_INTENTS, INVALID_SEQ,
+    INVALID_SHARD, SHARDING_REQUIRED, UNKNOWN_ERROR,
+};
 use intent_set::Intents;
 use std::alloc::{AllocError, Global};
 use std::marker::Model;
-
-/// Unknown error, with which a client closes a connection that it leaves for another (Opcodes and
-/// Status Codes, Gateway Close Event Codes).
-const UNKNOWN_ERROR: u16 = 4000;
-
-/// Invalid seq: the session can't be gone on with.
-const INVALID_SEQ: u16 = 4007;
 
 /// A bot's side of the protocol: its session, its connection and what it holds of its guilds (Gateway,
 /// Connection Lifecycle). Its caller opens the first connection, hands over what comes, and does
@@ -75,12 +72,20 @@ fn two(alloc: Global, first: Act, second: Act) -> Result<Vec<Act>, AllocError>
 fn is_final(code: u16) -> bool
     ensures { result ≡ is_final code }
 {
-    matches!(code, 4004 | 4010 | 4011 | 4012 | 4013 | 4014)
+    matches!(
+        code,
+        AUTHENTICATION_FAILED
+            | INVALID_SHARD
+            | SHARDING_REQUIRED
+            | INVALID_API_VERSION
+            | INVALID_INTENTS
+            | DISALLOWED_INTENTS
+    )
 }
 
 // What the client keeps.
 impl Client {
-    /// A client that has not connected yet: what it identifies with.
+    /// A client that has not connected yet, with what it identifies by.
     pub fn new(alloc: Global, token: Text, intents: Intents) -> Client
         ensures { result ≡ new_client token intents (empty_cache intents) }
     {
@@ -101,7 +106,7 @@ impl Client {
         &self.cache
     }
 
-    /// The URL that READY gave for a resume, and nothing exactly where there is no session.
+    /// The URL that READY gave for a resume. `None` exactly if there is no session.
     pub fn resume_url(&self) -> Option<&str>
         ensures { option_map (λ url. url.now) result ≡ option_map url_of self.now.session }
     {
@@ -153,29 +158,31 @@ impl Client {
         is_due_at(self.heartbeat, now)
     }
 
-    /// Hello, or a heartbeat that was sent at this moment.
-    fn link(&mut self, interval: u64, now: u64)
-        ensures { self.new ≡ linked self.old interval now }
+    /// Begins the heartbeats of a connection, at Hello.
+    fn link(&mut self, interval_ms: u64, now: u64)
+        ensures { self.new ≡ linked self.old interval_ms now }
     {
         self.heartbeat = Some(Heartbeat {
-            interval,
+            interval_ms,
             since: now,
         });
     }
 
+    /// Ends the heartbeats of a connection.
     fn unlink(&mut self)
         ensures { self.new ≡ unlinked self.old }
     {
         self.heartbeat = None;
     }
 
+    /// Removes the session.
     fn forget(&mut self)
         ensures { self.new ≡ forgotten self.old }
     {
         self.session = None;
     }
 
-    /// A heartbeat has been sent.
+    /// Counts the interval from a heartbeat that was sent.
     fn beat(&mut self, now: u64)
         ensures { self.new ≡ beaten self.old now }
     {
@@ -187,22 +194,22 @@ impl Client {
 
 // What the client does.
 impl Client {
-    /// A text has come on the connection, at a moment in milliseconds (Gateway, Payload Structure). A
-    /// dispatch is folded and its number held, and READY begins the session anew; Hello is answered by
-    /// Resume with a session, else by Identify, and so is Invalid Session, by which the session may be
-    /// forgotten; after Reconnect the connection is left for another.
+    /// Handles a text that came on the connection, at a moment in milliseconds (Gateway, Payload
+    /// Structure). Folds a dispatch and holds its number; READY begins the session anew. Answers Hello
+    /// and Invalid Session with Resume if there is a session, else Identify; Invalid Session with false
+    /// first removes the session. After Reconnect it leaves the connection for another.
     ///
-    /// `BadText` exactly where the text is neither a dispatch nor another payload. An `Err` changes
+    /// `BadText` exactly if the text is neither a dispatch nor another payload. An `Err` changes
     /// nothing.
     pub fn on_text(&mut self, text: &str, now: u64) -> Result<Vec<Act>, ClientFault>
-        ensures read { OnOk result ((payload : APayload) × IsTextOf text.now payload) }
-        ensures step { (payload : APayload) → IsTextOf text.now payload → MatchResult result (λ acts. Steps self.old (Receives payload now) self.new acts.items) (λ fault. fault ≡ Memory) }
+        ensures read { OnOk result ((payload : AReceived) × IsTextOf text.now payload) }
+        ensures step { (payload : AReceived) → IsTextOf text.now payload → MatchResult result (λ acts. Steps self.old (Receives payload now) self.new acts.items) (λ fault. fault ≡ Memory) }
         ensures fault { IfErr result (λ fault. (fault ≡ Memory) ⊎ ((fault ≡ BadText) × IsUnread text.now)) }
         ensures err { OnErr result (self.new ≡ self.old) }
     {
-        match Payload::read(self.alloc(), text)? {
-            Payload::Dispatch(dispatch, number) => self.on_dispatch(dispatch, number),
-            Payload::Other(out) => self.on_other(out, now),
+        match Received::read(self.alloc(), text)? {
+            Received::Dispatch(dispatch, number) => self.on_dispatch(dispatch, number),
+            Received::Other(out) => self.on_other(out, now),
         }
     }
 
@@ -222,7 +229,7 @@ impl Client {
         ensures { MatchResult result (λ acts. Steps self.old (Receives (payload.Other out) now) self.new acts.items) (Keeps self.old self.new) }
     {
         match out {
-            Out::Hello(interval) => self.on_hello(interval, now),
+            Out::Hello(interval_ms) => self.on_hello(interval_ms, now),
             Out::Ack => Ok(Vec::new(self.alloc())),
             Out::Invalid(true) => self.on_invalid(),
             Out::Invalid(false) => self.on_invalid_for_good(),
@@ -231,12 +238,12 @@ impl Client {
         }
     }
 
-    fn on_hello(&mut self, interval: u64, now: u64) -> Result<Vec<Act>, ClientFault>
-        ensures { MatchResult result (λ acts. Steps self.old (Receives (payload.Other (Hello interval)) now) self.new acts.items) (Keeps self.old self.new) }
+    fn on_hello(&mut self, interval_ms: u64, now: u64) -> Result<Vec<Act>, ClientFault>
+        ensures { MatchResult result (λ acts. Steps self.old (Receives (payload.Other (Hello interval_ms)) now) self.new acts.items) (Keeps self.old self.new) }
     {
         let text = self.first_text()?;
         let acts = one(self.alloc(), Act::Send(text))?;
-        self.link(interval, now);
+        self.link(interval_ms, now);
         Ok(acts)
     }
 
@@ -264,10 +271,10 @@ impl Client {
         Ok(acts)
     }
 
-    /// The connection has ended, closed with a code or lost without one (Opcodes and Status Codes,
-    /// Gateway Close Event Codes): how the next one is opened. 4007 forgets the session.
+    /// Handles the end of the connection, with the code if it was closed with one (Opcodes and Status
+    /// Codes, Gateway Close Event Codes), and says how the next one is opened. 4007 removes the session.
     ///
-    /// `Out` exactly where the code is 4004 or from 4010 to 4014, and then nothing changes.
+    /// `Out` exactly if the code is 4004 or from 4010 to 4014, and then nothing changes.
     pub fn on_lost(&mut self, code: Option<u16>) -> Result<Act, ClientFault>
         ensures answer { result ≡ loss_answer self.old code }
         ensures state { self.new ≡ after_loss self.old code }

@@ -1,10 +1,12 @@
+//! Why a client stops.
+
 use std::alloc::AllocError;
 use thiserror::Error;
 
-/// Why a client does not go on.
+/// Why a client stops.
 #[derive(Clone, Copy, Debug, PartialEq, Eq, Error)]
 pub enum ClientFault {
-    /// The gateway closed the connection with a code after which a client may not connect again.
+    /// The gateway closed the connection with a code after which no reconnect is allowed.
     #[error("the gateway closed the connection for good, with the code {0}")]
     Out(u16),
     /// The text is neither a dispatch nor another payload of the gateway.

@@ -29,7 +29,7 @@ pub(crate) fn identify(alloc: Global, token: &Text, intents: Intents) -> Result<
     text_of(alloc, &frame)
 }
 
-/// Goes on with a session (Gateway Events, Resume).
+/// Resumes a session (Gateway Events, Resume).
 pub(crate) fn resume(alloc: Global, token: &Text, session: &Session) -> Result<Text, AllocError>
     ensures { IfOk result (λ text. text ≡ frame_text (resume token.now session.now)) }
 {

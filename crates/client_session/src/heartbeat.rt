@@ -1,3 +1,5 @@
+//! When a client sends its next heartbeat.
+
 ghost use Rattle.std.specs.Prelude.{◌≡◌};
 ghost use Rattle.client_session.specs.Table.{is_due_at};
 
@@ -5,7 +7,7 @@ ghost use Rattle.client_session.specs.Table.{is_due_at};
 #[derive(Clone, Copy, PartialEq, Eq, Debug)]
 pub struct Heartbeat {
     /// The milliseconds between two heartbeats.
-    pub interval: u64,
+    pub interval_ms: u64,
     /// The moment of Hello or of the last heartbeat.
     pub since: u64,
 }
@@ -17,7 +19,7 @@ pub(crate) fn is_due_at(heartbeat: Option<Heartbeat>, now: u64) -> bool
     let Some(heartbeat) = heartbeat else {
         return false;
     };
-    match heartbeat.since.checked_add(heartbeat.interval) {
+    match heartbeat.since.checked_add(heartbeat.interval_ms) {
         Some(due) => due <= now,
         None => false,
     }

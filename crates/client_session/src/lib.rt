@@ -1,5 +1,5 @@
 //! A bot's side of the Gateway protocol as a pure machine: what it does after each text, each loss of
-//! its connection, and where a heartbeat is due.
+//! its connection, and when a heartbeat is due.
 #![tactic(auto)]
 
 mod act;
@@ -8,10 +8,10 @@ mod fault;
 mod frames;
 mod heartbeat;
 pub mod law;
-mod payload;
+mod received;
 mod session;
 
 pub use act::Act;
 pub use client::Client;
 pub use fault::ClientFault;
-pub use payload::Payload;
+pub use received::Received;

@@ -1,3 +1,5 @@
+//! The session of a client.
+
 ghost use Rattle.std.specs.Prelude.{◌≡◌, IfOk};
 ghost use Rattle.client_session.specs.Table.{begun, session_after};
 
@@ -15,7 +17,7 @@ pub struct Session {
     pub number: u64,
 }
 
-/// The session that a dispatch begins, where it is READY.
+/// The session that a dispatch begins: `Some` exactly if it is READY.
 pub(crate) fn begun(
     alloc: Global,
     dispatch: &Dispatch,

@@ -6,7 +6,7 @@
 //! is no bot's. What they do is printed, and at the end what the first two hold of each guild.
 //!
 //! A line of STEPS that loses a link is learnt of at both its ends; one that closes a connection at
-//! the worker's end alone, so that the client goes on with a connection on which nothing comes.
+//! the worker's end alone, so that the client keeps a connection on which nothing comes.
 #![tactic(auto)]
 
 mod acts;

@@ -4,11 +4,8 @@ use crate::acts::described;
 use crate::follower::{Follower, Name};
 use crate::gateway::Gateway;
 use client_session::{Act, ClientFault};
+use gateway_frames::close::UNKNOWN_ERROR;
 use worker_core::Input;
-
-/// Unknown error, with which a connection is closed on which no answer to a heartbeat came (Gateway,
-/// Sending Heartbeats: with any code but 1000 and 1001).
-const UNKNOWN_ERROR: u16 = 4000;
 
 /// Where it is printed, and the number of the line that is played.
 #[derive(Clone, Copy)]

@@ -4,7 +4,7 @@ use Rattle.json_view.specs.declared.fields.ViewFault.{ViewFault}
 use Rattle.gateway_frames.specs.declared.fault.FrameFault.{FrameFault}
 use Rattle.gateway_frames.specs.declared.fault.FrameFault.TheVariants.{Memory, BadShape}
 
--- this answer, or want of memory
+-- this answer, or out of memory
 abbrev pub UnlessMemory : {A : Type 0} → Result A FrameFault → Result A FrameFault → Type 0
 UnlessMemory result answer = (result ≡ Err Memory) ⊎ (result ≡ answer)
 

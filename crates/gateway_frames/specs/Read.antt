@@ -11,7 +11,7 @@ use Rattle.gateway_frames.specs.declared.frame.Frame.{Frame}
 use Rattle.gateway_frames.specs.declared.frame.Frame.TheVariants.{Identify, Presence, Voice, Resume, Ask}
 use Rattle.gateway_frames.specs.Shape.{whole_at, heartbeat_from, identify_from, presence_from, voice_from, resume_from, ask_from}
 
--- `d`, which is null where it is missing
+-- `d`, which is null if it is missing
 abbrev pub payload : Data → Data
 payload frame = unwrap_or (get (codes "d") frame) null
 

@@ -30,7 +30,7 @@ whole_at name d = shaped (number_field name d)
 abbrev pub id_at : List ℕ → Data → Result ℕ FrameFault
 id_at name d = shaped (id_field name d)
 
--- what reads a value, or nothing where there is none
+-- what reads a value, or nothing if there is none
 abbrev pub optional : {A : Type 0} → (Data → Result A FrameFault) → Option Data → Result (Option A) FrameFault
 optional read None = Ok None
 optional read (Some v) = and_then (read v) (λ a. Ok (Some a))
@@ -132,7 +132,7 @@ find_in (Some users) d = and_then (users_from users) (λ ids. Ok (Users ids))
 abbrev pub find_from : Data → Result Find FrameFault
 find_from d = find_in (given (codes "user_ids") d) d
 
--- the nonce, where it is a text
+-- the nonce, if it is a text
 abbrev pub nonce_from : Data → Option (List ℕ)
 nonce_from d = option_and_then as_str (get (codes "nonce") d)
 

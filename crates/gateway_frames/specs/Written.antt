@@ -28,7 +28,7 @@ abbrev pub nullable_count : Option ℕ → Data
 nullable_count None = null
 nullable_count (Some n) = count n
 
--- the members with this key, or as they are where it has no value
+-- the members with this key, or as they are if it has no value
 abbrev pub put_given : List ℕ → Option Data → Members → Members
 put_given name None ms = ms
 put_given name (Some d) ms = put name d ms

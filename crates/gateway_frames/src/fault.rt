@@ -1,3 +1,5 @@
+//! Why a text is no frame.
+
 use std::alloc::AllocError;
 use thiserror::Error;
 

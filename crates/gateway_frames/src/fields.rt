@@ -1,4 +1,4 @@
-//! The fields of a frame, any other kind of which is a bad shape.
+//! Typed readers of a frame's fields. A field of another type is `BadShape`.
 
 ghost use Rattle.std.specs.Prelude.{◌≡◌};
 ghost use Rattle.std.specs.Result.{result_map_both};
@@ -10,6 +10,7 @@ use json_view::{field_of, given_of, id_from, id_of, number_of, text_of};
 use serde_json::Value;
 use snowflake_id::Snowflake;
 
+/// A text.
 pub fn text_at<'a>(object: &'a Value, name: &str) -> Result<&'a str, FrameFault>
     ensures { result_map_both (λ s. s.now) (λ e. e) result ≡ text_at name.now (view object.now) }
 {
@@ -19,6 +20,7 @@ pub fn text_at<'a>(object: &'a Value, name: &str) -> Result<&'a str, FrameFault>
     }
 }
 
+/// A whole number below 2^64.
 pub fn whole_at(object: &Value, name: &str) -> Result<u64, FrameFault>
     ensures { result ≡ whole_at name.now (view object.now) }
 {
@@ -28,6 +30,7 @@ pub fn whole_at(object: &Value, name: &str) -> Result<u64, FrameFault>
     }
 }
 
+/// An id: a whole number, or a text of digits.
 pub fn id_at(object: &Value, name: &str) -> Result<Snowflake, FrameFault>
     ensures { result ≡ id_at name.now (view object.now) }
 {
@@ -37,7 +40,7 @@ pub fn id_at(object: &Value, name: &str) -> Result<Snowflake, FrameFault>
     }
 }
 
-/// An id or null, which has to be there.
+/// An id or null. The key has to exist.
 pub fn nullable_id_at(object: &Value, name: &str) -> Result<Option<Snowflake>, FrameFault>
     ensures { result ≡ nullable_id_at name.now (view object.now) }
 {
@@ -53,6 +56,7 @@ pub fn nullable_id_at(object: &Value, name: &str) -> Result<Option<Snowflake>, F
     }
 }
 
+/// A whole number, or `None` if the key does not exist or is null.
 pub fn optional_whole(object: &Value, name: &str) -> Result<Option<u64>, FrameFault>
     ensures { result ≡ optional_whole name.now (view object.now) }
 {
@@ -65,6 +69,7 @@ pub fn optional_whole(object: &Value, name: &str) -> Result<Option<u64>, FrameFa
     }
 }
 
+/// A boolean, or `None` if the key does not exist or is null.
 pub fn optional_flag(object: &Value, name: &str) -> Result<Option<bool>, FrameFault>
     ensures { result ≡ optional_flag name.now (view object.now) }
 {
@@ -77,6 +82,7 @@ pub fn optional_flag(object: &Value, name: &str) -> Result<Option<bool>, FrameFa
     }
 }
 
+/// A boolean, or false if the key does not exist or is null.
 pub fn flag_or_false(object: &Value, name: &str) -> Result<bool, FrameFault>
     ensures { result ≡ flag_or_false name.now (view object.now) }
 {
@@ -99,7 +105,7 @@ fn pair_from(list: &[Value]) -> Result<(u64, u64), FrameFault>
     }
 }
 
-/// A list of two whole numbers.
+/// A list of two whole numbers, or `None` if the key does not exist or is null.
 pub fn optional_pair(object: &Value, name: &str) -> Result<Option<(u64, u64)>, FrameFault>
     ensures { result ≡ optional_pair name.now (view object.now) }
 {

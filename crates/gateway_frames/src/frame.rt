@@ -1,3 +1,5 @@
+//! The frames that a client sends (Gateway Events, Send Events).
+
 use collections::{Seq, Text};
 use guild_model::Status;
 use snowflake_id::Snowflake;
@@ -5,26 +7,26 @@ use snowflake_id::Snowflake;
 /// What a client sends (Gateway Events, Send Events).
 #[derive(Drop)]
 pub enum Frame {
-    /// Opcode 1, with the number of the last dispatch that the client has.
+    /// Heartbeat (op 1), with the number of the last dispatch that the client has.
     Heartbeat(Option<u64>),
-    /// Opcode 2.
+    /// Identify (op 2).
     Identify(Identify),
-    /// Opcode 3, Update Presence, with the new status.
+    /// Update Presence (op 3), with the new status.
     Presence(Status),
-    /// Opcode 4, Update Voice State.
+    /// Update Voice State (op 4).
     Voice(VoiceAsk),
-    /// Opcode 6.
+    /// Resume (op 6).
     Resume(Resume),
-    /// Opcode 8, Request Guild Members.
+    /// Request Guild Members (op 8).
     Ask(Ask),
 }
 
-/// How a session begins (Gateway Events, Identify).
+/// Begins a session (Gateway Events, Identify).
 #[derive(Drop)]
 pub struct Identify {
     /// The bot's token.
     pub token: Text,
-    /// The bits of the intents, as they were sent.
+    /// The bits of the intents, in wire form.
     pub intents: u64,
     /// The number of members above which a guild is large.
     pub large_threshold: Option<u64>,
@@ -32,17 +34,17 @@ pub struct Identify {
     pub shard: Option<(u64, u64)>,
 }
 
-/// A wish to join, to move or to leave (Gateway Events, Update Voice State).
+/// Update Voice State (op 4): joins a voice channel, moves to another, or leaves.
 #[derive(Clone, Copy, Debug, PartialEq, Eq)]
 pub struct VoiceAsk {
     pub guild: Snowflake,
-    /// The channel to be in, and nothing to leave.
+    /// The channel to be in, or `None` to leave.
     pub channel: Option<Snowflake>,
     pub self_mute: bool,
     pub self_deaf: bool,
 }
 
-/// How a session goes on (Gateway Events, Resume).
+/// Resumes a session (Gateway Events, Resume).
 #[derive(Drop)]
 pub struct Resume {
     /// The bot's token.
@@ -53,7 +55,7 @@ pub struct Resume {
     pub seq: u64,
 }
 
-/// A question for members of a guild (Gateway Events, Request Guild Members).
+/// Request Guild Members (op 8).
 #[derive(Drop)]
 pub struct Ask {
     pub guild: Snowflake,
@@ -64,7 +66,7 @@ pub struct Ask {
     pub nonce: Option<Text>,
 }
 
-/// Which members are asked for.
+/// Which members Request Guild Members (op 8) asks for.
 #[derive(Drop)]
 pub enum Find {
     /// Those whose name begins with a text, and at most how many.

@@ -1,6 +1,7 @@
 //! What a client and the gateway send one another, beside dispatches (Gateway, Gateway Events).
 #![tactic(auto)]
 
+pub mod close;
 mod fault;
 mod fields;
 mod frame;

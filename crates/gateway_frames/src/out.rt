@@ -1,13 +1,15 @@
+//! The payloads that the gateway sends beside dispatches.
+
 /// What the gateway sends beside other dispatches (Gateway, Payload structure).
 #[derive(Clone, Copy, Debug, PartialEq, Eq)]
 pub enum Out {
-    /// Opcode 10, with the interval of heartbeats in milliseconds.
+    /// Hello (op 10), with the interval of heartbeats in milliseconds.
     Hello(u64),
-    /// Opcode 11, the answer to a heartbeat.
+    /// Heartbeat ACK (op 11).
     Ack,
-    /// Opcode 9, saying whether the session may be resumed.
+    /// Invalid Session (op 9), which says whether the session can be resumed.
     Invalid(bool),
-    /// Opcode 7, which asks the client to connect anew.
+    /// Reconnect (op 7): the client has to connect again.
     Reconnect,
     /// The dispatch RESUMED, with its number.
     Resumed(u64),

@@ -1,3 +1,5 @@
+//! Reads the frames of clients (Gateway Events, Send Events).
+
 ghost use Rattle.std.specs.Prelude.{◌≡◌};
 ghost use Rattle.serde_json.specs.View.{view};
 ghost use Rattle.gateway_frames.specs.Fault.{UnlessMemory};
@@ -15,6 +17,7 @@ use std::alloc::Global;
 /// The most bytes that a frame of a client may have (Gateway, Sending Events).
 pub const MAX_FRAME_BYTES: usize = 4096;
 
+/// The frame of this opcode.
 fn shape_of(alloc: Global, op: u64, frame: &Value) -> Result<Frame, FrameFault>
     ensures { UnlessMemory result (shape_of op (view frame.now)) }
 {

@@ -20,6 +20,7 @@ use std::alloc::{AllocError, Global};
 /// The most ids that a request for members may name (Gateway Events, Request Guild Members).
 pub const MAX_USERS: usize = 100;
 
+/// Heartbeat (op 1): `d` is a number or null.
 pub fn heartbeat_from(frame: &Value) -> Result<Frame, FrameFault>
     ensures { result ≡ heartbeat_from (view frame.now) }
 {
@@ -27,6 +28,7 @@ pub fn heartbeat_from(frame: &Value) -> Result<Frame, FrameFault>
     Ok(Frame::Heartbeat(number))
 }
 
+/// Identify (op 2).
 pub fn identify_from(alloc: Global, object: &Value) -> Result<Identify, FrameFault>
     ensures { UnlessMemory result (identify_from (view object.now)) }
 {
@@ -44,6 +46,7 @@ pub fn identify_from(alloc: Global, object: &Value) -> Result<Identify, FrameFau
     })
 }
 
+/// A status by its name.
 fn status_from(text: &str) -> Result<Status, FrameFault>
     ensures { result ≡ status_from text.now }
 {
@@ -53,6 +56,7 @@ fn status_from(text: &str) -> Result<Status, FrameFault>
     }
 }
 
+/// Update Presence (op 3).
 pub fn presence_from(object: &Value) -> Result<Status, FrameFault>
     ensures { result ≡ presence_from (view object.now) }
 {
@@ -62,6 +66,7 @@ pub fn presence_from(object: &Value) -> Result<Status, FrameFault>
     }
 }
 
+/// Update Voice State (op 4).
 pub fn voice_from(object: &Value) -> Result<VoiceAsk, FrameFault>
     ensures { result ≡ voice_from (view object.now) }
 {
@@ -77,6 +82,7 @@ pub fn voice_from(object: &Value) -> Result<VoiceAsk, FrameFault>
     })
 }
 
+/// Resume (op 6).
 pub fn resume_from(alloc: Global, object: &Value) -> Result<Resume, FrameFault>
     ensures { UnlessMemory result (resume_from (view object.now)) }
 {
@@ -170,6 +176,7 @@ fn nonce_from(alloc: Global, object: &Value) -> Result<Option<Text>, AllocError>
     }
 }
 
+/// Request Guild Members (op 8).
 pub fn ask_from(alloc: Global, object: &Value) -> Result<Ask, FrameFault>
     ensures { UnlessMemory result (ask_from (view object.now)) }
 {

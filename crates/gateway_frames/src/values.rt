@@ -214,6 +214,7 @@ fn number_value(number: Option<u64>) -> Value
     }
 }
 
+/// The frame as a JSON value.
 pub fn frame_value(alloc: Global, frame: &Frame) -> Result<Value, AllocError>
     ensures value { IfOk result (λ v. view v ≡ frame_data frame.now) }
     ensures fits { OnOk result (FrameFits frame.now) }

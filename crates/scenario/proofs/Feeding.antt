@@ -2,18 +2,18 @@
 use Rattle.std.proofs.Common.{◌≡◌, ℕ, ◌+◌, ◌≤◌, List, [], ◌∷◌, ◌++◌, Result, Ok, Err, MatchResult, OnOk, length, refl, sym, ap, ◌∙◌, append_assoc, append-nil, length-append, arith}
 use Rattle.std.specs.declared.option.Option.{Option}
 use Rattle.scenario.specs.declared.fault.PlayFault.{PlayFault}
-use Rattle.scenario.specs.declared.player.Play.{Play}
+use Rattle.scenario.specs.declared.file_runner.FileRunner.{FileRunner}
 use Rattle.scenario.specs.Played.{Playing, LeavesAt, Anything, Fits, room}
 use Rattle.scenario.proofs.Bytes.{stops_more}
 
 -- a front of a chunk was played, and this is left of it
-pub record Fed (chunk : List ℕ) (got0 got1 : Option (List ℕ)) (old now : Play) (rest : List ℕ) : Type 0 where
+pub record Fed (chunk : List ℕ) (got0 got1 : Option (List ℕ)) (old now : FileRunner) (rest : List ℕ) : Type 0 where
   pub front : List ℕ
   pub is : chunk ≡ front ++ rest
   pub plays : (got : Option (List ℕ)) (bytes : List ℕ) → Playing got got0 old bytes → Playing got got1 now (bytes ++ front)
   pub fits : Fits old → Fits now × (room now + length front ≤ room old)
 
-pub fed_none : (chunk : List ℕ) (got : Option (List ℕ)) (k : Play) → Fed chunk got got k k chunk
+pub fed_none : (chunk : List ℕ) (got : Option (List ℕ)) (k : FileRunner) → Fed chunk got got k k chunk
 fed_none chunk got k = record {
   front = [];
   is = refl;
@@ -21,7 +21,7 @@ fed_none chunk got k = record {
   fits = λ fits. (fits, omega arith);
 }
 
-module _ (chunk : List ℕ) (got0 got1 got2 : Option (List ℕ)) (old now : Play) (rest : List ℕ) (fed : Fed chunk got0 got1 old now rest) where
+module _ (chunk : List ℕ) (got0 got1 got2 : Option (List ℕ)) (old now : FileRunner) (rest : List ℕ) (fed : Fed chunk got0 got1 old now rest) where
   -- the next line
   module _ (piece later : List ℕ) (is : rest ≡ piece ++ 10 ∷ later) where
     line : List ℕ
@@ -31,7 +31,7 @@ module _ (chunk : List ℕ) (got0 got1 got2 : Option (List ℕ)) (old now : Play
     unfolding line
     splits = is ∙ sym (append_assoc piece (10 ∷ []) later)
 
-    pub fed_line : (new : Play) → ((got : Option (List ℕ)) (bytes : List ℕ) → Playing got got1 now bytes → Playing got got2 new (bytes ++ (piece ++ 10 ∷ [])))
+    pub fed_line : (new : FileRunner) → ((got : Option (List ℕ)) (bytes : List ℕ) → Playing got got1 now bytes → Playing got got2 new (bytes ++ (piece ++ 10 ∷ [])))
         → (Fits now → Fits new × (room new + (length piece + 1) ≤ room now)) → Fed chunk got0 got2 old new later
     unfolding line
     fed_line new plays fits = record {
@@ -56,14 +56,14 @@ module _ (chunk : List ℕ) (got0 got1 got2 : Option (List ℕ)) (old now : Play
         rw all at (stops_more got got2 waits ((bytes ++ fed.front) ++ (piece ++ 10 ∷ [])) later fault (stops got (bytes ++ fed.front) (fed.plays got bytes playing)))
 
   -- all that is left
-  pub fed_all : (new : Play) (r : Result (Unit {0}) PlayFault)
+  pub fed_all : (new : FileRunner) (r : Result (Unit {0}) PlayFault)
       → ((got : Option (List ℕ)) (bytes : List ℕ) → Playing got got1 now bytes → MatchResult r (λ _. Playing got got2 new (bytes ++ rest)) (LeavesAt got got2 new.waits.items (bytes ++ rest) Anything))
       → (got : Option (List ℕ)) (bytes : List ℕ) → Playing got got0 old bytes → MatchResult r (λ _. Playing got got2 new (bytes ++ chunk)) (LeavesAt got got2 new.waits.items (bytes ++ chunk) Anything)
   fed_all new r plays got bytes playing =
       let is : (bytes ++ fed.front) ++ rest ≡ bytes ++ chunk = append_assoc bytes fed.front rest ∙ ap (λ l. bytes ++ l) (sym fed.is) in
       rw is at (plays got (bytes ++ fed.front) (fed.plays got bytes playing))
 
-  pub fed_room : (new : Play) (r : Result (Unit {0}) PlayFault) → OnOk r (Fits now → Fits new × (room new + length rest ≤ room now)) → OnOk r (Fits old → Fits new × (room new + length chunk ≤ room old))
+  pub fed_room : (new : FileRunner) (r : Result (Unit {0}) PlayFault) → OnOk r (Fits now → Fits new × (room new + length rest ≤ room now)) → OnOk r (Fits old → Fits new × (room new + length chunk ≤ room old))
   fed_room new (Ok x) fits =
       let count : length chunk ≡ length fed.front + length rest = ap length fed.is ∙ length-append fed.front rest in
       λ old_fits. (let before = fed.fits old_fits in let after = fits before.0 in (after.0, omega (arith, before.1, after.1, count)))

@@ -3,7 +3,7 @@ use Rattle.std.proofs.Common.{◌≡◌, ℕ, ◌<◌, ◌+◌, suc, List, [], �
 use Rattle.std.proofs.Math.Seq.{take-suc, split_at}
 use Rattle.std.specs.declared.option.Option.{Option}
 use Rattle.worker_core.specs.declared.io.Output.{Output}
-use Rattle.scenario.specs.Player.{Player, follow, followed}
+use Rattle.scenario.specs.Server.{Server, follow, followed}
 use Rattle.scenario.specs.Transcript.{output_text, outputs_text}
 use Rattle.scenario.specs.Played.{IsFront, Carries, CarriesFront}
 use Rattle.scenario.proofs.Fronts.{carries_more, front_of_more, front_before}
@@ -23,17 +23,17 @@ module _ (got0 got1 got2 : Option (List ℕ)) (waits0 waits1 waits2 waits3 refus
   pub answer_carried : Carries got0 got1 waits2 waits1 → Carries got1 got2 waits3 (waits2 ++ outputs) → Carries got0 got2 waits3 (waits0 ++ (refused ++ outputs))
   answer_carried first second = rw (append_assoc waits0 refused outputs) at (carries_more got0 got1 got2 waits2 waits3 (waits0 ++ refused) outputs (rw is at first) second)
 
-followed-more : (xs ys : List Output) (p : Player) → followed p (xs ++ ys) ≡ followed (followed p xs) ys
+followed-more : (xs ys : List Output) (p : Server) → followed p (xs ++ ys) ≡ followed (followed p xs) ys
 followed-more [] ys p = refl
 followed-more (x ∷ xs) ys p = followed-more xs ys (follow p x)
 
-text-more : (xs ys : List Output) (p : Player) (n : ℕ) → outputs_text p n (xs ++ ys) ≡ outputs_text p n xs ++ outputs_text (followed p xs) n ys
+text-more : (xs ys : List Output) (p : Server) (n : ℕ) → outputs_text p n (xs ++ ys) ≡ outputs_text p n xs ++ outputs_text (followed p xs) n ys
 text-more [] ys p n = refl
 text-more (x ∷ xs) ys p n =
     ap (λ l. output_text p n x ++ l) (text-more xs ys (follow p x) n) ∙ sym (append_assoc (output_text p n x) (outputs_text (follow p x) n xs) (outputs_text (followed (follow p x) xs) n ys))
 
 -- one output among them
-module _ (outputs : List Output) (i : ℕ) (o : Output) (h : i < length outputs) (is : o ≡ get_or outputs i o) (p : Player) (n : ℕ) where
+module _ (outputs : List Output) (i : ℕ) (o : Output) (h : i < length outputs) (is : o ≡ get_or outputs i o) (p : Server) (n : ℕ) where
   next : take (i + 1) outputs ≡ take i outputs ++ get_or outputs i o ∷ []
   next = ap (λ k. take k outputs) (add-one i) ∙ take-suc outputs i o h
 

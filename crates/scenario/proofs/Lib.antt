@@ -5,8 +5,8 @@ pub mod Stops
 pub mod Bytes
 pub mod Feeding
 pub mod Settling
-pub mod Hears
+pub mod Runs
 pub mod Plays
-pub mod Seats
+pub mod Slots
 pub mod Worlds
-pub mod Stages
+pub mod Servers

@@ -5,7 +5,7 @@ use Rattle.std.specs.declared.option.Option.TheVariants.{Some, None}
 use Rattle.std.specs.Io.KnownBytes.{Appends, Consumes, IsAtEnd}
 use Rattle.scenario.specs.declared.fault.PlayFault.{PlayFault}
 use Rattle.scenario.specs.declared.fault.PlayFault.TheVariants.{Read, Write, Line, Spent, Memory}
-use Rattle.scenario.specs.declared.player.Play.{Play}
+use Rattle.scenario.specs.declared.file_runner.FileRunner.{FileRunner}
 use Rattle.scenario.specs.Lines.{whole_lines}
 use Rattle.scenario.specs.Transcript.{Whole, text_of, transcript, ending}
 use Rattle.scenario.specs.Played.{Written, StopsAt, Anything, Nothing, PlaysAll, PlaysLines, PlaysTo}
@@ -37,7 +37,7 @@ plays_end left0 left1 got0 got1 (Ok x) bytes read at h = (bytes, read, at, h.0, 
 plays_end left0 left1 got0 got1 (Err fault) bytes read at h = plays_to_end fault left0 left1 got0 got1 bytes read at h
 
 -- the source has failed
-pub plays_lines : (left0 left1 got0 got1 : Option (List ℕ)) (k : Play) (bytes : List ℕ) → Consumes left0 left1 bytes → Written got0 got1 k bytes → PlaysLines left0 left1 got0 got1
+pub plays_lines : (left0 left1 got0 got1 : Option (List ℕ)) (k : FileRunner) (bytes : List ℕ) → Consumes left0 left1 bytes → Written got0 got1 k bytes → PlaysLines left0 left1 got0 got1
 plays_lines left0 left1 got0 got1 k bytes read w = (bytes, read, all_written got0 got1 k.waits.items (text_of (whole_lines bytes)) w.sent w.playing.wrote, w.playing.goes_on)
 
 pub plays_err : (left0 left1 got0 got1 : Option (List ℕ)) (r : Result (Unit {0}) PlayFault) (f g : PlayFault) → r ≡ Err f → f ≡ g → PlaysTo left0 left1 got0 got1 g

@@ -11,11 +11,11 @@ use Rattle.edit_text.specs.declared.reader.StepReader.{StepReader}
 use Rattle.edit_text.specs.Lines.{line_of, after_line, reader_after, noted, counted}
 use Rattle.scenario.specs.declared.fault.PlayFault.{PlayFault}
 use Rattle.scenario.specs.declared.fault.PlayFault.TheVariants as play
-use Rattle.scenario.specs.Player.{Player, first_player}
-use Rattle.scenario.specs.declared.stage.Stage.{Stage}
-use Rattle.scenario.specs.Transcript.{first_reader, Ending, Whole, Stops, Spends, is_read, read_text, read_ending, heard, heard_text, heard_ending, then_ending, text_from, ending_from, reader_from, player_from, line_spends, text_of, ending_of, reader_of, player_of}
+use Rattle.scenario.specs.Server.{Server, first_server}
+use Rattle.scenario.specs.declared.server.Server.{Server as KeptServer}
+use Rattle.scenario.specs.Transcript.{first_reader, Ending, Whole, Stops, Spends, is_read, read_text, read_ending, after_run, run_text, run_ending, then_ending, text_from, ending_from, reader_from, server_from, line_spends, text_of, ending_of, reader_of, server_of}
 use Rattle.scenario.specs.Stands.{Stands}
-use Rattle.scenario.specs.Played.{Carries, CarriesFront, Leaves, Hears, IsCounted}
+use Rattle.scenario.specs.Played.{Carries, CarriesFront, Leaves, RunsLine, IsCounted}
 use Rattle.scenario.proofs.Fronts.{carries_more, front_of_more, front_before}
 
 -- ---- lines that do not end the play
@@ -25,7 +25,7 @@ then_whole Whole b e = (refl, e)
 then_whole (Stops line fault) b e = absurd (cc)
 then_whole Spends b e = absurd (cc)
 
-read_whole : (p : Player) (n : ℕ) (r : Result (Option Line) LineFault) → read_ending p n r ≡ Whole → is_read r ≡ true
+read_whole : (p : Server) (n : ℕ) (r : Result (Option Line) LineFault) → read_ending p n r ≡ Whole → is_read r ≡ true
 read_whole p n (Ok line) e = refl
 read_whole p n (Err fault) e = absurd (cc)
 
@@ -33,37 +33,37 @@ pub reader-more : (xs : List (List ℕ)) (r : StepReader) (ys : List (List ℕ))
 reader-more [] r ys = refl
 reader-more (x ∷ xs) r ys = reader-more xs (reader_after r x) ys
 
-pub player-more : (xs : List (List ℕ)) (r : StepReader) (p : Player) (ys : List (List ℕ)) → player_from r p (xs ++ ys) ≡ player_from (reader_from r xs) (player_from r p xs) ys
-player-more [] r p ys = refl
-player-more (x ∷ xs) r p ys = player-more xs (reader_after r x) (heard r p x) ys
+pub server-more : (xs : List (List ℕ)) (r : StepReader) (p : Server) (ys : List (List ℕ)) → server_from r p (xs ++ ys) ≡ server_from (reader_from r xs) (server_from r p xs) ys
+server-more [] r p ys = refl
+server-more (x ∷ xs) r p ys = server-more xs (reader_after r x) (after_run r p x) ys
 
-pub ending-more : (xs : List (List ℕ)) (r : StepReader) (p : Player) (ys : List (List ℕ)) → ending_from r p xs ≡ Whole
-    → ending_from r p (xs ++ ys) ≡ ending_from (reader_from r xs) (player_from r p xs) ys
+pub ending-more : (xs : List (List ℕ)) (r : StepReader) (p : Server) (ys : List (List ℕ)) → ending_from r p xs ≡ Whole
+    → ending_from r p (xs ++ ys) ≡ ending_from (reader_from r xs) (server_from r p xs) ys
 ending-more [] r p ys e = refl
 ending-more (x ∷ xs) r p ys e =
-    let both = then_whole (heard_ending r p x) (ending_from (reader_after r x) (heard r p x) xs) e in
-    ap (λ a. then_ending a (ending_from (reader_after r x) (heard r p x) (xs ++ ys))) both.0 ∙ ending-more xs (reader_after r x) (heard r p x) ys both.1
+    let both = then_whole (run_ending r p x) (ending_from (reader_after r x) (after_run r p x) xs) e in
+    ap (λ a. then_ending a (ending_from (reader_after r x) (after_run r p x) (xs ++ ys))) both.0 ∙ ending-more xs (reader_after r x) (after_run r p x) ys both.1
 
-pub text-more : (xs : List (List ℕ)) (r : StepReader) (p : Player) (ys : List (List ℕ)) → ending_from r p xs ≡ Whole
-    → text_from r p (xs ++ ys) ≡ text_from r p xs ++ text_from (reader_from r xs) (player_from r p xs) ys
+pub text-more : (xs : List (List ℕ)) (r : StepReader) (p : Server) (ys : List (List ℕ)) → ending_from r p xs ≡ Whole
+    → text_from r p (xs ++ ys) ≡ text_from r p xs ++ text_from (reader_from r xs) (server_from r p xs) ys
 text-more [] r p ys e = refl
 text-more (x ∷ xs) r p ys e =
-    let both = then_whole (heard_ending r p x) (ending_from (reader_after r x) (heard r p x) xs) e in
+    let both = then_whole (run_ending r p x) (ending_from (reader_after r x) (after_run r p x) xs) e in
     let yes : is_read (line_of r x) ≡ true = read_whole p (reader_after r x).lines (line_of r x) both.0 in
-    let rest = text-more xs (reader_after r x) (heard r p x) ys both.1 in
-    ap (λ t. heard_text r p x ++ (if t then text_from (reader_after r x) (heard r p x) (xs ++ ys) else [])) yes
-    ∙ (ap (λ l. heard_text r p x ++ l) rest
-    ∙ (sym (append_assoc (heard_text r p x) (text_from (reader_after r x) (heard r p x) xs) (text_from (reader_from r (x ∷ xs)) (player_from r p (x ∷ xs)) ys))
-    ∙ ap (λ t. (heard_text r p x ++ (if t then text_from (reader_after r x) (heard r p x) xs else [])) ++ text_from (reader_from r (x ∷ xs)) (player_from r p (x ∷ xs)) ys) (sym yes)))
+    let rest = text-more xs (reader_after r x) (after_run r p x) ys both.1 in
+    ap (λ t. run_text r p x ++ (if t then text_from (reader_after r x) (after_run r p x) (xs ++ ys) else [])) yes
+    ∙ (ap (λ l. run_text r p x ++ l) rest
+    ∙ (sym (append_assoc (run_text r p x) (text_from (reader_after r x) (after_run r p x) xs) (text_from (reader_from r (x ∷ xs)) (server_from r p (x ∷ xs)) ys))
+    ∙ ap (λ t. (run_text r p x ++ (if t then text_from (reader_after r x) (after_run r p x) xs else [])) ++ text_from (reader_from r (x ∷ xs)) (server_from r p (x ∷ xs)) ys) (sym yes)))
 
 -- ---- one line alone
 
-pub one_text : (r : StepReader) (p : Player) (line : List ℕ) → text_from r p (line ∷ []) ≡ heard_text r p line
+pub one_text : (r : StepReader) (p : Server) (line : List ℕ) → text_from r p (line ∷ []) ≡ run_text r p line
 one_text r p line = by_read (is_read (line_of r line))
   where
-    by_read : (t : Bool) → heard_text r p line ++ (if t then [] else []) ≡ heard_text r p line
-    by_read true = append-nil (heard_text r p line)
-    by_read false = append-nil (heard_text r p line)
+    by_read : (t : Bool) → run_text r p line ++ (if t then [] else []) ≡ run_text r p line
+    by_read true = append-nil (run_text r p line)
+    by_read false = append-nil (run_text r p line)
 
 pub then_nothing : (a : Ending) → then_ending a Whole ≡ a
 then_nothing Whole = refl
@@ -98,45 +98,45 @@ spends_stops : (b : Bool) (n : ℕ) (f : LineFault) → (if b then Spends else W
 spends_stops true n f e = absurd (cc)
 spends_stops false n f e = absurd (cc)
 
-stops_unread : (p : Player) (m : ℕ) (r : Result (Option Line) LineFault) (n : ℕ) (f : LineFault) → read_ending p m r ≡ Stops n f → is_read r ≡ false
+stops_unread : (p : Server) (m : ℕ) (r : Result (Option Line) LineFault) (n : ℕ) (f : LineFault) → read_ending p m r ≡ Stops n f → is_read r ≡ false
 stops_unread p m (Ok None) n f e = absurd (cc)
 stops_unread p m (Ok (Some line)) n f e = absurd (spends_stops (line_spends p line) n f e)
 stops_unread p m (Err fault) n f e = refl
 
 -- what follows a line
-after : StepReader → Player → List ℕ → List (List ℕ) → List ℕ
-after r p line later = if is_read (line_of r line) then text_from (reader_after r line) (heard r p line) later else []
+after : StepReader → Server → List ℕ → List (List ℕ) → List ℕ
+after r p line later = if is_read (line_of r line) then text_from (reader_after r line) (after_run r p line) later else []
 
 pub ends_among : (fault : PlayFault) (xs : List (List ℕ)) (line : List ℕ) (later : List (List ℕ)) (got got0 got1 : Known (List ℕ)) (waits0 waits1 : List ℕ)
     → ending_of xs ≡ Whole → Carries got got0 waits0 (text_of xs)
-    → Leaves got0 got1 waits1 (waits0 ++ heard_text (reader_of xs) (player_of xs) line) (heard_ending (reader_of xs) (player_of xs) line) fault
+    → Leaves got0 got1 waits1 (waits0 ++ run_text (reader_of xs) (server_of xs) line) (run_ending (reader_of xs) (server_of xs) line) fault
     → Leaves got got1 waits1 (text_of (xs ++ line ∷ later)) (ending_of (xs ++ line ∷ later)) fault
 unfolding after
 ends_among fault xs line later got got0 got1 waits0 waits1 goes wrote ends =
     let r : StepReader = reader_of xs in
-    let p : Player = player_of xs in
-    let end : ending_of (xs ++ line ∷ later) ≡ then_ending (heard_ending r p line) (ending_from (reader_after r line) (heard r p line) later) = ending-more xs first_reader first_player (line ∷ later) goes in
-    ends_within fault got got0 got1 waits0 waits1 (text_of xs) (heard_text r p line) (after r p line later) (text_of (xs ++ line ∷ later)) (heard_ending r p line) (ending_of (xs ++ line ∷ later)) wrote
-    (text-more xs first_reader first_player (line ∷ later) goes)
+    let p : Server = server_of xs in
+    let end : ending_of (xs ++ line ∷ later) ≡ then_ending (run_ending r p line) (ending_from (reader_after r line) (after_run r p line) later) = ending-more xs first_reader first_server (line ∷ later) goes in
+    ends_within fault got got0 got1 waits0 waits1 (text_of xs) (run_text r p line) (after r p line later) (text_of (xs ++ line ∷ later)) (run_ending r p line) (ending_of (xs ++ line ∷ later)) wrote
+    (text-more xs first_reader first_server (line ∷ later) goes)
     (λ n f stops. (
-      ap (λ t. if t then text_from (reader_after r line) (heard r p line) later else []) (stops_unread p (reader_after r line).lines (line_of r line) n f stops),
-      end ∙ ap (λ a. then_ending a (ending_from (reader_after r line) (heard r p line) later)) stops,
+      ap (λ t. if t then text_from (reader_after r line) (after_run r p line) later else []) (stops_unread p (reader_after r line).lines (line_of r line) n f stops),
+      end ∙ ap (λ a. then_ending a (ending_from (reader_after r line) (after_run r p line) later)) stops,
     ))
-    (λ spends. end ∙ ap (λ a. then_ending a (ending_from (reader_after r line) (heard r p line) later)) spends)
+    (λ spends. end ∙ ap (λ a. then_ending a (ending_from (reader_after r line) (after_run r p line) later)) spends)
     ends
 
 -- ---- a line that is played
 
-pub heard_line : (xs : List (List ℕ)) (line : List ℕ) (got got0 got1 : Known (List ℕ)) (waits0 waits1 : List ℕ) (stage : Stage) → Carries got got0 waits0 (text_of xs) → ending_of xs ≡ Whole
-    → Hears (reader_of xs) (player_of xs) line got0 got1 waits0 waits1 stage
-    → Stands stage (player_of (xs ++ line ∷ [])) × Carries got got1 waits1 (text_of (xs ++ line ∷ [])) × (ending_of (xs ++ line ∷ []) ≡ Whole)
-heard_line xs line got got0 got1 waits0 waits1 stage wrote goes hears =
+pub line_is_run : (xs : List (List ℕ)) (line : List ℕ) (got got0 got1 : Known (List ℕ)) (waits0 waits1 : List ℕ) (server : KeptServer) → Carries got got0 waits0 (text_of xs) → ending_of xs ≡ Whole
+    → RunsLine (reader_of xs) (server_of xs) line got0 got1 waits0 waits1 server
+    → Stands server (server_of (xs ++ line ∷ [])) × Carries got got1 waits1 (text_of (xs ++ line ∷ [])) × (ending_of (xs ++ line ∷ []) ≡ Whole)
+line_is_run xs line got got0 got1 waits0 waits1 server wrote goes runs =
     let r : StepReader = reader_of xs in
-    let p : Player = player_of xs in
-    let text : text_of (xs ++ line ∷ []) ≡ text_of xs ++ heard_text r p line = text-more xs first_reader first_player (line ∷ []) goes ∙ ap (λ l. text_of xs ++ l) (one_text r p line) in (
-      rw (player-more xs first_reader first_player (line ∷ [])) hears.0,
-      rw text (carries_more got got0 got1 waits0 waits1 (text_of xs) (heard_text r p line) wrote hears.1.0),
-      ending-more xs first_reader first_player (line ∷ []) goes ∙ (then_nothing (heard_ending r p line) ∙ hears.1.1),
+    let p : Server = server_of xs in
+    let text : text_of (xs ++ line ∷ []) ≡ text_of xs ++ run_text r p line = text-more xs first_reader first_server (line ∷ []) goes ∙ ap (λ l. text_of xs ++ l) (one_text r p line) in (
+      rw (server-more xs first_reader first_server (line ∷ [])) runs.0,
+      rw text (carries_more got got0 got1 waits0 waits1 (text_of xs) (run_text r p line) wrote runs.1.0),
+      ending-more xs first_reader first_server (line ∷ []) goes ∙ (then_nothing (run_ending r p line) ∙ runs.1.1),
     )
 
 -- ---- a line that is too long
@@ -145,18 +145,18 @@ too_long : (r : StepReader) (line : List ℕ) → 65536 < length line → line_o
 unfolding line_of
 too_long r line h = let yes : nat_lt 65536 (length line) ≡ true = grind (arith, nat_tests) in simp yes refl
 
-pub long_text : (r : StepReader) (p : Player) (line more : List ℕ) → 65536 < length line → heard_text r p (line ++ more) ≡ heard_text r p line
+pub long_text : (r : StepReader) (p : Server) (line more : List ℕ) → 65536 < length line → run_text r p (line ++ more) ≡ run_text r p line
 long_text r p line more h =
     let longer : 65536 < length (line ++ more) = simp length-append (omega arith) in
     ap (λ o. read_text p (after_line o r).lines o) (too_long r (line ++ more) longer ∙ sym (too_long r line h))
 
-pub long_ending : (r : StepReader) (p : Player) (line more : List ℕ) → 65536 < length line → heard_ending r p (line ++ more) ≡ heard_ending r p line
+pub long_ending : (r : StepReader) (p : Server) (line more : List ℕ) → 65536 < length line → run_ending r p (line ++ more) ≡ run_ending r p line
 long_ending r p line more h =
     let longer : 65536 < length (line ++ more) = simp length-append (omega arith) in
     ap (λ o. read_ending p (after_line o r).lines o) (too_long r (line ++ more) longer ∙ sym (too_long r line h))
 
 -- a line that is too long is not played
-pub long_stops : (r : StepReader) (p : Player) (line : List ℕ) → 65536 < length line → heard_ending r p line ≡ Whole → ⊥
+pub long_stops : (r : StepReader) (p : Server) (line : List ℕ) → 65536 < length line → run_ending r p line ≡ Whole → ⊥
 long_stops r p line h whole =
     absurd (cc (whole, ap (λ o. read_ending p (after_line o r).lines o) (too_long r line h)))
 

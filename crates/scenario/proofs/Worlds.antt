@@ -1,9 +1,9 @@
--- The world of a player, step by step.
+-- The world of a server, step by step.
 use Rattle.std.proofs.Common.{◌≡◌, ℕ, List, [], ◌∷◌, ◌++◌, Bool, true, false, Some, None, if◌then◌else◌, length, map, refl, ap, ◌∙◌}
 use Rattle.std.specs.Prelude.{◌==◌, drop}
 use Rattle.edit_apply.specs.declared.Edit.{Edit}
 use Rattle.worker_core.specs.World.{Worker, World, Step, Edits, Looks, Opens, Frames, Loses, Leaves, Ticks, Input, Look, Open, Frame, Lost, Closed, Tick, taken, stepped, run}
-use Rattle.scenario.specs.Player.{Player, world, given, with_step}
+use Rattle.scenario.specs.Server.{Server, world, given, with_step}
 use Rattle.scenario.specs.Stands.{moved, all_moved, all_sends, any_spends}
 
 pub run_more : (ss : List Step) (m : World) (s : Step) → run m (ss ++ s ∷ []) ≡ stepped (run m ss) s
@@ -33,7 +33,7 @@ stepped_workers (Leaves n conn code) m = map_same _ _ (λ w. moved_if (w.core.wo
 stepped_workers (Ticks n now) m = map_same _ _ (λ w. moved_if (w.core.worker == n) (Tick now) w) m.workers
 
 -- the world after one more step
-pub world_step : (p : Player) (s : Step) → world (with_step (Some s) p) ≡ stepped (world p) s
+pub world_step : (p : Server) (s : Step) → world (with_step (Some s) p) ≡ stepped (world p) s
 world_step p s = run_more p.steps _ s
 
 -- an edit gives nothing to a worker

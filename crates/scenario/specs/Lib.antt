@@ -1,5 +1,5 @@
 pub mod Lines
-pub mod Player
+pub mod Server
 pub mod Texts
 pub mod Transcript
 pub mod Stands

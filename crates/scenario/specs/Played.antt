@@ -11,13 +11,13 @@ use Rattle.worker_core.specs.declared.io.StepFault.{StepFault}
 use Rattle.worker_core.specs.declared.io.StepFault.TheVariants as step
 use Rattle.scenario.specs.declared.fault.PlayFault.{PlayFault}
 use Rattle.scenario.specs.declared.fault.PlayFault.TheVariants.{Read, Write, Line, Spent, Memory}
-use Rattle.scenario.specs.declared.stage.Stage.{Stage}
-use Rattle.scenario.specs.declared.stage.Answer.{Answer}
-use Rattle.scenario.specs.declared.player.Play.{Play}
+use Rattle.scenario.specs.declared.server.Server.{Server as KeptServer}
+use Rattle.scenario.specs.declared.server.Answer.{Answer}
+use Rattle.scenario.specs.declared.file_runner.FileRunner.{FileRunner}
 use Rattle.scenario.specs.Lines.{whole_lines, tail}
-use Rattle.scenario.specs.Player.{Player}
+use Rattle.scenario.specs.Server.{Server}
 use Rattle.scenario.specs.Texts.{refused_text}
-use Rattle.scenario.specs.Transcript.{outputs_text, Ending, Whole, Stops, Spends, heard, heard_text, heard_ending, text_of, ending_of, reader_of, player_of, transcript, ending}
+use Rattle.scenario.specs.Transcript.{outputs_text, Ending, Whole, Stops, Spends, after_run, run_text, run_ending, text_of, ending_of, reader_of, server_of, transcript, ending}
 use Rattle.scenario.specs.Stands.{Stands}
 
 -- ---- the faults of the crates below, as faults of a play
@@ -53,7 +53,7 @@ pub record CarriesFront (got0 got1 : Option (List ℕ)) (waits text : List ℕ) 
   pub is : (sent ++ waits) ++ back ≡ text
   pub wrote : Appends got0 got1 sent
 
--- a sink's count rose exactly where the fault is that a write failed
+-- a sink's count rose exactly if the fault is that a write failed
 abbrev pub FaultCause : (before now : ℕ) → PlayFault → Type 0
 FaultCause before now Read = ⊥
 FaultCause before now Write = Rose before now
@@ -67,8 +67,8 @@ WriteCause before now (Err fault) = FaultCause before now fault
 
 -- ---- one line
 
--- what comes of a line of this number, for a player after its step
-abbrev pub answer_text : Player → ℕ → Answer → List ℕ
+-- the transcript of a line of this number, for a server after its step
+abbrev pub answer_text : Server → ℕ → Answer → List ℕ
 answer_text p number a = refused_text number a.refusal ++ outputs_text p number a.outputs.items
 
 -- how a text of this ending was left: with the fault of a line whole, else a front of it
@@ -87,14 +87,14 @@ Leaves got0 got1 waits text end (Line line fault) = Carries got0 got1 waits text
 Leaves got0 got1 waits text end Spent = CarriesFront got0 got1 waits text × (end ≡ Spends)
 Leaves got0 got1 waits text end Memory = CarriesFront got0 got1 waits text
 
--- what holds of the fault, where there is one
+-- what holds of the fault, if there is one
 abbrev pub AtFault : {T : Type 0} → Result T PlayFault → (PlayFault → Type 0) → Type 0
 AtFault (Ok x) P = Unit {0}
 AtFault (Err fault) P = P fault
 
 -- a line that was played, after what waited before
-abbrev pub Hears : StepReader → Player → List ℕ → (got0 got1 : Option (List ℕ)) → (waits0 waits1 : List ℕ) → Stage → Type 0
-Hears r p line got0 got1 waits0 waits1 new = Stands new (heard r p line) × (Carries got0 got1 waits1 (waits0 ++ heard_text r p line) × (heard_ending r p line ≡ Whole))
+abbrev pub RunsLine : StepReader → Server → List ℕ → (got0 got1 : Option (List ℕ)) → (waits0 waits1 : List ℕ) → KeptServer → Type 0
+RunsLine r p line got0 got1 waits0 waits1 new = Stands new (after_run r p line) × (Carries got0 got1 waits1 (waits0 ++ run_text r p line) × (run_ending r p line ≡ Whole))
 
 -- a line that was read is not too long, and neither is the file
 pub record IsCounted (old : StepReader) (line : List ℕ) (new : StepReader) : Type 0 where
@@ -105,15 +105,15 @@ pub record IsCounted (old : StepReader) (line : List ℕ) (new : StepReader) : T
 -- ---- bytes
 
 -- all lines among the bytes that end with a line feed were played
-pub record Playing (got0 got1 : Option (List ℕ)) (k : Play) (bytes : List ℕ) : Type 0 where
+pub record Playing (got0 got1 : Option (List ℕ)) (k : FileRunner) (bytes : List ℕ) : Type 0 where
   pub reader : k.reader ≡ reader_of (whole_lines bytes)
   pub part : k.part.items ≡ tail bytes
-  pub stands : Stands k.stage (player_of (whole_lines bytes))
+  pub stands : Stands k.server (server_of (whole_lines bytes))
   pub wrote : Carries got0 got1 k.waits.items (text_of (whole_lines bytes))
   pub goes_on : ending_of (whole_lines bytes) ≡ Whole
 
 -- and all that comes of them was written
-pub record Written (got0 got1 : Option (List ℕ)) (k : Play) (bytes : List ℕ) : Type 0 where
+pub record Written (got0 got1 : Option (List ℕ)) (k : FileRunner) (bytes : List ℕ) : Type 0 where
   pub playing : Playing got0 got1 k bytes
   pub sent : k.waits.items ≡ []
 
@@ -132,11 +132,11 @@ abbrev pub Nothing : List ℕ → Type 0
 Nothing rest = rest ≡ []
 
 -- no line is too long so far
-abbrev pub Fits : Play → Type 0
+abbrev pub Fits : FileRunner → Type 0
 Fits k = (k.reader.lines ≤ 1000000) × (length k.part.items ≤ 65536)
 
 -- more than the bytes that may come before a line is refused for its length or its number
-abbrev pub room : Play → ℕ
+abbrev pub room : FileRunner → ℕ
 room k = (1000001 - k.reader.lines) * 65538 - length k.part.items
 
 -- ---- a whole play
@@ -161,7 +161,7 @@ PlaysTo left0 left1 got0 got1 (Line line fault) = PlaysPart left0 left1 got0 got
 PlaysTo left0 left1 got0 got1 Spent = PlaysPart left0 left1 got0 got1 Spent
 PlaysTo left0 left1 got0 got1 Memory = PlaysPart left0 left1 got0 got1 Memory
 
--- a fault of the source or the sink is answered exactly where its count rose
+-- a fault of the source or the sink is answered exactly if its count rose
 abbrev pub PlayCause : (read0 read1 write0 write1 : ℕ) → Result (Unit {0}) PlayFault → Type 0
 PlayCause read0 read1 write0 write1 (Ok x) = (read1 ≡ read0) × (write1 ≡ write0)
 PlayCause read0 read1 write0 write1 (Err Read) = Rose read0 read1 × (write1 ≡ write0)

@@ -1,4 +1,4 @@
--- Which players what the code keeps stands for.
+-- Which servers the code's server represents.
 use Rattle.std.specs.Prelude.{◌≡◌, ℕ, ◌+◌, ◌==◌, List, [], ◌∷◌, length, map, flat_map, Bool, false, Option, Some, None, if◌then◌else◌, true}
 use Rattle.std.specs.List.{list_any}
 use Rattle.collections.specs.ById.{find_id, put_all}
@@ -18,10 +18,10 @@ use Rattle.worker_core.specs.Stands.{Stands as StandsFor}
 use Rattle.worker_core.specs.declared.io.StepFault.{StepFault}
 use Rattle.worker_core.specs.declared.io.Output.{Output as Written}
 use Rattle.scenario.specs.declared.guild_log.GuildLog.{GuildLog}
-use Rattle.scenario.specs.declared.seat.Cursor.{Cursor}
-use Rattle.scenario.specs.declared.seat.Seat.{Seat}
-use Rattle.scenario.specs.declared.stage.Stage.{Stage}
-use Rattle.scenario.specs.Player.{Player, world, step_of, noted, with_line, line_sends, given, for_worker, step_spends, given_sends, given_spends}
+use Rattle.scenario.specs.declared.worker_slot.Cursor.{Cursor}
+use Rattle.scenario.specs.declared.worker_slot.WorkerSlot.{WorkerSlot}
+use Rattle.scenario.specs.declared.server.Server.{Server as KeptServer}
+use Rattle.scenario.specs.Server.{Server, world, step_of, noted, with_line, line_sends, given, for_worker, step_spends, given_sends, given_spends}
 
 abbrev pub log_id : GuildLog → ℕ
 log_id l = l.guild.id
@@ -30,7 +30,7 @@ log_id l = l.guild.id
 abbrev pub log_with : ℕ → List Edit → GuildLog
 log_with g es = record { guild = state g es; entries = es }
 
-abbrev pub log_of : Player → ℕ → Option GuildLog
+abbrev pub log_of : Server → ℕ → Option GuildLog
 log_of p g = if contains g p.guilds then Some (log_with g ((world p).logs g)) else None
 
 abbrev pub cursor_id : Cursor → ℕ
@@ -40,48 +40,48 @@ abbrev pub cursor_value : Option Cursor → ℕ
 cursor_value None = 0
 cursor_value (Some c) = c.at
 
--- how many entries of a guild's log the worker of a seat was given
+-- how many entries of a guild's log the worker of a slot was given
 abbrev pub cursor_at : ℕ → List Cursor → ℕ
 cursor_at g cursors = cursor_value (find_id cursor_id g cursors)
 
--- a seat stands for a worker of this number and these guilds
-pub record Sits (gs : List ℕ) (n : ℕ) (k : Seat) (w : Worker) : Type 0 where
+-- a slot represents a worker of this number and these guilds
+pub record SlotStands (gs : List ℕ) (n : ℕ) (k : WorkerSlot) (w : Worker) : Type 0 where
   pub number : w.core.worker ≡ n
   pub guilds : w.guilds ≡ gs
   pub worker : StandsFor k.worker w
   pub cursors : (g : ℕ) → cursor_at g k.cursors ≡ length (w.seen g)
 
-abbrev pub AllSit : List ℕ → ℕ → List Seat → List Worker → Type 0
-AllSit guilds n [] [] = Unit {0}
-AllSit guilds n [] (w ∷ ws) = ⊥
-AllSit guilds n (k ∷ ks) [] = ⊥
-AllSit guilds n (k ∷ ks) (w ∷ ws) = Sits guilds n k w × AllSit guilds (n + 1) ks ws
+abbrev pub SlotsStand : List ℕ → ℕ → List WorkerSlot → List Worker → Type 0
+SlotsStand guilds n [] [] = Unit {0}
+SlotsStand guilds n [] (w ∷ ws) = ⊥
+SlotsStand guilds n (k ∷ ks) [] = ⊥
+SlotsStand guilds n (k ∷ ks) (w ∷ ws) = SlotStands guilds n k w × SlotsStand guilds (n + 1) ks ws
 
-abbrev pub guilds_of : Player → List ℕ
+abbrev pub guilds_of : Server → List ℕ
 guilds_of p = put_all own_id [] p.guilds
 
--- the seats of the world's workers
-abbrev pub Seated : List Seat → Player → Type 0
-Seated seats p = AllSit (guilds_of p) 0 seats (world p).workers
+-- the slots of the world's workers
+abbrev pub HasSlots : List WorkerSlot → Server → Type 0
+HasSlots slots p = SlotsStand (guilds_of p) 0 slots (world p).workers
 
--- the seats are filled with the first step
-abbrev pub SeatedOnceStepped : List Seat → Player → Type 0
-SeatedOnceStepped [] p = length p.steps ≡ 0
-SeatedOnceStepped (k ∷ ks) p = ((length p.steps == 0) ≡ false) × Seated (k ∷ ks) p
+-- the slots are filled with the first step
+abbrev pub HasSlotsOnceStepped : List WorkerSlot → Server → Type 0
+HasSlotsOnceStepped [] p = length p.steps ≡ 0
+HasSlotsOnceStepped (k ∷ ks) p = ((length p.steps == 0) ≡ false) × HasSlots (k ∷ ks) p
 
-pub record Keeps (k : Stage) (p : Player) : Type 0 where
+pub record Keeps (k : KeptServer) (p : Server) : Type 0 where
   pub bots : k.bots ≡ p.bots
   pub guilds : k.guilds ≡ p.guilds
   pub used : k.used ≡ p.used
   pub logs : (g : ℕ) → find_id log_id g k.logs ≡ log_of p g
 
 -- before or after any line
-pub record Stands (k : Stage) (p : Player) : Type 0 where
+pub record Stands (k : KeptServer) (p : Server) : Type 0 where
   pub keeps : Keeps k p
-  pub seats : SeatedOnceStepped k.seats.items p
+  pub slots : HasSlotsOnceStepped k.slots.items p
 
--- there are seats
-abbrev pub IsFull : List Seat → Type 0
+-- there are slots
+abbrev pub IsFull : List WorkerSlot → Type 0
 IsFull [] = ⊥
 IsFull (k ∷ ks) = Unit {0}
 
@@ -90,7 +90,7 @@ abbrev pub away : Option GuildLog → Option Verdict
 away None = Some NotOpen
 away (Some l) = too_many 16384 (length l.entries)
 
--- ---- what a step leaves of a seat, and of all
+-- ---- what a step leaves of a slot, and of all
 
 abbrev pub is_look : Input → Bool
 is_look (Look g es) = true
@@ -100,11 +100,11 @@ is_look (Lost conn) = false
 is_look (Closed conn code) = false
 is_look (Tick now) = false
 
-abbrev pub SeatSteps : List ℕ → ℕ → Worker → Input → Seat → List Written → Type 0
-SeatSteps guilds number w i new out = Sits guilds number new (taken w i) × ((out ≡ all_written (outputs w i)) × (spends w i ≡ false))
+abbrev pub SlotSteps : List ℕ → ℕ → Worker → Input → WorkerSlot → List Written → Type 0
+SlotSteps guilds number w i new out = SlotStands guilds number new (taken w i) × ((out ≡ all_written (outputs w i)) × (spends w i ≡ false))
 
-abbrev pub SeatFails : Worker → Input → StepFault → Type 0
-SeatFails w i fault = FaultBy (spends w i) fault
+abbrev pub SlotFails : Worker → Input → StepFault → Type 0
+SlotFails w i fault = FaultBy (spends w i) fault
 
 abbrev pub moved : Worker → Option Input → Worker
 moved w None = w
@@ -120,23 +120,23 @@ all_sends f ws = flat_map (λ w. given_sends w (f w)) ws
 abbrev pub any_spends : (Worker → Option Input) → List Worker → Bool
 any_spends f ws = list_any (λ w. given_spends w (f w)) ws
 
-abbrev pub SeatsStep : List ℕ → (Worker → Option Input) → List Worker → List Seat → List Written → Type 0
-SeatsStep guilds f ws new out = AllSit guilds 0 new (all_moved f ws) × ((out ≡ all_written (all_sends f ws)) × (any_spends f ws ≡ false))
+abbrev pub SlotsStep : List ℕ → (Worker → Option Input) → List Worker → List WorkerSlot → List Written → Type 0
+SlotsStep guilds f ws new out = SlotsStand guilds 0 new (all_moved f ws) × ((out ≡ all_written (all_sends f ws)) × (any_spends f ws ≡ false))
 
-abbrev pub SeatsFail : (Worker → Option Input) → List Worker → StepFault → Type 0
-SeatsFail f ws fault = FaultBy (any_spends f ws) fault
+abbrev pub SlotsFail : (Worker → Option Input) → List Worker → StepFault → Type 0
+SlotsFail f ws fault = FaultBy (any_spends f ws) fault
 
 -- what the step of a line leaves, and what goes out
-abbrev pub Plays : Player → Line → Stage → List Written → Type 0
+abbrev pub Plays : Server → Line → KeptServer → List Written → Type 0
 Plays p line new out = Stands new (with_line p line) × ((out ≡ line_sends p line) × (step_spends (world p) (step_of p line) ≡ false))
 
 -- a line that gives one worker an input, and leaves all else
-pub record Gives (p : Player) (line : Line) (worker : ℕ) (i : Input) : Type 0 where
+pub record Gives (p : Server) (line : Line) (worker : ℕ) (i : Input) : Type 0 where
   pub step : Step
   pub is_step : step_of p line ≡ Some step
   pub notes : noted p line ≡ p
   pub gives : given (world p) step ≡ for_worker worker i
   pub logs : (stepped (world p) step).logs ≡ (world p).logs
 
-abbrev pub PlaysNot : Player → Line → StepFault → Type 0
+abbrev pub PlaysNot : Server → Line → StepFault → Type 0
 PlaysNot p line fault = FaultBy (step_spends (world p) (step_of p line)) fault

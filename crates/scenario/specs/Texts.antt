@@ -50,7 +50,7 @@ abbrev pub refused_text : ℕ → Option Verdict → List ℕ
 refused_text number None = []
 refused_text number (Some v) = refused_line number v
 
--- want of memory is no fault of a line
+-- running out of memory is no fault of a line
 abbrev pub fault_number : LineFault → ℕ
 fault_number fault.NotJson = 1
 fault_number fault.NoSuchStep = 2

@@ -10,7 +10,7 @@ use Rattle.edit_text.specs.Lines.{line_of, reader_after}
 use Rattle.worker_core.specs.declared.io.Output.{Output}
 use Rattle.worker_core.specs.declared.io.Output.TheVariants.{Send, Close, Wish}
 use Rattle.scenario.specs.Lines.{lines_of}
-use Rattle.scenario.specs.Player.{Player, first_player, world, refusal, step_of, with_line, line_sends, follow, played, step_spends}
+use Rattle.scenario.specs.Server.{Server, first_server, world, refusal, step_of, with_line, line_sends, follow, played, step_spends}
 use Rattle.scenario.specs.Texts.{written_line, refused_text, stop_line}
 
 abbrev pub first_reader : StepReader
@@ -19,23 +19,23 @@ first_reader = record { kind = Run; lines = 0; stepped = false; guilds = [] }
 -- ---- what goes out
 
 -- why the edit of a wish is refused, if it is one that is
-abbrev pub wish_refusal : Player → Output → Option Verdict
+abbrev pub wish_refusal : Server → Output → Option Verdict
 wish_refusal p (Send conn text) = None
 wish_refusal p (Close conn code) = None
 wish_refusal p (Wish guild edit) = refusal p guild edit
 
 -- what goes out after a line of this number; a wish is followed at once by its edit
-abbrev pub output_text : Player → ℕ → Output → List ℕ
+abbrev pub output_text : Server → ℕ → Output → List ℕ
 output_text p number o = written_line o ++ refused_text number (wish_refusal p o)
 
-abbrev pub outputs_text : Player → ℕ → List Output → List ℕ
+abbrev pub outputs_text : Server → ℕ → List Output → List ℕ
 outputs_text p number [] = []
 outputs_text p number (o ∷ os) = output_text p number o ++ outputs_text (follow p o) number os
 
 -- ---- one line
 
 -- why the edit of a line is refused, if it is one that is
-abbrev pub line_refusal : Player → Line → Option Verdict
+abbrev pub line_refusal : Server → Line → Option Verdict
 line_refusal p (Bot token user name privileged) = None
 line_refusal p (Guild id) = None
 line_refusal p (Edit guild edit) = refusal p guild edit
@@ -46,10 +46,10 @@ line_refusal p (Lost conn) = None
 line_refusal p (Closed conn code) = None
 line_refusal p (Tick worker now) = None
 
-abbrev pub line_text : Player → ℕ → Line → List ℕ
+abbrev pub line_text : Server → ℕ → Line → List ℕ
 line_text p number line = refused_text number (line_refusal p line) ++ outputs_text (with_line p line) number (line_sends p line)
 
-abbrev pub line_spends : Player → Line → Bool
+abbrev pub line_spends : Server → Line → Bool
 line_spends p line = step_spends (world p) (step_of p line)
 
 -- how a play ends, the line by its number, from 1
@@ -61,21 +61,21 @@ pub data Ending : Type 0 where
   -- a count of a worker is at its last value
   Spends : Ending
 
-abbrev pub line_ending : Player → Line → Ending
+abbrev pub line_ending : Server → Line → Ending
 line_ending p line = if line_spends p line then Spends else Whole
 
--- what a line that was read, by its number, gives to the transcript, makes of the player, and ends
-abbrev pub read_text : Player → ℕ → Result (Option Line) LineFault → List ℕ
+-- what a line that was read, by its number, gives to the transcript, makes of the server, and ends
+abbrev pub read_text : Server → ℕ → Result (Option Line) LineFault → List ℕ
 read_text p number (Err fault) = stop_line number fault
 read_text p number (Ok None) = []
 read_text p number (Ok (Some line)) = line_text p number line
 
-abbrev pub after_read : Player → Result (Option Line) LineFault → Player
+abbrev pub after_read : Server → Result (Option Line) LineFault → Server
 after_read p (Err fault) = p
 after_read p (Ok None) = p
 after_read p (Ok (Some line)) = played p line
 
-abbrev pub read_ending : Player → ℕ → Result (Option Line) LineFault → Ending
+abbrev pub read_ending : Server → ℕ → Result (Option Line) LineFault → Ending
 read_ending p number (Err fault) = Stops number fault
 read_ending p number (Ok None) = Whole
 read_ending p number (Ok (Some line)) = line_ending p line
@@ -90,49 +90,49 @@ is_read (Err fault) = false
 abbrev pub number_of : StepReader → List ℕ → ℕ
 number_of r line = (reader_after r line).lines
 
-abbrev pub heard_text : StepReader → Player → List ℕ → List ℕ
-heard_text r p line = read_text p (number_of r line) (line_of r line)
+abbrev pub run_text : StepReader → Server → List ℕ → List ℕ
+run_text r p line = read_text p (number_of r line) (line_of r line)
 
-abbrev pub heard : StepReader → Player → List ℕ → Player
-heard r p line = after_read p (line_of r line)
+abbrev pub after_run : StepReader → Server → List ℕ → Server
+after_run r p line = after_read p (line_of r line)
 
-abbrev pub heard_ending : StepReader → Player → List ℕ → Ending
-heard_ending r p line = read_ending p (number_of r line) (line_of r line)
+abbrev pub run_ending : StepReader → Server → List ℕ → Ending
+run_ending r p line = read_ending p (number_of r line) (line_of r line)
 
 -- what is written for lines; nothing follows a line that is refused
-abbrev pub text_from : StepReader → Player → List (List ℕ) → List ℕ
+abbrev pub text_from : StepReader → Server → List (List ℕ) → List ℕ
 text_from r p [] = []
-text_from r p (line ∷ lines) = heard_text r p line ++ (if is_read (line_of r line) then text_from (reader_after r line) (heard r p line) lines else [])
+text_from r p (line ∷ lines) = run_text r p line ++ (if is_read (line_of r line) then text_from (reader_after r line) (after_run r p line) lines else [])
 
 abbrev pub then_ending : Ending → Ending → Ending
 then_ending Whole later = later
 then_ending (Stops line fault) later = Stops line fault
 then_ending Spends later = Spends
 
-abbrev pub ending_from : StepReader → Player → List (List ℕ) → Ending
+abbrev pub ending_from : StepReader → Server → List (List ℕ) → Ending
 ending_from r p [] = Whole
-ending_from r p (line ∷ lines) = then_ending (heard_ending r p line) (ending_from (reader_after r line) (heard r p line) lines)
+ending_from r p (line ∷ lines) = then_ending (run_ending r p line) (ending_from (reader_after r line) (after_run r p line) lines)
 
--- the reader and the player after lines
+-- the reader and the server after lines
 abbrev pub reader_from : StepReader → List (List ℕ) → StepReader
 reader_from r [] = r
 reader_from r (line ∷ lines) = reader_from (reader_after r line) lines
 
-abbrev pub player_from : StepReader → Player → List (List ℕ) → Player
-player_from r p [] = p
-player_from r p (line ∷ lines) = player_from (reader_after r line) (heard r p line) lines
+abbrev pub server_from : StepReader → Server → List (List ℕ) → Server
+server_from r p [] = p
+server_from r p (line ∷ lines) = server_from (reader_after r line) (after_run r p line) lines
 
 abbrev pub text_of : List (List ℕ) → List ℕ
-text_of lines = text_from first_reader first_player lines
+text_of lines = text_from first_reader first_server lines
 
 abbrev pub ending_of : List (List ℕ) → Ending
-ending_of lines = ending_from first_reader first_player lines
+ending_of lines = ending_from first_reader first_server lines
 
 abbrev pub reader_of : List (List ℕ) → StepReader
 reader_of lines = reader_from first_reader lines
 
-abbrev pub player_of : List (List ℕ) → Player
-player_of lines = player_from first_reader first_player lines
+abbrev pub server_of : List (List ℕ) → Server
+server_of lines = server_from first_reader first_server lines
 
 -- the transcript of a file, and how its play ends
 unfoldable pub transcript : List ℕ → List ℕ

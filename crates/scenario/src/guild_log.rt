@@ -1,10 +1,10 @@
 //! The log of a guild.
-ghost use Rattle.std.specs.Prelude.{◌≡◌, ◌++◌, ◌∷◌, [], drop, IfOk, OnOk};
-ghost use Rattle.edit_apply.specs.Edits.{verdict, after};
+ghost use Rattle.std.specs.Prelude.{◌≡◌, ◌++◌, ◌∷◌, [], None, drop, IfOk, OnOk};
+ghost use Rattle.edit_apply.specs.Edits.{verdict, applied, after};
 ghost use Rattle.scenario.specs.Stands.{log_with};
 
 use collections::{Keyed, Seq};
-use edit_apply::{Edit, apply};
+use edit_apply::{Edit, judge, make};
 use guild_model::{Guild, Verdict};
 use snowflake_id::Snowflake;
 use std::alloc::{AllocError, Global};
@@ -24,6 +24,14 @@ impl Keyed for GuildLog {
     }
 }
 
+// Makes an accepted edit, which stays as it is.
+fn make_copy(alloc: Global, guild: &mut Guild, edit: &Edit) -> Result<(), AllocError>
+    requires { verdict guild.old edit.now ≡ None }
+    ensures { OnOk result (guild.new ≡ applied guild.old edit.now) }
+{
+    make(alloc, guild, edit.copy(alloc)?)
+}
+
 impl GuildLog {
     /// An empty log.
     pub fn new(alloc: Global, id: Snowflake) -> GuildLog
@@ -40,16 +48,15 @@ impl GuildLog {
         ensures answer { IfOk result (λ answer. answer ≡ verdict self.old.guild edit) }
         ensures log { OnOk result (self.new ≡ record { guild = after self.old.guild edit; entries = self.old.entries ++ edit ∷ [] }) }
     {
-        let Ok(copy) = edit.copy(alloc) else {
-            drop(edit);
-            return Err(AllocError);
-        };
-        let Ok(answer) = apply(alloc, &mut self.guild, copy) else {
-            drop(edit);
-            return Err(AllocError);
-        };
+        let verdict = judge(&self.guild, &edit).err();
+        if verdict.is_none() {
+            let Ok(()) = make_copy(alloc, &mut self.guild, &edit) else {
+                drop(edit);
+                return Err(AllocError);
+            };
+        }
         self.entries.push(edit)?;
-        Ok(answer.err())
+        Ok(verdict)
     }
 }
 

@@ -1,14 +1,14 @@
-//! Step files played on four workers, from a source of bytes to a sink of bytes.
+//! Plays step files on four workers, from a source of bytes to a sink of bytes.
 #![tactic(auto)]
 
 mod fault;
+mod file_runner;
 mod guild_log;
 mod opened;
-mod player;
 mod playing;
-mod seat;
-mod stage;
+mod server;
 mod texts;
+mod worker_slot;
 mod writing;
 
 pub use fault::PlayFault;

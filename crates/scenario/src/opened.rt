@@ -1,3 +1,5 @@
+//! The connection numbers that were used.
+
 use collections::Keyed;
 
 /// A connection number that was used, and the worker at which it was opened.

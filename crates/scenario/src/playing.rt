@@ -1,4 +1,4 @@
-//! A step file played from its source to a sink.
+//! Plays a step file from a source to a sink.
 ghost use Rattle.std.specs.Prelude.{◌≡◌, true, OnOk, MatchResult};
 ghost use Rattle.worker_core.specs.Law.{EachRunHolds, EachSendHolds};
 ghost use Rattle.worker_core.specs.Entries.{EachEntryHolds, EachMessageHolds};
@@ -6,7 +6,7 @@ ghost use Rattle.worker_core.specs.Resumes.{EachResumeHolds};
 ghost use Rattle.scenario.specs.Played.{PlaysAll, PlaysTo, PlayCause};
 
 use crate::fault::PlayFault;
-use crate::player::Play;
+use crate::file_runner::FileRunner;
 use gate_outside::piece::Piece;
 use gate_outside::streams::{Sink, Source};
 use std::alloc::Global;
@@ -43,7 +43,7 @@ pub fn play<S: Source, K: Sink>(
     entries_are_told();
     messages_are_told();
     resumes_go_on();
-    let mut play = Play::new(alloc);
+    let mut play = FileRunner::new(alloc);
     let mut piece = Piece::new(alloc)?;
     piece.fill(source)?;
     while !piece.bytes().is_empty() {

@@ -1,4 +1,4 @@
-//! The lines of a transcript, each put whole after what is there, or not at all.
+//! Appends transcript lines, each whole or not at all.
 ghost use Rattle.std.specs.Prelude.{◌≡◌, ◌++◌, ◌∷◌, [], is_ok, codes, decimal, if◌then◌else◌};
 ghost use Rattle.scenario.specs.Texts.{fault_number, fault_name, limit_of, refused_text, refused_line, stop_line, written_line};
 
@@ -40,7 +40,7 @@ fn put_send(text: &mut Vec<u8>, conn: u32, sent: &Payload) -> Result<(), AllocEr
     Ok(())
 }
 
-/// Puts the line of what goes out.
+/// Appends the line of an output.
 pub fn put_output(text: &mut Vec<u8>, output: &Output) -> Result<(), AllocError>
     ensures { text.new.items ≡ (if is_ok result then text.old.items ++ written_line output.now else text.old.items) }
 {
@@ -83,7 +83,7 @@ fn put_refused(text: &mut Vec<u8>, line: u64, verdict: Verdict) -> Result<(), Al
     }
 }
 
-/// Puts the line of an edit that is refused, if it is, by the number of its line.
+/// Appends the line of an edit that is refused, if it is, with the number of its line.
 pub fn put_refusal(
     text: &mut Vec<u8>,
     line: u64,
@@ -123,7 +123,7 @@ fn name_of(fault: LineFault) -> &'static str
     }
 }
 
-/// Puts the line at which a play ends, since it is refused.
+/// Appends the line of a refused line, which ends the transcript.
 pub fn put_stop(text: &mut Vec<u8>, line: u64, fault: LineFault) -> Result<(), AllocError>
     ensures { text.new.items ≡ (if is_ok result then text.old.items ++ stop_line line fault else text.old.items) }
 {

@@ -10,39 +10,39 @@ use Rattle.std.proofs.lemmas.Bool.Decides.{nat_tests}
 use Rattle.std.proofs.lemmas.Map.Entries.{option_filter, lookup-filter-values}
 use Rattle.std.proofs.lemmas.Map.Made.{IsDistinct-keys_filter}
 use Rattle.std.proofs.lemmas.Option.{none-some, slice_get-map}
-use Rattle.session_core.specs.declared.kept.Line.{Line}
-use Rattle.session_core.specs.declared.kept.Live.{Live}
-use Rattle.session_core.specs.declared.kept.Hold.{Hold}
-use Rattle.session_core.specs.declared.kept.Hold.TheVariants as hold
+use Rattle.session_core.specs.declared.kept.Connection.{Connection as KeptConnection}
+use Rattle.session_core.specs.declared.kept.Session.{Session as KeptSession}
+use Rattle.session_core.specs.declared.kept.Condition.{Condition as KeptCondition}
+use Rattle.session_core.specs.declared.kept.Condition.TheVariants as condition
 use Rattle.replay_ring.specs.Replay.{Replay}
-use Rattle.session_core.specs.State.{Link, Session, is_on}
+use Rattle.session_core.specs.State.{Connection, Session, is_on}
 use Rattle.session_core.specs.Ends.{is_silent, is_overdue, left_of, kept_for}
-use Rattle.session_core.specs.Kept.{place_of, conn_of, link_of, session_of, session_at, conn_at, IsKept}
+use Rattle.session_core.specs.Kept.{condition_of, conn_of, connection_of, session_of, session_at, conn_at, IsKept}
 use Rattle.session_core.proofs.Entries.{absent-same, once-after, on-conn, conn-on, conn_at-here, conn_at-later}
 use Rattle.session_core.proofs.Sides.{only-kept, there-kept, on-kept}
 use Rattle.session_core.proofs.Changes.{Agree-same, Agree-cut, IsSetAt, session_at-set, conn_at-set}
 
 -- ---- a session ends with its connection
 
-pub left-none : (es : List (ℕ × Live)) (c : ℕ) → IsDistinct nat_eq (keys_of es) → ((n : ℕ) → conn_at es n ≡ Some c → ⊥)
+pub left-none : (es : List (ℕ × KeptSession)) (c : ℕ) → IsDistinct nat_eq (keys_of es) → ((n : ℕ) → conn_at es n ≡ Some c → ⊥)
     → flat_map (left_of (λ (x : Session Replay). []) c) (map session_of es) ≡ map session_of es
 left-none [] c once off = refl
 left-none (e ∷ es) c once off =
     let rest : flat_map (left_of (λ (x : Session Replay). []) c) (map session_of es) ≡ map session_of es = left-none es c (once-after e es once) (λ n is. off n (conn_at-later e es n c once is)) in
-    elim (cases_Bool (is_on c (place_of e.1.hold))) [
-      | inl on ↦ absurd (off e.0 (conn_at-here e es ∙ on-conn e.1.hold c on))
+    elim (cases_Bool (is_on c (condition_of e.1.condition))) [
+      | inl on ↦ absurd (off e.0 (conn_at-here e es ∙ on-conn e.1.condition c on))
       | inr apart ↦ rw (apart, rest) refl
     ]
 
-pub left-kept : (es : List (ℕ × Live)) (c n : ℕ) (x : Live) → IsDistinct nat_eq (keys_of es) → ((m : ℕ) → conn_at es m ≡ Some c → m ≡ n)
-    → lookup (nat_eq n) es ≡ Some x → conn_of x.hold ≡ Some c
+pub left-kept : (es : List (ℕ × KeptSession)) (c n : ℕ) (x : KeptSession) → IsDistinct nat_eq (keys_of es) → ((m : ℕ) → conn_at es m ≡ Some c → m ≡ n)
+    → lookup (nat_eq n) es ≡ Some x → conn_of x.condition ≡ Some c
     → map session_of (remove_entry (nat_eq n) es) ≡ flat_map (left_of (λ (x : Session Replay). []) c) (map session_of es)
 left-kept [] c n x once only there on = refl
 left-kept (e ∷ es) c n x once only there on =
     elim (cases_Bool (nat_eq n e.0)) [
       | inl same ↦
           let first : e.1 ≡ x = grind (arith, same, there) in
-          let here : is_on c (place_of e.1.hold) ≡ true = rw first (conn-on x.hold c on) in
+          let here : is_on c (condition_of e.1.condition) ≡ true = rw first (conn-on x.condition c on) in
           let none : (m : ℕ) → conn_at es m ≡ Some c → ⊥ =
           λ m is. let is_n : m ≡ n = only m (conn_at-later e es m c once is) in
           let absent : lookup (nat_eq n) es ≡ None = absent-same n e es once same in
@@ -50,49 +50,49 @@ left-kept (e ∷ es) c n x once only there on =
           rw (same, here, left-none es c (once-after e es once) none) refl
       | inr apart ↦
           let later : lookup (nat_eq n) es ≡ Some x = rw apart at there in
-          let off : is_on c (place_of e.1.hold) ≡ false =
-          false_from_ne_true (is_on c (place_of e.1.hold))
-          (λ on_c. let is_n : e.0 ≡ n = only e.0 (conn_at-here e es ∙ on-conn e.1.hold c on_c) in grind (arith, nat_tests, apart, is_n)) in
+          let off : is_on c (condition_of e.1.condition) ≡ false =
+          false_from_ne_true (is_on c (condition_of e.1.condition))
+          (λ on_c. let is_n : e.0 ≡ n = only e.0 (conn_at-here e es ∙ on-conn e.1.condition c on_c) in grind (arith, nat_tests, apart, is_n)) in
           rw (apart, off, left-kept es c n x (once-after e es once) (λ m is. only m (conn_at-later e es m c once is)) later on) refl
     ]
 
-pub left-removed : (made : ℕ) (lines : List (ℕ × Line)) (es : List (ℕ × Live)) → IsKept made lines es → (c n : ℕ) → session_at lines c ≡ Some n
+pub left-removed : (made : ℕ) (connections : List (ℕ × KeptConnection)) (es : List (ℕ × KeptSession)) → IsKept made connections es → (c n : ℕ) → session_at connections c ≡ Some n
     → map session_of (remove_entry (nat_eq n) es) ≡ flat_map (left_of (λ (x : Session Replay). []) c) (map session_of es)
-left-removed made lines es kept c n is = by_found (lookup (nat_eq n) es) refl
+left-removed made connections es kept c n is = by_found (lookup (nat_eq n) es) refl
   where
-    by_found : (o : Option Live) → lookup (nat_eq n) es ≡ o → map session_of (remove_entry (nat_eq n) es) ≡ flat_map (left_of (λ (x : Session Replay). []) c) (map session_of es)
-    by_found None absent = absurd (there-kept made lines es kept c n is absent)
-    by_found (Some x) there = left-kept es c n x kept.sessions_once (only-kept made lines es kept c n is) there (on-kept made lines es kept c n x is there)
+    by_found : (o : Option KeptSession) → lookup (nat_eq n) es ≡ o → map session_of (remove_entry (nat_eq n) es) ≡ flat_map (left_of (λ (x : Session Replay). []) c) (map session_of es)
+    by_found None absent = absurd (there-kept made connections es kept c n is absent)
+    by_found (Some x) there = left-kept es c n x kept.sessions_once (only-kept made connections es kept c n is) there (on-kept made connections es kept c n x is there)
 
-abbrev absent : Option Live
+abbrev absent : Option KeptSession
 absent = None
 
 none_either : (b : Bool) → cond b None None ≡ absent
 none_either true = refl
 none_either false = refl
 
-pub IsKept-left : (made : ℕ) (lines lines' : List (ℕ × Line)) (old new : List (ℕ × Live)) (c n : ℕ)
-    → IsKept made lines old → session_at lines c ≡ Some n
-    → IsDistinct nat_eq (keys_of lines') → IsSetAt c None lines lines'
+pub IsKept-left : (made : ℕ) (connections connections' : List (ℕ × KeptConnection)) (old new : List (ℕ × KeptSession)) (c n : ℕ)
+    → IsKept made connections old → session_at connections c ≡ Some n
+    → IsDistinct nat_eq (keys_of connections') → IsSetAt c None connections connections'
     → IsDistinct nat_eq (keys_of new) → IsSetAt n None old new
-    → IsKept made lines' new
-IsKept-left made lines lines' old new c n kept on once is once' is' = record {
-  links_once = once;
+    → IsKept made connections' new
+IsKept-left made connections connections' old new c n kept on once is once' is' = record {
+  connections_once = once;
   sessions_once = once';
   counted = λ m above. is' m ∙ (ap (λ o. cond (nat_eq n m) None o) (kept.counted m above) ∙ none_either (nat_eq n m));
-  agree = Agree-cut (session_at lines) (conn_at old) (session_at lines') (conn_at new) c n kept.agree on
-      (session_at-set lines lines' c None is) (conn_at-set old new n None is');
+  agree = Agree-cut (session_at connections) (conn_at old) (session_at connections') (conn_at new) c n kept.agree on
+      (session_at-set connections connections' c None is) (conn_at-set old new n None is');
   small = kept.small;
 }
 
 -- ---- sessions that were left for too long
 
-abbrev pub is_due : ℕ → Live → Bool
-is_due now x = not (is_overdue now (place_of x.hold))
+abbrev pub is_due : ℕ → KeptSession → Bool
+is_due now x = not (is_overdue now (condition_of x.condition))
 
-pub expired-kept : (es : List (ℕ × Live)) (now : ℕ) → map session_of (filter (λ e. is_due now e.1) es) ≡ flat_map (kept_for (λ (x : Session Replay). []) now) (map session_of es)
+pub expired-kept : (es : List (ℕ × KeptSession)) (now : ℕ) → map session_of (filter (λ e. is_due now e.1) es) ≡ flat_map (kept_for (λ (x : Session Replay). []) now) (map session_of es)
 expired-kept [] now = refl
-expired-kept (e ∷ es) now = by_test (is_overdue now (place_of e.1.hold)) (expired-kept es now)
+expired-kept (e ∷ es) now = by_test (is_overdue now (condition_of e.1.condition)) (expired-kept es now)
   where
     by_test : (b : Bool) → map session_of (filter (λ e. is_due now e.1) es) ≡ flat_map (kept_for (λ (x : Session Replay). []) now) (map session_of es)
         → map session_of (if not b then e ∷ filter (λ e. is_due now e.1) es else filter (λ e. is_due now e.1) es)
@@ -101,43 +101,43 @@ expired-kept (e ∷ es) now = by_test (is_overdue now (place_of e.1.hold)) (expi
     by_test false rest = ap (λ xs. session_of e ∷ xs) rest
 
 -- a session that ends so has no connection
-off_due : (now : ℕ) (x : Live) (h : Hold) → x.hold ≡ h → is_due now x ≡ false → conn_of h ≡ None
-off_due now x (hold.Attached conn) is none = absurd (grind (arith, is, none))
-off_due now x (hold.Detached since) is none = refl
+off_due : (now : ℕ) (x : KeptSession) (h : KeptCondition) → x.condition ≡ h → is_due now x ≡ false → conn_of h ≡ None
+off_due now x (condition.Attached conn) is none = absurd (grind (arith, is, none))
+off_due now x (condition.Detached since) is none = refl
 
-conn_due : (now : ℕ) (o : Option Live) → option_and_then (λ (x : Live). conn_of x.hold) (option_filter (is_due now) o) ≡ option_and_then (λ (x : Live). conn_of x.hold) o
+conn_due : (now : ℕ) (o : Option KeptSession) → option_and_then (λ (x : KeptSession). conn_of x.condition) (option_filter (is_due now) o) ≡ option_and_then (λ (x : KeptSession). conn_of x.condition) o
 conn_due now None = refl
 conn_due now (Some x) = elim (cases_Bool (is_due now x)) [
   | inl due ↦ rw due refl
-  | inr none ↦ rw none (sym (off_due now x x.hold refl none))
+  | inr none ↦ rw none (sym (off_due now x x.condition refl none))
 ]
 
-pub IsKept-expired : (made now : ℕ) (lines : List (ℕ × Line)) (es : List (ℕ × Live)) → IsKept made lines es → IsKept made lines (filter (λ e. is_due now e.1) es)
-IsKept-expired made now lines es kept =
+pub IsKept-expired : (made now : ℕ) (connections : List (ℕ × KeptConnection)) (es : List (ℕ × KeptSession)) → IsKept made connections es → IsKept made connections (filter (λ e. is_due now e.1) es)
+IsKept-expired made now connections es kept =
     let at : (n : ℕ) → lookup (nat_eq n) (filter (λ e. is_due now e.1) es) ≡ option_filter (is_due now) (lookup (nat_eq n) es) =
     λ n. lookup-filter-values nat_eq_equiv (is_due now) n es kept.sessions_once in
     record {
-      links_once = kept.links_once;
+      connections_once = kept.connections_once;
       sessions_once = IsDistinct-keys_filter nat_eq (λ e. is_due now e.1) es kept.sessions_once;
       counted = λ m above. at m ∙ ap (option_filter (is_due now)) (kept.counted m above);
-      agree = Agree-same (session_at lines) (conn_at es) (session_at lines) (conn_at (filter (λ e. is_due now e.1) es)) kept.agree
-          (λ k. refl) (λ n. ap (option_and_then (λ (x : Live). conn_of x.hold)) (at n) ∙ conn_due now (lookup (nat_eq n) es));
+      agree = Agree-same (session_at connections) (conn_at es) (session_at connections) (conn_at (filter (λ e. is_due now e.1) es)) kept.agree
+          (λ k. refl) (λ n. ap (option_and_then (λ (x : KeptSession). conn_of x.condition)) (at n) ∙ conn_due now (lookup (nat_eq n) es));
       small = kept.small;
     }
 
 -- ---- silent connections
 
-silent-step : (ls : List Link) (i now : ℕ) (l : Link) → slice_get ls i ≡ Some l
+silent-step : (ls : List Connection) (i now : ℕ) (l : Connection) → slice_get ls i ≡ Some l
     → filter (is_silent now) (drop i ls) ≡ (if is_silent now l then l ∷ filter (is_silent now) (drop (suc i) ls) else filter (is_silent now) (drop (suc i) ls))
 silent-step [] i now l at = absurd (none-some l at)
 silent-step (k ∷ ls) zero now l at = let same : k ≡ l = cc in rw same refl
 silent-step (k ∷ ls) (suc i) now l at = silent-step ls i now l at
 
-pub silent-next : (ls : List Link) (i now : ℕ) (l : Link) → slice_get ls i ≡ Some l
+pub silent-next : (ls : List Connection) (i now : ℕ) (l : Connection) → slice_get ls i ≡ Some l
     → filter (is_silent now) (drop i ls) ≡ (if is_silent now l then l ∷ filter (is_silent now) (drop (i + 1) ls) else filter (is_silent now) (drop (i + 1) ls))
 silent-next ls i now l at =
     let one : i + 1 ≡ suc i = omega arith in
     rw one (silent-step ls i now l at)
 
-pub link-at : (lines : List (ℕ × Line)) (i k : ℕ) (l : Line) → slice_get lines i ≡ Some (k, l) → slice_get (map link_of lines) i ≡ Some (link_of (k, l))
-link-at lines i k l at = slice_get-map link_of lines i ∙ ap (option_map link_of) at
+pub connection-at : (connections : List (ℕ × KeptConnection)) (i k : ℕ) (l : KeptConnection) → slice_get connections i ≡ Some (k, l) → slice_get (map connection_of connections) i ≡ Some (connection_of (k, l))
+connection-at connections i k l at = slice_get-map connection_of connections i ∙ ap (option_map connection_of) at

@@ -3,7 +3,7 @@ pub mod Changes
 pub mod Intents
 pub mod Sides
 pub mod Starts
-pub mod Places
+pub mod Indexes
 pub mod Endings
 pub mod Rates
 pub mod Joins

@@ -6,13 +6,13 @@ use Rattle.std.specs.Map.{lookup, keys_of, set_value}
 use Rattle.std.proofs.lemmas.Bool.{cases_Bool}
 use Rattle.std.proofs.lemmas.Bool.Decides.{nat_tests}
 use Rattle.std.proofs.lemmas.Option.{none-some, same_Some}
-use Rattle.session_core.specs.declared.kept.Line.{Line}
-use Rattle.session_core.specs.declared.kept.Live.{Live}
-use Rattle.session_core.specs.State.{Link}
+use Rattle.session_core.specs.declared.kept.Connection.{Connection as KeptConnection}
+use Rattle.session_core.specs.declared.kept.Session.{Session as KeptSession}
+use Rattle.session_core.specs.State.{Connection}
 use Rattle.session_core.specs.Rate.{with_time, is_crowded}
-use Rattle.session_core.specs.Kept.{link_of, IsKept}
+use Rattle.session_core.specs.Kept.{connection_of, IsKept}
 use Rattle.session_core.proofs.Entries.{absent-same, once-after}
-use Rattle.session_core.proofs.Changes.{IsSetAt, IsKept-line}
+use Rattle.session_core.proofs.Changes.{IsSetAt, IsKept-connection}
 
 pub crowded_is : (ts : List ℕ) (now first : ℕ) → slice_get ts 0 ≡ Some first → is_crowded now ts ≡ ((length ts == 120) && nat_lt now (first + 60000))
 crowded_is [] now first at = absurd (none-some first at)
@@ -27,22 +27,22 @@ crowded_none (t ∷ ts) now none = absurd (none-some t (sym none))
 
 -- ---- whether there were too many
 
-rated-none : (lines : List (ℕ × Line)) (c now : ℕ) → lookup (nat_eq c) lines ≡ None → list_any (λ (l : Link). (l.number == c) && is_crowded now l.times) (map link_of lines) ≡ false
+rated-none : (connections : List (ℕ × KeptConnection)) (c now : ℕ) → lookup (nat_eq c) connections ≡ None → list_any (λ (l : Connection). (l.number == c) && is_crowded now l.times) (map connection_of connections) ≡ false
 rated-none [] c now absent = refl
 rated-none (e ∷ es) c now absent = grind (arith, nat_tests, rated-none es c now)
 
-pub rated-absent : (lines : List (ℕ × Line)) (c now : ℕ) → lookup (nat_eq c) lines ≡ None → list_any (λ (l : Link). (l.number == c) && is_crowded now l.times) (map link_of lines) ≡ false
-rated-absent lines c now absent = rated-none lines c now absent
+pub rated-absent : (connections : List (ℕ × KeptConnection)) (c now : ℕ) → lookup (nat_eq c) connections ≡ None → list_any (λ (l : Connection). (l.number == c) && is_crowded now l.times) (map connection_of connections) ≡ false
+rated-absent connections c now absent = rated-none connections c now absent
 
-abbrev any_rated : List (ℕ × Line) → ℕ → ℕ → Bool
-any_rated lines c now = list_any (λ (l : Link). (l.number == c) && is_crowded now l.times) (map link_of lines)
+abbrev any_rated : List (ℕ × KeptConnection) → ℕ → ℕ → Bool
+any_rated connections c now = list_any (λ (l : Connection). (l.number == c) && is_crowded now l.times) (map connection_of connections)
 
 or_none : (b : Bool) → (b || false) ≡ b
 or_none true = refl
 or_none false = refl
 
-pub rated-kept : (lines : List (ℕ × Line)) (c now : ℕ) (l : Line) → IsDistinct nat_eq (keys_of lines) → lookup (nat_eq c) lines ≡ Some l
-    → any_rated lines c now ≡ is_crowded now l.times
+pub rated-kept : (connections : List (ℕ × KeptConnection)) (c now : ℕ) (l : KeptConnection) → IsDistinct nat_eq (keys_of connections) → lookup (nat_eq c) connections ≡ Some l
+    → any_rated connections c now ≡ is_crowded now l.times
 rated-kept [] c now l once there = absurd (none-some l there)
 rated-kept (e ∷ es) c now l once there = by_number (nat_eq c e.0) refl there (λ later. rated-kept es c now l (once-after e es once) later)
   where
@@ -59,29 +59,29 @@ rated-kept (e ∷ es) c now l once there = by_number (nat_eq c e.0) refl there (
 
 -- ---- a frame has come
 
-abbrev pub noted_at : ℕ → ℕ → Link → Link
-noted_at c now l = if l.number == c then record l { times = with_time now l.times } else l
+abbrev pub counted_at : ℕ → ℕ → Connection → Connection
+counted_at c now l = if l.number == c then record l { times = with_time now l.times } else l
 
-abbrev pub noted_line : Line → ℕ → Line
-noted_line l now = record l { times = with_time now l.times }
+abbrev pub counted_connection : KeptConnection → ℕ → KeptConnection
+counted_connection l now = record l { times = with_time now l.times }
 
-pub noted-absent : (lines : List (ℕ × Line)) (c now : ℕ) → lookup (nat_eq c) lines ≡ None → map (noted_at c now) (map link_of lines) ≡ map link_of lines
-noted-absent [] c now absent = refl
-noted-absent (e ∷ es) c now absent = grind (arith, nat_tests, noted-absent es c now)
+pub frame_counted-absent : (connections : List (ℕ × KeptConnection)) (c now : ℕ) → lookup (nat_eq c) connections ≡ None → map (counted_at c now) (map connection_of connections) ≡ map connection_of connections
+frame_counted-absent [] c now absent = refl
+frame_counted-absent (e ∷ es) c now absent = grind (arith, nat_tests, frame_counted-absent es c now)
 
-pub noted-kept : (lines : List (ℕ × Line)) (c now : ℕ) (l : Line) → IsDistinct nat_eq (keys_of lines) → lookup (nat_eq c) lines ≡ Some l
-    → map link_of (set_value (nat_eq c) lines (noted_line l now)) ≡ map (noted_at c now) (map link_of lines)
-noted-kept [] c now l once there = refl
-noted-kept (e ∷ es) c now l once there =
+pub frame_counted-kept : (connections : List (ℕ × KeptConnection)) (c now : ℕ) (l : KeptConnection) → IsDistinct nat_eq (keys_of connections) → lookup (nat_eq c) connections ≡ Some l
+    → map connection_of (set_value (nat_eq c) connections (counted_connection l now)) ≡ map (counted_at c now) (map connection_of connections)
+frame_counted-kept [] c now l once there = refl
+frame_counted-kept (e ∷ es) c now l once there =
     elim (cases_Bool (nat_eq c e.0)) [
-      | inl same ↦ grind (arith, nat_tests, same, noted-absent es c now (absent-same c e es once same))
+      | inl same ↦ grind (arith, nat_tests, same, frame_counted-absent es c now (absent-same c e es once same))
       | inr apart ↦
           let later : lookup (nat_eq c) es ≡ Some l = rw apart at there in
-          grind (arith, nat_tests, apart, noted-kept es c now l (once-after e es once) later)
+          grind (arith, nat_tests, apart, frame_counted-kept es c now l (once-after e es once) later)
     ]
 
-pub IsKept-noted : (made : ℕ) (old new : List (ℕ × Line)) (sessions : List (ℕ × Live)) (c now : ℕ) (l : Line)
-    → IsKept made old sessions → lookup (nat_eq c) old ≡ Some l → IsDistinct nat_eq (keys_of new) → IsSetAt c (Some (noted_line l now)) old new
+pub IsKept-frame_counted : (made : ℕ) (old new : List (ℕ × KeptConnection)) (sessions : List (ℕ × KeptSession)) (c now : ℕ) (l : KeptConnection)
+    → IsKept made old sessions → lookup (nat_eq c) old ≡ Some l → IsDistinct nat_eq (keys_of new) → IsSetAt c (Some (counted_connection l now)) old new
     → IsKept made new sessions
-IsKept-noted made old new sessions c now l kept there once is =
-    IsKept-line made old new sessions c (Some (noted_line l now)) kept once is (rw there refl)
+IsKept-frame_counted made old new sessions c now l kept there once is =
+    IsKept-connection made old new sessions c (Some (counted_connection l now)) kept once is (rw there refl)

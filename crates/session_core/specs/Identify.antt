@@ -44,17 +44,17 @@ abbrev pub viewer_of : Bot → Identify → Viewer
 viewer_of bot i = record { user = bot.user; intents = i.intents; shard = i.shard; threshold = threshold_of i.large_threshold }
 
 -- the first test that fails gives the code; a worker has at most 64 live sessions
-abbrev pub judged : (sessions : ℕ) → Identify → Bot → Result Bot ℕ
-judged sessions i bot =
+abbrev pub authorized : (sessions : ℕ) → Identify → Bot → Result Bot ℕ
+authorized sessions i bot =
     if not (are_intents i.intents) then Err 4013
     else (if is_no_shard i.shard then Err 4010
     else (if goes_beyond i.intents bot.privileged then Err 4014
     else (if nat_lt sessions 64 then Ok bot
     else Err 4000)))
 
-abbrev pub judged_of : (sessions : ℕ) → Identify → Option Bot → Result Bot ℕ
-judged_of sessions i None = Err 4004
-judged_of sessions i (Some bot) = judged sessions i bot
+abbrev pub authorized_of : (sessions : ℕ) → Identify → Option Bot → Result Bot ℕ
+authorized_of sessions i None = Err 4004
+authorized_of sessions i (Some bot) = authorized sessions i bot
 
 abbrev pub viewer_as : Identify → Result Bot ℕ → Result Viewer ℕ
 viewer_as i (Ok bot) = Ok (viewer_of bot i)
@@ -67,4 +67,4 @@ start_as i (Err code) = Err code
 
 -- the bot that may begin a session, or the code by which it may not
 unfoldable pub identified : {A : Type 0} → State A → Identify → Result Bot ℕ
-identified s i = judged_of (length (live s)) i (bot_of i.token s.bots)
+identified s i = authorized_of (length (live s)) i (bot_of i.token s.bots)

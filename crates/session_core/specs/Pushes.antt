@@ -8,13 +8,13 @@ use Rattle.session_core.specs.State.{State, Session}
 abbrev pub next_number : Session Replay → ℕ
 next_number x = x.sent.last + 1
 
--- whether the session at this place can have one more
+-- whether the session at this index can have one more
 abbrev pub has_next_at : ℕ → State Replay → Bool
-has_next_at place s = option_map_or (λ (x : Session Replay). nat_lt x.sent.last (2 ^ 64 - 1)) (slice_get s.sessions place) false
+has_next_at index s = option_map_or (λ (x : Session Replay). nat_lt x.sent.last (2 ^ 64 - 1)) (slice_get s.sessions index) false
 
 abbrev pub further_by : List ℕ → Session Replay → Session Replay
 further_by text x = record x { sent = pushed x.sent text }
 
--- with the session at this place one dispatch further, which has this text
+-- with the session at this index one dispatch further, which has this text
 abbrev pub pushed_at : ℕ → List ℕ → State Replay → State Replay
-pushed_at place text s = record s { sessions = option_map_or (λ x. slice_set s.sessions place (further_by text x)) (slice_get s.sessions place) s.sessions }
+pushed_at index text s = record s { sessions = option_map_or (λ x. slice_set s.sessions index (further_by text x)) (slice_get s.sessions index) s.sessions }

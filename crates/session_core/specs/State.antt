@@ -10,22 +10,23 @@ use Rattle.session_core.specs.declared.reply.Reply.TheVariants.{Send, Close}
 
 -- an open connection, the moment of its last heartbeat, at first that of its opening, and the moments of its
 -- latest frames
-pub record Link : Type 0 where
+pub record Connection : Type 0 where
   pub number : ℕ
-  pub heard : ℕ
+  pub last_heartbeat_ms : ℕ
   pub times : List ℕ
 
-pub data Place : Type 0 where
-  Attached : (conn : ℕ) → Place
-  Detached : (since : ℕ) → Place
-  Ended : Place
+-- whether a session has a connection, or since when it has none, or has ended
+pub data Condition : Type 0 where
+  Attached : (conn : ℕ) → Condition
+  Detached : (since : ℕ) → Condition
+  Ended : Condition
 
 pub record Session (A : Type 0) : Type 0 where
   pub number : ℕ
   pub token : List ℕ
   pub name : List ℕ
   pub viewer : Viewer
-  pub place : Place
+  pub condition : Condition
   pub sent : A
 
 pub record State (A : Type 0) : Type 0 where
@@ -33,32 +34,32 @@ pub record State (A : Type 0) : Type 0 where
   pub bots : List Bot
   -- how many sessions were made
   pub made : ℕ
-  pub links : List Link
+  pub connections : List Connection
   pub sessions : List (Session A)
 
-abbrev pub is_on : ℕ → Place → Bool
+abbrev pub is_on : ℕ → Condition → Bool
 is_on conn (Attached c) = c == conn
 is_on conn (Detached since) = false
 is_on conn Ended = false
 
-abbrev pub is_live : Place → Bool
+abbrev pub is_live : Condition → Bool
 is_live (Attached conn) = true
 is_live (Detached since) = true
 is_live Ended = false
 
--- the connection of a session that is in this place
-abbrev pub attached : Place → Option ℕ
+-- the connection of a session in this condition
+abbrev pub attached : Condition → Option ℕ
 attached (Attached conn) = Some conn
 attached (Detached since) = None
 attached Ended = None
 
 module _ {A : Type 0} where
-  abbrev pub has_link : ℕ → State A → Bool
-  has_link conn s = list_any (λ (l : Link). l.number == conn) s.links
+  abbrev pub has_connection : ℕ → State A → Bool
+  has_connection conn s = list_any (λ (l : Connection). l.number == conn) s.connections
 
   -- the session of a connection
   abbrev pub session_on : ℕ → State A → Option (Session A)
-  session_on conn s = find (λ (x : Session A). is_on conn x.place) s.sessions
+  session_on conn s = find (λ (x : Session A). is_on conn x.condition) s.sessions
 
   abbrev pub has_session : ℕ → State A → Bool
   has_session conn s = is_some (session_on conn s)
@@ -68,34 +69,34 @@ module _ {A : Type 0} where
   number_on conn s = option_map (λ (x : Session A). x.number) (session_on conn s)
 
   abbrev pub live : State A → List (Session A)
-  live s = filter (λ (x : Session A). is_live x.place) s.sessions
+  live s = filter (λ (x : Session A). is_live x.condition) s.sessions
 
-  abbrev pub released : ℕ → Place → Session A → Session A
-  released conn next x = if is_on conn x.place then record x { place = next } else x
+  abbrev pub released : ℕ → Condition → Session A → Session A
+  released conn next x = if is_on conn x.condition then record x { condition = next } else x
 
-  -- a connection gone, and its session in a new place
-  abbrev pub gone : ℕ → Place → State A → State A
-  gone conn next s = record s { links = filter (λ (l : Link). not (l.number == conn)) s.links; sessions = map (released conn next) s.sessions }
+  -- a connection removed, and its session in a new condition
+  abbrev pub gone : ℕ → Condition → State A → State A
+  gone conn next s = record s { connections = filter (λ (l : Connection). not (l.number == conn)) s.connections; sessions = map (released conn next) s.sessions }
 
-  abbrev pub with_link : ℕ → ℕ → State A → State A
-  with_link conn now s = record s { links = s.links ++ record { number = conn; heard = now; times = [] } ∷ [] }
+  abbrev pub with_connection : ℕ → ℕ → State A → State A
+  with_connection conn now s = record s { connections = s.connections ++ record { number = conn; last_heartbeat_ms = now; times = [] } ∷ [] }
 
   -- a worker has at most 64 connections
   abbrev pub opened : ℕ → ℕ → State A → State A
-  opened conn now s = if has_link conn s then s else (if nat_lt (length s.links) 64 then with_link conn now s else s)
+  opened conn now s = if has_connection conn s then s else (if nat_lt (length s.connections) 64 then with_connection conn now s else s)
 
   abbrev pub open_replies : ℕ → State A → List Reply
-  open_replies conn s = if has_link conn s then [] else (if nat_lt (length s.links) 64 then Send conn (Hello 41250) ∷ [] else Close conn 4000 ∷ [])
+  open_replies conn s = if has_connection conn s then [] else (if nat_lt (length s.connections) 64 then Send conn (Hello 41250) ∷ [] else Close conn 4000 ∷ [])
 
-  abbrev pub heard : ℕ → ℕ → State A → State A
-  heard conn now s = record s { links = map (λ (l : Link). if l.number == conn then record l { heard = now } else l) s.links }
+  abbrev pub after_heartbeat : ℕ → ℕ → State A → State A
+  after_heartbeat conn now s = record s { connections = map (λ (l : Connection). if l.number == conn then record l { last_heartbeat_ms = now } else l) s.connections }
 
   abbrev pub begun : ℕ → Bot → Viewer → (ℕ → A) → State A → State A
   begun conn bot viewer sent s = record s {
     made = s.made + 1;
-    sessions = s.sessions ++ record { number = s.made + 1; token = bot.token; name = bot.name; viewer = viewer; place = Attached conn; sent = sent (s.made + 1) } ∷ [];
+    sessions = s.sessions ++ record { number = s.made + 1; token = bot.token; name = bot.name; viewer = viewer; condition = Attached conn; sent = sent (s.made + 1) } ∷ [];
   }
 
 -- before the first connection
 abbrev pub no_sessions : {A : Type 0} → ℕ → List Bot → State A
-no_sessions worker bots = record { worker = worker; bots = bots; made = 0; links = []; sessions = [] }
+no_sessions worker bots = record { worker = worker; bots = bots; made = 0; connections = []; sessions = [] }

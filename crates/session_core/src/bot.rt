@@ -1,3 +1,5 @@
+//! The bots that may identify.
+
 ghost use Rattle.std.specs.Prelude.{◌≡◌, IfOk};
 
 use collections::Text;
@@ -19,6 +21,7 @@ pub struct Bot {
 }
 
 impl Bot {
+    /// A bot equal to this one.
     pub(crate) fn copy(&self, alloc: Global) -> Result<Bot, AllocError>
         ensures { IfOk result (λ copy. copy ≡ self.now) }
     {

@@ -1,3 +1,5 @@
+//! A connection's number, as a key.
+
 use collections::Keyed;
 use std::marker::Model;
 

@@ -4,13 +4,14 @@ ghost use Rattle.std.specs.Prelude.{◌≡◌, [], IfOk, OnOk, OnErr};
 ghost use Rattle.session_core.specs.Ends.{is_final, lost, client_closed, all_gone, ticked, tick_replies, closes};
 
 use crate::Reply;
-use crate::close::UNKNOWN_ERROR;
 use crate::conn::Conn;
 use crate::sessions::Sessions;
 use collections::ById;
+use gateway_frames::close::UNKNOWN_ERROR;
 use std::alloc::{AllocError, Global};
 
-/// The client left for good (Gateway, Disconnecting): it will not resume.
+/// Whether a client that closes its connection with this code will not resume (Gateway,
+/// Disconnecting).
 fn is_final(code: u16) -> bool
     ensures { result ≡ is_final code }
 {
@@ -29,8 +30,7 @@ fn closes(alloc: Global, conns: &[Conn]) -> Result<Vec<Reply>, AllocError>
 }
 
 impl Sessions {
-    /// The link of a connection is lost. Its session stays without one from now on, and may be
-    /// resumed.
+    /// Removes a connection whose link is lost. Its session is detached from now on, and can be resumed.
     pub fn lost(&mut self, conn: u32, now: u64)
         ensures { self.new ≡ lost conn now self.old }
     {
@@ -39,8 +39,8 @@ impl Sessions {
         }
     }
 
-    /// A client has closed its connection with a code. Its session ends where the code is 1000 or
-    /// 1001, and else may be resumed. A session that has ended is forgotten.
+    /// Removes a connection that its client has closed with a code. With 1000 or 1001 its session ends,
+    /// and is deleted; with any other code it can be resumed.
     pub fn closed(&mut self, conn: u32, code: u16, now: u64)
         ensures { self.new ≡ client_closed (λ x. []) conn code now self.old }
     {
@@ -51,7 +51,7 @@ impl Sessions {
         }
     }
 
-    /// Each of these connections is gone.
+    /// Removes each of these connections.
     fn detach_all(&mut self, conns: &[Conn], now: u64)
         ensures { self.new ≡ all_gone conns.now now self.old }
     {
@@ -60,9 +60,8 @@ impl Sessions {
         }
     }
 
-    /// Time has passed. Each connection with no heartbeat for 82,500 ms is closed, ascending by
-    /// number; then each session ends that has had no connection for 180,000 ms. An `Err` changes
-    /// nothing.
+    /// Lets time pass. Closes each connection without a heartbeat for 82,500 ms, ascending by number;
+    /// then ends each session without a connection for 180,000 ms. An `Err` changes nothing.
     pub fn tick(&mut self, now: u64) -> Result<Vec<Reply>, AllocError>
         ensures replies { IfOk result (λ replies. replies.items ≡ tick_replies now self.old) }
         ensures ticked { OnOk result (self.new ≡ ticked (λ x. []) now self.old) }

@@ -1,3 +1,5 @@
+//! Why a frame or a dispatch fails.
+
 use std::alloc::AllocError;
 use thiserror::Error;
 

@@ -33,7 +33,7 @@ fn front(alloc: Global, worker: u8) -> Result<Text, AllocError>
     Ok(Text::from_string(text))
 }
 
-/// The number that follows in a text.
+/// The number that follows this front in a text.
 fn number_after(text: &str, front: &str) -> Option<u32>
     ensures { (n : ℕ) → n < 2 ^ 32 → text.now ≡ front.now ++ decimal n → result ≡ Some n }
 {
@@ -47,7 +47,7 @@ fn number_after(text: &str, front: &str) -> Option<u32>
     Some(number.0 as u32)
 }
 
-/// The number of the session of a worker that has this id, if it is such an id.
+/// The number in the id of a session of this worker. `None` for any other text.
 pub fn number_of(alloc: Global, worker: u8, id: &str) -> Result<Option<u32>, AllocError>
     ensures is { IfOk result (λ number. IfSome number (λ n. session_id worker n ≡ id.now)) }
     ensures all { IfOk result (λ number. (n : ℕ) → n < 2 ^ 32 → session_id worker n ≡ id.now → number ≡ Some n) }

@@ -1,4 +1,4 @@
-//! What is kept of connections and sessions, by their numbers.
+//! What the code keeps of a connection and of a session.
 
 ghost use Rattle.std.specs.Prelude.{◌≡◌, ℕ, IfOk};
 
@@ -9,89 +9,92 @@ use dispatch_types::Viewer;
 use replay_ring::Ring;
 use std::alloc::{AllocError, Global};
 
-/// What is kept of an open connection.
+/// An open connection.
 #[derive(Drop)]
-pub struct Line {
-    /// The moment of its last heartbeat, at first that of its opening.
-    pub heard: u64,
+pub struct Connection {
+    /// The moment of its last heartbeat, at first of its opening, in milliseconds.
+    pub last_heartbeat_ms: u64,
     /// The moments of its latest frames.
     pub times: Window,
     /// The number of its session.
     pub session: Option<u32>,
 }
 
-/// Whether a session has a connection.
+/// Whether a session has a connection, or since when it has none.
 #[derive(Clone, Copy, PartialEq, Eq, Debug)]
-pub enum Hold {
+pub enum Condition {
     /// The session has this connection.
     Attached(u32),
     /// The session has had none since this moment.
     Detached(u64),
 }
 
-/// What is kept of a session that has not ended.
+/// A session that has not ended.
 #[derive(Drop)]
-pub struct Live {
+pub struct Session {
+    /// The token of its bot.
     pub token: Text,
+    /// The name of its bot.
     pub name: Text,
+    /// Whom its dispatches are for.
     pub viewer: Viewer,
-    pub hold: Hold,
-    /// What a resume needs of its dispatches.
+    pub condition: Condition,
+    /// The buffer for Resume.
     pub sent: Ring,
 }
 
-/// The most dispatches that are kept for a resume.
+/// The most dispatches that a session keeps for a resume.
 const HELD_ITEMS: usize = 1_024;
 
 /// The most bytes of their texts.
 const HELD_BYTES: usize = 4_194_304;
 
 /// The milliseconds without a heartbeat after which a connection is closed: two intervals.
-const SILENT_AFTER: u64 = 82_500;
+const SILENT_AFTER_MS: u64 = 82_500;
 
 /// The milliseconds without a connection after which a session ends.
-const OVERDUE_AFTER: u64 = 180_000;
+const OVERDUE_AFTER_MS: u64 = 180_000;
 
-impl Line {
+impl Connection {
     ghost use Rattle.session_core.specs.Ends.{is_silent};
-    ghost use Rattle.session_core.specs.Kept.{link_of};
+    ghost use Rattle.session_core.specs.Kept.{connection_of};
 
-    /// Whether there was no heartbeat for too long.
+    /// Whether the connection has had no heartbeat for two intervals.
     pub fn is_silent(&self, now: u64) -> bool
-        ensures { (n : ℕ) → result ≡ is_silent now (link_of (n, self.now)) }
+        ensures { (n : ℕ) → result ≡ is_silent now (connection_of (n, self.now)) }
     {
-        now.saturating_sub(self.heard) >= SILENT_AFTER
+        now.saturating_sub(self.last_heartbeat_ms) >= SILENT_AFTER_MS
     }
 }
 
-impl Live {
-    ghost use Rattle.session_core.specs.Kept.{new_live};
+impl Session {
+    ghost use Rattle.session_core.specs.Kept.{new_session};
 
-    /// A session on a connection that had no dispatch yet.
-    pub fn new(alloc: Global, bot: Bot, viewer: Viewer, conn: u32) -> Result<Live, AllocError>
-        ensures { IfOk result (λ session. session ≡ new_live bot viewer conn) }
+    /// A session without dispatches, on a connection.
+    pub fn new(alloc: Global, bot: Bot, viewer: Viewer, conn: u32) -> Result<Session, AllocError>
+        ensures { IfOk result (λ session. session ≡ new_session bot viewer conn) }
     {
-        Ok(Live {
+        Ok(Session {
             token: bot.token,
             name: bot.name,
             viewer,
-            hold: Hold::Attached(conn),
+            condition: Condition::Attached(conn),
             sent: Ring::new(alloc, HELD_ITEMS, HELD_BYTES)?,
         })
     }
 }
 
-impl Hold {
-    ghost use Rattle.session_core.specs.Kept.{conn_of, place_of};
+impl Condition {
+    ghost use Rattle.session_core.specs.Kept.{conn_of, condition_of};
     ghost use Rattle.session_core.specs.Ends.{is_overdue};
 
-    /// Whether there was no connection for too long.
+    /// Whether the session has had no connection for three minutes.
     pub fn is_overdue(self, now: u64) -> bool
-        ensures { result ≡ is_overdue now (place_of self) }
+        ensures { result ≡ is_overdue now (condition_of self) }
     {
         match self {
-            Hold::Attached(_) => false,
-            Hold::Detached(since) => now.saturating_sub(since) >= OVERDUE_AFTER,
+            Condition::Attached(_) => false,
+            Condition::Detached(since) => now.saturating_sub(since) >= OVERDUE_AFTER_MS,
         }
     }
 
@@ -100,8 +103,8 @@ impl Hold {
         ensures { result ≡ conn_of self }
     {
         match self {
-            Hold::Attached(conn) => Some(conn),
-            Hold::Detached(_) => None,
+            Condition::Attached(conn) => Some(conn),
+            Condition::Detached(_) => None,
         }
     }
 }

@@ -1,14 +1,13 @@
-//! Connections and sessions of one worker: what each frame is answered.
+//! The connections and sessions of one worker, and the reply to each frame.
 #![tactic(auto)]
 
+mod authorize;
 mod bot;
-mod close;
 mod conn;
 mod ends;
 mod fault;
 mod frames;
 mod ids;
-mod judge;
 mod kept;
 mod reply;
 mod resume;

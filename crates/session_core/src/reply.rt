@@ -1,25 +1,26 @@
+//! What the worker has to do after a call.
+
 use gateway_frames::{Ask, Out, VoiceAsk};
 use guild_model::Status;
 use payload_text::Payload;
 use snowflake_id::Snowflake;
 
-/// What is to be done after a frame, in order.
+/// What the worker has to do after a call, in order.
 #[derive(Drop)]
 pub enum Reply {
-    /// A payload goes to a connection.
+    /// Send a payload to a connection.
     Send(u32, Out),
-    /// The text of a dispatch goes to a connection again.
+    /// Send the text of a dispatch to a connection again, on Resume.
     Text(u32, Payload),
-    /// A connection is closed with a code.
+    /// Close a connection with a code.
     Close(u32, u16),
-    /// A session begins.
+    /// Send READY and the guilds to a session that begins.
     Begin(u32),
-    /// A session's client asks for members of a guild (Gateway Events, Request Guild Members).
+    /// Answer Request Guild Members (op 8) of a session's client.
     Ask(u32, Ask),
-    /// A session's client sets the status of its bot (Gateway Events, Update Presence).
+    /// Handle Update Presence (op 3) of a session's client.
     Presence(u32, Status),
-    /// A session's client puts its bot into a voice channel, or out of it (Gateway Events, Update
-    /// Voice State).
+    /// Handle Update Voice State (op 4) of a session's client.
     Voice(u32, VoiceAsk),
 }
 

@@ -1,48 +1,42 @@
-//! Sessions that go on (Gateway, Resuming).
+//! How sessions resume (Gateway, Resuming).
 
 ghost use Rattle.std.specs.Prelude.{◌≡◌, ◌==◌, ◌-◌, ◌≤◌, ◌++◌, ℕ, true, false, Some, None, map, length, option_map, IfOk, OnOk};
 ghost use Rattle.std.specs.List.{find};
 ghost use Rattle.session_core.specs.declared.reply.Reply.TheVariants.{Text as Texts};
-ghost use Rattle.session_core.specs.State.{has_link, has_session, attached};
+ghost use Rattle.session_core.specs.State.{has_connection, has_session, attached};
 ghost use Rattle.session_core.specs.Frames.{as_kept};
 ghost use Rattle.session_core.specs.Resume.{older_closes, resume_replies, resume_answer, resumed};
-ghost use Rattle.session_core.specs.Resumption.{Matches, IsOwn, IsThere, judged, verdict};
+ghost use Rattle.session_core.specs.Resumption.{Matches, IsOwn, IsThere, answer_of};
 
 use crate::Reply;
-use crate::close::UNKNOWN_ERROR;
-use crate::kept::Live;
+use crate::kept::Session;
 use crate::sessions::Sessions;
+use gateway_frames::close::UNKNOWN_ERROR;
 use gateway_frames::{Out, Resume};
 use replay_ring::{After, Ring};
 use std::alloc::{AllocError, Global};
 
-/// A session that goes on.
+/// A session that resumes.
 #[derive(Drop)]
-pub struct Going {
+pub struct ResumedSession {
     pub number: u32,
     /// The connection that it still has.
     pub older: Option<u32>,
     pub replies: Vec<Reply>,
 }
 
-/// What a resume is answered.
+/// The answer to a resume.
 #[derive(Drop)]
-pub enum Resumption {
-    /// The session may not be resumed.
-    Unknown,
-    /// The number is none that the session had yet.
-    Beyond,
-    Goes(Going),
+pub enum ResumeAnswer {
+    /// The session does not exist, has another token, or no longer holds the number.
+    NotResumable,
+    /// The session has not reached the number.
+    InvalidSeq,
+    /// The session resumes.
+    Resumed(ResumedSession),
 }
 
-/// How a resume fits a session.
-#[derive(Clone, Copy, PartialEq, Eq, Debug)]
-pub enum Fit {
-    Unknown,
-    Beyond,
-    Goes,
-}
-
+/// Close 4000 for the connection that a session still has.
 fn older_closes(alloc: Global, older: Option<u32>) -> Result<Vec<Reply>, AllocError>
     ensures { IfOk result (λ replies. replies.items ≡ older_closes older) }
 {
@@ -54,6 +48,7 @@ fn older_closes(alloc: Global, older: Option<u32>) -> Result<Vec<Reply>, AllocEr
     Ok(replies)
 }
 
+/// Adds texts, each as a reply.
 fn add_texts(conn: u32, texts: After<'_>, replies: &mut Vec<Reply>) -> Result<(), AllocError>
     ensures { OnOk result (replies.new.items ≡ replies.old.items ++ map (λ text. Texts conn text) texts.entry) }
 {
@@ -63,7 +58,7 @@ fn add_texts(conn: u32, texts: After<'_>, replies: &mut Vec<Reply>) -> Result<()
     Ok(())
 }
 
-/// What goes out to a connection on which a session goes on.
+/// The replies to a resume: the texts with numbers above `seq`, and then RESUMED.
 fn replies_of(
     alloc: Global,
     conn: u32,
@@ -81,67 +76,59 @@ fn replies_of(
     Ok(replies)
 }
 
-/// How a resume fits the session of its id.
-fn fit_of(session: &Live, resume: &Resume) -> Fit
-    ensures { result ≡ judged session.now.token session.now.sent resume.now }
-{
-    if !session.token.is(resume.token.as_str()) {
-        return Fit::Unknown;
-    }
-    if resume.seq > session.sent.last() {
-        return Fit::Beyond;
-    }
-    if !session.sent.covers(resume.seq) {
-        return Fit::Unknown;
-    }
-    Fit::Goes
-}
-
-fn resumption_of(
+/// The answer to a resume of this session.
+fn answer_of(
     alloc: Global,
     conn: u32,
     number: u32,
-    session: &Live,
+    session: &Session,
     resume: &Resume,
-) -> Result<Resumption, AllocError>
-    ensures answer { IfOk result (λ resumption. Matches conn resumption (verdict number session.now resume.now)) }
-    ensures own { IfOk result (λ resumption. IsOwn number session.now resumption) }
+) -> Result<ResumeAnswer, AllocError>
+    ensures answer { IfOk result (λ answer. Matches conn answer (answer_of number session.now resume.now)) }
+    ensures own { IfOk result (λ answer. IsOwn number session.now answer) }
 {
-    match fit_of(session, resume) {
-        Fit::Unknown => Ok(Resumption::Unknown),
-        Fit::Beyond => Ok(Resumption::Beyond),
-        Fit::Goes => {
-            let older = session.hold.conn();
-            let replies = replies_of(alloc, conn, older, resume.seq, &session.sent)?;
-            Ok(Resumption::Goes(Going {
-                number,
-                older,
-                replies,
-            }))
-        }
+    if !session.token.is(resume.token.as_str()) {
+        return Ok(ResumeAnswer::NotResumable);
     }
+    if resume.seq > session.sent.last() {
+        return Ok(ResumeAnswer::InvalidSeq);
+    }
+    if !session.sent.covers(resume.seq) {
+        return Ok(ResumeAnswer::NotResumable);
+    }
+    let older = session.condition.conn();
+    let replies = replies_of(alloc, conn, older, resume.seq, &session.sent)?;
+    Ok(ResumeAnswer::Resumed(ResumedSession {
+        number,
+        older,
+        replies,
+    }))
 }
 
 impl Sessions {
-    /// What a resume is answered on a connection.
-    pub(crate) fn resumption(&self, conn: u32, resume: &Resume) -> Result<Resumption, AllocError>
-        ensures answer { IfOk result (λ resumption. Matches conn resumption (resume_answer as_kept self.now resume.now)) }
-        ensures there { IfOk result (λ resumption. IsThere self.now resumption) }
+    /// The answer to a resume on a connection.
+    pub(crate) fn resume_answer(
+        &self,
+        conn: u32,
+        resume: &Resume,
+    ) -> Result<ResumeAnswer, AllocError>
+        ensures answer { IfOk result (λ answer. Matches conn answer (resume_answer as_kept self.now resume.now)) }
+        ensures there { IfOk result (λ answer. IsThere self.now answer) }
     {
         let Some(number) = self.number_named(resume.session.as_str())? else {
-            return Ok(Resumption::Unknown);
+            return Ok(ResumeAnswer::NotResumable);
         };
         let Some(session) = self.session(number) else {
-            return Ok(Resumption::Unknown);
+            return Ok(ResumeAnswer::NotResumable);
         };
-        resumption_of(self.alloc(), conn, number, session, resume)
+        answer_of(self.alloc(), conn, number, session, resume)
     }
 
-    /// A session goes on, on a connection that has none. The connection that it had is gone.
+    /// Resumes a session on a connection that has none. The connection that it had is removed.
     pub(crate) fn resume(&mut self, conn: u32, number: u32, older: Option<u32>, now: u64)
-        requires linked { has_link conn self.old ≡ true }
+        requires connected { has_connection conn self.old ≡ true }
         requires free { has_session conn self.old ≡ false }
-        requires there { option_map (λ x. attached x.place) (find (λ x. x.number == number) self.old.sessions) ≡ Some older }
+        requires there { option_map (λ x. attached x.condition) (find (λ x. x.number == number) self.old.sessions) ≡ Some older }
         ensures { self.new ≡ resumed conn now number older self.old }
     {
         match older {

@@ -1,3 +1,5 @@
+//! The rate limit of a connection (Gateway, Rate Limiting).
+
 ghost use Rattle.std.specs.Prelude.{◌≡◌, [], IfOk};
 ghost use Rattle.session_core.specs.Rate.{with_time, is_crowded};
 
@@ -9,7 +11,7 @@ use std::marker::Model;
 const MAX_FRAMES: usize = 120;
 
 /// The milliseconds in which they count.
-const MINUTE: u64 = 60_000;
+const MINUTE_MS: u64 = 60_000;
 
 /// The moments of the latest frames of a connection, seen as their list.
 #[derive(Drop)]
@@ -28,6 +30,7 @@ impl Model for Window {
 }
 
 impl Window {
+    /// No frame.
     pub fn new(alloc: Global) -> Result<Window, AllocError>
         ensures { IfOk result (λ window. window ≡ []) }
     {
@@ -36,14 +39,14 @@ impl Window {
         })
     }
 
-    /// A frame has come.
-    pub fn note(&mut self, now: u64)
+    /// Counts a frame.
+    pub fn count_frame(&mut self, now: u64)
         ensures { self.new ≡ with_time now self.old }
     {
         self.times.push_back(now);
     }
 
-    /// Whether a further frame is one too many.
+    /// Whether another frame is one too many.
     #[tactic(auto, using(crate::proofs::Rates::crowded_is))]
     pub fn is_crowded(&self, now: u64) -> bool
         ensures { result ≡ is_crowded now self.now }
@@ -51,6 +54,6 @@ impl Window {
         let Some(first) = self.times.front() else {
             return false;
         };
-        self.times.len() == MAX_FRAMES && now.saturating_sub(*first) < MINUTE
+        self.times.len() == MAX_FRAMES && now.saturating_sub(*first) < MINUTE_MS
     }
 }

@@ -19,8 +19,8 @@ use Rattle.member_chunks.specs.Answered.{answered}
 use Rattle.member_chunks.specs.Law.{chunk_told}
 use Rattle.member_chunks.proofs.Keeps.{each_chunk_keeps, each_chunk_stays}
 use Rattle.session_core.specs.declared.reply.Mark.TheVariants.{Chunk}
-use Rattle.session_core.specs.State.{Session, Place, Attached, Detached, Ended}
-use Rattle.worker_core.specs.World.{Seen, Cursors, cursors, Told, told, Sent, Worker, chunks_told, is_numbered, change_first, answer_to, after_answer, asked}
+use Rattle.session_core.specs.State.{Session, Condition, Attached, Detached, Ended}
+use Rattle.worker_core.specs.World.{Seen, Cursors, cursors, SentDispatch, told, Sent, Worker, chunks_told, is_numbered, change_first, answer_to, after_answer, asked}
 use Rattle.worker_core.specs.Law.{held}
 use Rattle.worker_core.specs.Entries.{made_for}
 use Rattle.worker_core.proofs.Lists.{append_none}
@@ -66,14 +66,14 @@ module _ (seen : Seen) (v : Viewer) (g : ℕ) (ask : Ask) where
           other h (slice_index_or (answered here v ask) k d) (each_chunk_stays here v ask h apart k d lt) hd old
 
 -- each chunk under its own mark
-chunks_meet : (seen : Seen) (v : Viewer) (ds : List Dispatch) (made : ℕ) (sent : List Told) → All (Keeps seen v) ds → Meets seen (cursors seen) v sent
+chunks_meet : (seen : Seen) (v : Viewer) (ds : List Dispatch) (made : ℕ) (sent : List SentDispatch) → All (Keeps seen v) ds → Meets seen (cursors seen) v sent
     → Meets seen (cursors seen) v (sent ++ chunks_told made (cursors seen) ds)
-chunks_meet seen v [] made sent keeps old = subst (λ (ts : List Told). Meets seen (cursors seen) v ts) (sym (append_none sent)) old
+chunks_meet seen v [] made sent keeps old = subst (λ (ts : List SentDispatch). Meets seen (cursors seen) v ts) (sym (append_none sent)) old
 chunks_meet seen v (d ∷ ds) made sent keeps old =
-    subst (λ (ts : List Told). Meets seen (cursors seen) v ts) (append_assoc sent one (chunks_told (made + 1) (cursors seen) ds))
+    subst (λ (ts : List SentDispatch). Meets seen (cursors seen) v ts) (append_assoc sent one (chunks_told (made + 1) (cursors seen) ds))
     (chunks_meet seen v ds (made + 1) (sent ++ one) (All-tail (Keeps seen v) d ds keeps) after_one)
   where
-    one : List Told
+    one : List SentDispatch
     one = told (Chunk (made + 1)) (cursors seen) (cursors seen) (d ∷ [])
 
     held_now : (h : ℕ) → Agrees (state h (seen h)) v (held v h sent)
@@ -92,7 +92,7 @@ no_entry : (g p made : ℕ) (now : Cursors) (ds : List Dispatch) → made_for g 
 no_entry g p made now [] = refl
 no_entry g p made now (d ∷ ds) = no_entry g p (made + 1) now ds
 
-chunks_entries : (seen : Seen) (v : Viewer) (made : ℕ) (ds : List Dispatch) (sent : List Told) → Entries seen (cursors seen) v sent
+chunks_entries : (seen : Seen) (v : Viewer) (made : ℕ) (ds : List Dispatch) (sent : List SentDispatch) → Entries seen (cursors seen) v sent
     → Entries seen (cursors seen) v (sent ++ chunks_told made (cursors seen) ds)
 chunks_entries seen v made ds [] old = absurd (old.starts)
 chunks_entries seen v made ds (t ∷ ts) old = record {
@@ -127,9 +127,9 @@ answer_keeps w ask x = by_there (contains ask.guild w.guilds)
     by_there false = All-nil (Keeps w.seen x.viewer)
 
 answered_meets : (w : Worker) (ask : Ask) (number : ℕ) (x : Session Sent) → is_numbered number x ≡ true → SessionMeets w.seen x → SessionMeets w.seen (after_answer w ask x)
-answered_meets w ask number x = by_place x.place x.sent.end
+answered_meets w ask number x = by_condition x.condition x.sent.end
   where
-    more : List Told
+    more : List SentDispatch
     more = chunks_told w.chunks (cursors w.seen) (answer_to w ask x)
 
     meets : Meets w.seen (cursors w.seen) x.viewer x.sent.told → Meets w.seen (cursors w.seen) x.viewer (x.sent.told ++ more)
@@ -138,12 +138,12 @@ answered_meets w ask number x = by_place x.place x.sent.end
     entries : Entries w.seen (cursors w.seen) x.viewer x.sent.told → Entries w.seen (cursors w.seen) x.viewer (x.sent.told ++ more)
     entries old = chunks_entries w.seen x.viewer w.chunks (answer_to w ask x) x.sent.told old
 
-    by_place : (place : Place) (end : Option Cursors) → is_numbered number (at x place end) ≡ true → SessionMeets w.seen (at x place end) → SessionMeets w.seen (after_answer w ask (at x place end))
-    by_place (Attached conn) None here old = record { meets = meets old.meets; marked = refl; entries = entries old.entries }
-    by_place (Attached conn) (Some last) here old = absurd (cc (old.marked))
-    by_place (Detached since) None here old = record { meets = meets old.meets; marked = refl; entries = entries old.entries }
-    by_place (Detached since) (Some last) here old = absurd (cc (old.marked))
-    by_place Ended end here old = absurd (cc here)
+    by_condition : (condition : Condition) (end : Option Cursors) → is_numbered number (at x condition end) ≡ true → SessionMeets w.seen (at x condition end) → SessionMeets w.seen (after_answer w ask (at x condition end))
+    by_condition (Attached conn) None here old = record { meets = meets old.meets; marked = refl; entries = entries old.entries }
+    by_condition (Attached conn) (Some last) here old = absurd (cc (old.marked))
+    by_condition (Detached since) None here old = record { meets = meets old.meets; marked = refl; entries = entries old.entries }
+    by_condition (Detached since) (Some last) here old = absurd (cc (old.marked))
+    by_condition Ended end here old = absurd (cc here)
 
 -- a session that is told an answer
 pub asked_follows : (w : Worker) (ask : Ask) (number : ℕ) → Follows w → Follows (asked w ask number)

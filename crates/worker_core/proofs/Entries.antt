@@ -12,27 +12,27 @@ use Rattle.edit_apply.specs.declared.Edit.{Edit}
 use Rattle.edit_events.specs.Due.{owed}
 use Rattle.session_core.specs.declared.reply.Mark.{Mark}
 use Rattle.session_core.specs.declared.reply.Mark.TheVariants.{Start, Entry}
-use Rattle.worker_core.specs.World.{Seen, Cursors, cursors, seen_with, Told, dispatch_of, told}
+use Rattle.worker_core.specs.World.{Seen, Cursors, cursors, seen_with, SentDispatch, dispatch_of, told}
 use Rattle.worker_core.specs.Entries.{is_for, made_for, first_cursors, EntriesHold}
 use Rattle.worker_core.proofs.Lists.{append_none, by_split}
 use Rattle.worker_core.proofs.Folds.{same_id}
 
 -- a session has been sent READY
-abbrev pub IsBegun : List Told → Type 0
+abbrev pub IsBegun : List SentDispatch → Type 0
 IsBegun [] = ⊥
 IsBegun (t ∷ ts) = Unit {0}
 
-pub record Entries (seen : Seen) (last : Cursors) (v : Viewer) (sent : List Told) : Type 0 where
+pub record Entries (seen : Seen) (last : Cursors) (v : Viewer) (sent : List SentDispatch) : Type 0 where
   pub starts : IsBegun sent
   pub holds : EntriesHold seen (first_cursors sent) last v sent
 
-pub made-append : (g p : ℕ) (xs ys : List Told) → made_for g p (xs ++ ys) ≡ made_for g p xs ++ made_for g p ys
+pub made-append : (g p : ℕ) (xs ys : List SentDispatch) → made_for g p (xs ++ ys) ≡ made_for g p xs ++ made_for g p ys
 made-append g p [] ys = refl
 made-append g p (x ∷ xs) ys = by_test (is_for g p x.mark) (made-append g p xs ys)
   where
     by_test : (b : Bool) → made_for g p (xs ++ ys) ≡ made_for g p xs ++ made_for g p ys
-        → map dispatch_of (if b then x ∷ filter (λ (t : Told). is_for g p t.mark) (xs ++ ys) else filter (λ (t : Told). is_for g p t.mark) (xs ++ ys))
-        ≡ map dispatch_of (if b then x ∷ filter (λ (t : Told). is_for g p t.mark) xs else filter (λ (t : Told). is_for g p t.mark) xs) ++ made_for g p ys
+        → map dispatch_of (if b then x ∷ filter (λ (t : SentDispatch). is_for g p t.mark) (xs ++ ys) else filter (λ (t : SentDispatch). is_for g p t.mark) (xs ++ ys))
+        ≡ map dispatch_of (if b then x ∷ filter (λ (t : SentDispatch). is_for g p t.mark) xs else filter (λ (t : SentDispatch). is_for g p t.mark) xs) ++ made_for g p ys
     by_test true rest = ap (λ ds. x.dispatch ∷ ds) rest
     by_test false rest = rest
 
@@ -48,7 +48,7 @@ made-told g p mark b a [] = by_test (is_for g p mark)
 made-told g p mark b a (d ∷ ds) = by_test (is_for g p mark) (made-told g p mark b a ds)
   where
     by_test : (t : Bool) → made_for g p (told mark b a ds) ≡ (if t then ds else [])
-        → map dispatch_of (if t then record { mark = mark; dispatch = d; before = b; after = a } ∷ filter (λ (u : Told). is_for g p u.mark) (told mark b a ds) else filter (λ (u : Told). is_for g p u.mark) (told mark b a ds)) ≡ (if t then d ∷ ds else [])
+        → map dispatch_of (if t then record { mark = mark; dispatch = d; before = b; after = a } ∷ filter (λ (u : SentDispatch). is_for g p u.mark) (told mark b a ds) else filter (λ (u : SentDispatch). is_for g p u.mark) (told mark b a ds)) ≡ (if t then d ∷ ds else [])
     by_test true rest = ap (λ xs. d ∷ xs) rest
     by_test false rest = rest
 
@@ -59,7 +59,7 @@ above : (a b : ℕ) → b < a → (a == b) ≡ false
 above a b lt = grind (arith, nat_tests)
 
 -- of logs that have grown
-pub entries_grown : (was is : Seen) (start last : Cursors) (v : Viewer) (sent : List Told) → ((g p : ℕ) → p ≤ last g → take p (is g) ≡ take p (was g))
+pub entries_grown : (was is : Seen) (start last : Cursors) (v : Viewer) (sent : List SentDispatch) → ((g p : ℕ) → p ≤ last g → take p (is g) ≡ take p (was g))
     → EntriesHold was start last v sent → EntriesHold is start last v sent
 entries_grown was is start last v sent same old = record {
   handled = λ g front e h from upto. old.handled g front e (sym (same g (length front + 1) upto) ∙ h) from upto;
@@ -80,14 +80,14 @@ entries_first seen v d ds = record {
   };
 }
 
-module _ (seen : Seen) (at : ℕ) (e : Edit) (start : Cursors) (v : Viewer) (sent : List Told) (old : EntriesHold seen start (cursors seen) v sent) where
+module _ (seen : Seen) (at : ℕ) (e : Edit) (start : Cursors) (v : Viewer) (sent : List SentDispatch) (old : EntriesHold seen start (cursors seen) v sent) where
   abbrev now : Seen
   now = seen_with seen at e
 
   abbrev ds : List Dispatch
   ds = owed (state at (seen at)) e v
 
-  abbrev batch : List Told
+  abbrev batch : List SentDispatch
   batch = told (Entry at (length (seen at) + 1)) (cursors seen) (cursors now) ds
 
   made : (g p : ℕ) → made_for g p (sent ++ batch) ≡ made_for g p sent ++ (if (at == g) && (length (seen at) + 1 == p) then ds else [])
@@ -163,8 +163,8 @@ module _ (seen : Seen) (at : ℕ) (e : Edit) (start : Cursors) (v : Viewer) (sen
     begun = λ g. omega (arith, old.begun g, no_less g);
   }
 
--- one more entry of a session that goes on
-pub entries_after : (seen : Seen) (at : ℕ) (e : Edit) (v : Viewer) (sent : List Told) → Entries seen (cursors seen) v sent
+-- one more entry of a session that resumes
+pub entries_after : (seen : Seen) (at : ℕ) (e : Edit) (v : Viewer) (sent : List SentDispatch) → Entries seen (cursors seen) v sent
     → Entries (seen_with seen at e) (cursors (seen_with seen at e)) v (sent ++ told (Entry at (length (seen at) + 1)) (cursors seen) (cursors (seen_with seen at e)) (owed (state at (seen at)) e v))
 entries_after seen at e v [] old = absurd (old.starts)
 entries_after seen at e v (t ∷ ts) old = record { starts = tt; holds = entries_more seen at e t.before v (t ∷ ts) old.holds }

@@ -9,7 +9,7 @@ use Rattle.dispatch_types.specs.Fold.{Held, nothing, folded, fold_from}
 use Rattle.edit_apply.specs.Edits.{after, state_from}
 use Rattle.edit_apply.specs.declared.Edit.{Edit}
 use Rattle.session_core.specs.declared.reply.Mark.{Mark}
-use Rattle.worker_core.specs.World.{Cursors, Told, told, dispatch_of}
+use Rattle.worker_core.specs.World.{Cursors, SentDispatch, told, dispatch_of}
 use Rattle.worker_core.specs.Law.{held}
 use Rattle.worker_core.proofs.Lists.{map_join}
 
@@ -26,7 +26,7 @@ dispatches_told mark b a [] = refl
 dispatches_told mark b a (d ∷ ds) = ap (λ xs. d ∷ xs) (dispatches_told mark b a ds)
 
 -- what is held after a batch
-pub held_join : (v : Viewer) (h : ℕ) (sent : List Told) (mark : Mark) (b a : Cursors) (ds : List Dispatch)
+pub held_join : (v : Viewer) (h : ℕ) (sent : List SentDispatch) (mark : Mark) (b a : Cursors) (ds : List Dispatch)
     → held v h (sent ++ told mark b a ds) ≡ fold_from v.intents h (held v h sent) ds
 held_join v h sent mark b a ds =
     ap (λ xs. fold_from v.intents h nothing xs) (map_join dispatch_of sent (told mark b a ds))

@@ -15,13 +15,13 @@ use Rattle.gateway_frames.specs.declared.frame.Identify.{Identify}
 use Rattle.gateway_frames.specs.Read.{frame_of}
 use Rattle.session_core.specs.declared.bot.Bot.{Bot}
 use Rattle.session_core.specs.declared.reply.Mark.TheVariants.{Entry}
-use Rattle.session_core.specs.State.{State, Session, Place, Attached, Detached, Ended, is_on, is_live, has_link, number_on, released, opened, gone, begun}
-use Rattle.session_core.specs.Identify.{judged_of, identified, bot_of}
+use Rattle.session_core.specs.State.{State, Session, Condition, Attached, Detached, Ended, is_on, is_live, has_connection, number_on, released, opened, gone, begun}
+use Rattle.session_core.specs.Identify.{authorized_of, identified, bot_of}
 use Rattle.replay_ring.specs.Replay.{Replay, pushed_all}
-use Rattle.session_core.specs.Frames.{Move, Nothing, Answers, Shuts, Begins, Denies, Resumes, Wants, identify_move, resume_move, first_move, read_move, move_of, moved, framed, as_kept}
+use Rattle.session_core.specs.Frames.{Move, Nothing, Answers, ClosesWith, Begins, Denies, Resumes, Wants, identify_move, resume_move, move_before_session, read_move, move_of, moved, framed, as_kept}
 use Rattle.session_core.specs.Resume.{session_id, session_named, joined, resumed, resume_by, resume_answer}
 use Rattle.gateway_frames.specs.declared.frame.Resume.{Resume}
-use Rattle.session_core.specs.Rate.{is_rated, noted}
+use Rattle.session_core.specs.Rate.{is_rated, frame_counted}
 use Rattle.session_core.specs.Ends.{is_final, lost, all_gone, left_of, left, client_closed, kept_for, expired, ticked, silent_of}
 use Rattle.worker_core.specs.World.{ended_at, Seen, Cursors, cursors, seen_with, told, Sent, texts_from, replay, Worker, sends, after_entry, entry_sends, entered, looked, look_sends, begins_with}
 use Rattle.worker_core.specs.Spent.{is_past, entry_spends, look_spends, told_spends, kept_spends}
@@ -52,25 +52,25 @@ module _ (seen : Seen) (g : ℕ) (e : Edit) where
   here = state g (seen g)
 
   one_told : (x : Session Sent) → kept_session (after_entry seen g e x) ≡ map (told_more here e) (kept_session x)
-  one_told x = by_place x.place
+  one_told x = by_condition x.condition
     where
       more : replay (record x.sent { told = x.sent.told ++ told (Entry g (length (seen g) + 1)) (cursors seen) (cursors (seen_with seen g e)) (owed here e x.viewer) })
           ≡ pushed_all (replay x.sent) (texts_from (replay x.sent).last (owed here e x.viewer))
       more = replay_told x.sent.told x.sent.end (Entry g (length (seen g) + 1)) (cursors seen) (cursors (seen_with seen g e)) (owed here e x.viewer)
 
-      by_place : (place : Place) → kept_session (after_entry seen g e (record x { place = place })) ≡ map (told_more here e) (kept_session (record x { place = place }))
-      by_place (Attached conn) = ap (λ r. record { number = x.number; token = x.token; name = x.name; viewer = x.viewer; place = Attached conn; sent = r } ∷ []) more
-      by_place (Detached since) = ap (λ r. record { number = x.number; token = x.token; name = x.name; viewer = x.viewer; place = Detached since; sent = r } ∷ []) more
-      by_place Ended = refl
+      by_condition : (condition : Condition) → kept_session (after_entry seen g e (record x { condition = condition })) ≡ map (told_more here e) (kept_session (record x { condition = condition }))
+      by_condition (Attached conn) = ap (λ r. record { number = x.number; token = x.token; name = x.name; viewer = x.viewer; condition = Attached conn; sent = r } ∷ []) more
+      by_condition (Detached since) = ap (λ r. record { number = x.number; token = x.token; name = x.name; viewer = x.viewer; condition = Detached since; sent = r } ∷ []) more
+      by_condition Ended = refl
 
   one_sends : (x : Session Sent) → entry_sends seen g e x ≡ flat_map (told_sends here e) (kept_session x)
-  one_sends x = by_place x.place
+  one_sends x = by_condition x.condition
     where
-      by_place : (place : Place) → entry_sends seen g e (record x { place = place }) ≡ flat_map (told_sends here e) (kept_session (record x { place = place }))
-      by_place (Attached conn) =
+      by_condition : (condition : Condition) → entry_sends seen g e (record x { condition = condition }) ≡ flat_map (told_sends here e) (kept_session (record x { condition = condition }))
+      by_condition (Attached conn) =
           ap (λ n. sends (Attached conn) n (owed here e x.viewer)) (sym (last_is x.sent)) ∙ sym (append_none (sends (Attached conn) (replay x.sent).last (owed here e x.viewer)))
-      by_place (Detached since) = refl
-      by_place Ended = refl
+      by_condition (Detached since) = refl
+      by_condition Ended = refl
 
   each_told : (xs : List (Session Sent)) → flat_map kept_session (map (after_entry seen g e) xs) ≡ map (told_more here e) (flat_map kept_session xs)
   each_told [] = refl
@@ -85,15 +85,15 @@ module _ (seen : Seen) (g : ℕ) (e : Edit) where
       ∙ (ap (λ ys. flat_map (told_sends here e) (kept_session x) ++ ys) (each_sends xs) ∙ sym (flat_map_join (told_sends here e) (kept_session x) (flat_map kept_session xs)))
 
   one_spends : (x : Session Sent) → entry_spends seen g e x ≡ list_any (told_spends here e) (kept_session x)
-  one_spends x = by_place x.place
+  one_spends x = by_condition x.condition
     where
       past : is_past (length x.sent.told) (length (owed here e x.viewer)) ≡ (is_past (replay x.sent).last (length (owed here e x.viewer)) || false)
       past = ap (λ n. is_past n (length (owed here e x.viewer))) (sym (last_is x.sent)) ∙ sym (or_false (is_past (replay x.sent).last (length (owed here e x.viewer))))
 
-      by_place : (place : Place) → entry_spends seen g e (record x { place = place }) ≡ list_any (told_spends here e) (kept_session (record x { place = place }))
-      by_place (Attached conn) = past
-      by_place (Detached since) = past
-      by_place Ended = refl
+      by_condition : (condition : Condition) → entry_spends seen g e (record x { condition = condition }) ≡ list_any (told_spends here e) (kept_session (record x { condition = condition }))
+      by_condition (Attached conn) = past
+      by_condition (Detached since) = past
+      by_condition Ended = refl
 
   each_spends : (xs : List (Session Sent)) → list_any (entry_spends seen g e) xs ≡ list_any (told_spends here e) (flat_map kept_session xs)
   each_spends [] = refl
@@ -137,58 +137,58 @@ number_of x = x.number
 abbrev kept_number_of : Session Replay → ℕ
 kept_number_of x = x.number
 
-number_kept : (conn : ℕ) (xs : List (Session Sent)) → option_map number_of (find (λ (x : Session Sent). is_on conn x.place) xs) ≡ option_map kept_number_of (find (λ (x : Session Replay). is_on conn x.place) (flat_map kept_session xs))
+number_kept : (conn : ℕ) (xs : List (Session Sent)) → option_map number_of (find (λ (x : Session Sent). is_on conn x.condition) xs) ≡ option_map kept_number_of (find (λ (x : Session Replay). is_on conn x.condition) (flat_map kept_session xs))
 number_kept conn [] = refl
-number_kept conn (x ∷ xs) = by_place x.place (number_kept conn xs)
+number_kept conn (x ∷ xs) = by_condition x.condition (number_kept conn xs)
   where
-    by_place : (place : Place) → option_map number_of (find (λ (x : Session Sent). is_on conn x.place) xs) ≡ option_map kept_number_of (find (λ (x : Session Replay). is_on conn x.place) (flat_map kept_session xs))
-        → option_map number_of (find (λ (y : Session Sent). is_on conn y.place) (record x { place = place } ∷ xs))
-        ≡ option_map kept_number_of (find (λ (y : Session Replay). is_on conn y.place) (kept_session (record x { place = place }) ++ flat_map kept_session xs))
-    by_place (Attached c) rest = by_test (c == conn)
+    by_condition : (condition : Condition) → option_map number_of (find (λ (x : Session Sent). is_on conn x.condition) xs) ≡ option_map kept_number_of (find (λ (x : Session Replay). is_on conn x.condition) (flat_map kept_session xs))
+        → option_map number_of (find (λ (y : Session Sent). is_on conn y.condition) (record x { condition = condition } ∷ xs))
+        ≡ option_map kept_number_of (find (λ (y : Session Replay). is_on conn y.condition) (kept_session (record x { condition = condition }) ++ flat_map kept_session xs))
+    by_condition (Attached c) rest = by_test (c == conn)
       where
-        by_test : (b : Bool) → option_map number_of (if b then Some (record x { place = Attached c }) else find (λ (y : Session Sent). is_on conn y.place) xs)
-            ≡ option_map kept_number_of (if b then Some (counted (record x { place = Attached c })) else find (λ (y : Session Replay). is_on conn y.place) (flat_map kept_session xs))
+        by_test : (b : Bool) → option_map number_of (if b then Some (record x { condition = Attached c }) else find (λ (y : Session Sent). is_on conn y.condition) xs)
+            ≡ option_map kept_number_of (if b then Some (counted (record x { condition = Attached c })) else find (λ (y : Session Replay). is_on conn y.condition) (flat_map kept_session xs))
         by_test true = refl
         by_test false = rest
-    by_place (Detached since) rest = rest
-    by_place Ended rest = rest
+    by_condition (Detached since) rest = rest
+    by_condition Ended rest = rest
 
 -- and so is how many there are
-live_kept : (xs : List (Session Sent)) → length (filter (λ (x : Session Sent). is_live x.place) xs) ≡ length (filter (λ (x : Session Replay). is_live x.place) (flat_map kept_session xs))
+live_kept : (xs : List (Session Sent)) → length (filter (λ (x : Session Sent). is_live x.condition) xs) ≡ length (filter (λ (x : Session Replay). is_live x.condition) (flat_map kept_session xs))
 live_kept [] = refl
-live_kept (x ∷ xs) = by_place x.place (live_kept xs)
+live_kept (x ∷ xs) = by_condition x.condition (live_kept xs)
   where
-    by_place : (place : Place) → length (filter (λ (x : Session Sent). is_live x.place) xs) ≡ length (filter (λ (x : Session Replay). is_live x.place) (flat_map kept_session xs))
-        → length (filter (λ (y : Session Sent). is_live y.place) (record x { place = place } ∷ xs))
-        ≡ length (filter (λ (y : Session Replay). is_live y.place) (kept_session (record x { place = place }) ++ flat_map kept_session xs))
-    by_place (Attached c) rest = ap suc rest
-    by_place (Detached since) rest = ap suc rest
-    by_place Ended rest = rest
+    by_condition : (condition : Condition) → length (filter (λ (x : Session Sent). is_live x.condition) xs) ≡ length (filter (λ (x : Session Replay). is_live x.condition) (flat_map kept_session xs))
+        → length (filter (λ (y : Session Sent). is_live y.condition) (record x { condition = condition } ∷ xs))
+        ≡ length (filter (λ (y : Session Replay). is_live y.condition) (kept_session (record x { condition = condition }) ++ flat_map kept_session xs))
+    by_condition (Attached c) rest = ap suc rest
+    by_condition (Detached since) rest = ap suc rest
+    by_condition Ended rest = rest
 
 -- so a frame moves both alike
 identified_kept : (s : State Sent) (i : Identify) → identified s i ≡ identified (kept s) i
 unfolding identified
-identified_kept s i = ap (λ n. judged_of n i (bot_of i.token s.bots)) (live_kept s.sessions)
+identified_kept s i = ap (λ n. authorized_of n i (bot_of i.token s.bots)) (live_kept s.sessions)
 
 -- the session of an id is kept
-named_kept : (worker : ℕ) (id : List ℕ) (xs : List (Session Sent)) → option_map counted (find (λ (x : Session Sent). is_live x.place && bytes_eq (session_id worker x.number) id) xs)
-    ≡ find (λ (x : Session Replay). is_live x.place && bytes_eq (session_id worker x.number) id) (flat_map kept_session xs)
+named_kept : (worker : ℕ) (id : List ℕ) (xs : List (Session Sent)) → option_map counted (find (λ (x : Session Sent). is_live x.condition && bytes_eq (session_id worker x.number) id) xs)
+    ≡ find (λ (x : Session Replay). is_live x.condition && bytes_eq (session_id worker x.number) id) (flat_map kept_session xs)
 named_kept worker id [] = refl
-named_kept worker id (x ∷ xs) = by_place x.place (named_kept worker id xs)
+named_kept worker id (x ∷ xs) = by_condition x.condition (named_kept worker id xs)
   where
     by_test : (y : Session Sent) (b : Bool) (rest : Option (Session Sent)) (kept_rest : Option (Session Replay)) → option_map counted rest ≡ kept_rest
         → option_map counted (if b then Some y else rest) ≡ (if b then Some (counted y) else kept_rest)
     by_test y true rest kept_rest same = refl
     by_test y false rest kept_rest same = same
 
-    by_place : (place : Place)
-        → option_map counted (find (λ (x : Session Sent). is_live x.place && bytes_eq (session_id worker x.number) id) xs)
-        ≡ find (λ (x : Session Replay). is_live x.place && bytes_eq (session_id worker x.number) id) (flat_map kept_session xs)
-        → option_map counted (find (λ (x : Session Sent). is_live x.place && bytes_eq (session_id worker x.number) id) (record x { place = place } ∷ xs))
-        ≡ find (λ (x : Session Replay). is_live x.place && bytes_eq (session_id worker x.number) id) (kept_session (record x { place = place }) ++ flat_map kept_session xs)
-    by_place (Attached c) same = by_test (record x { place = Attached c }) (bytes_eq (session_id worker x.number) id) _ _ same
-    by_place (Detached since) same = by_test (record x { place = Detached since }) (bytes_eq (session_id worker x.number) id) _ _ same
-    by_place Ended same = same
+    by_condition : (condition : Condition)
+        → option_map counted (find (λ (x : Session Sent). is_live x.condition && bytes_eq (session_id worker x.number) id) xs)
+        ≡ find (λ (x : Session Replay). is_live x.condition && bytes_eq (session_id worker x.number) id) (flat_map kept_session xs)
+        → option_map counted (find (λ (x : Session Sent). is_live x.condition && bytes_eq (session_id worker x.number) id) (record x { condition = condition } ∷ xs))
+        ≡ find (λ (x : Session Replay). is_live x.condition && bytes_eq (session_id worker x.number) id) (kept_session (record x { condition = condition }) ++ flat_map kept_session xs)
+    by_condition (Attached c) same = by_test (record x { condition = Attached c }) (bytes_eq (session_id worker x.number) id) _ _ same
+    by_condition (Detached since) same = by_test (record x { condition = Detached since }) (bytes_eq (session_id worker x.number) id) _ _ same
+    by_condition Ended same = same
 
 resume_by_kept : (r : Resume) (o : Option (Session Sent)) → resume_by replay r o ≡ resume_by as_kept r (option_map counted o)
 resume_by_kept r None = refl
@@ -198,9 +198,9 @@ resume_kept : (s : State Sent) (r : Resume) → resume_answer replay s r ≡ res
 resume_kept s r = resume_by_kept r (session_named r.session s) ∙ ap (λ o. resume_by as_kept r o) (named_kept s.worker r.session s.sessions)
 
 pub move_kept : (s : State Sent) (now conn : ℕ) (text : List ℕ) → move_of replay s now conn text ≡ move_of as_kept (kept s) now conn text
-move_kept s now conn text = by_link (has_link conn s) (is_rated conn now s)
+move_kept s now conn text = by_connection (has_connection conn s) (is_rated conn now s)
   where
-    by_frame : (f : Frame) → first_move replay s f ≡ first_move as_kept (kept s) f
+    by_frame : (f : Frame) → move_before_session replay s f ≡ move_before_session as_kept (kept s) f
     by_frame (frame.Heartbeat seq) = refl
     by_frame (frame.Identify i) = ap (λ r. identify_move i r) (identified_kept s i)
     by_frame (frame.Resume r) = ap resume_move (resume_kept s r)
@@ -213,25 +213,25 @@ move_kept s now conn text = by_link (has_link conn s) (is_rated conn now s)
     by_read (Some number) (Ok f) = refl
     by_read None (Ok f) = by_frame f
 
-    by_link : (b rated : Bool) → (if b then (if rated then Shuts 4008 else read_move replay s (number_on conn s) (frame_of text)) else Nothing)
-        ≡ (if b then (if rated then Shuts 4008 else read_move as_kept (kept s) (number_on conn (kept s)) (frame_of text)) else Nothing)
-    by_link true false = by_read (number_on conn s) (frame_of text) ∙ ap (λ o. read_move as_kept (kept s) o (frame_of text)) (number_kept conn s.sessions)
-    by_link true true = refl
-    by_link false rated = refl
+    by_connection : (b rated : Bool) → (if b then (if rated then ClosesWith 4008 else read_move replay s (number_on conn s) (frame_of text)) else Nothing)
+        ≡ (if b then (if rated then ClosesWith 4008 else read_move as_kept (kept s) (number_on conn (kept s)) (frame_of text)) else Nothing)
+    by_connection true false = by_read (number_on conn s) (frame_of text) ∙ ap (λ o. read_move as_kept (kept s) o (frame_of text)) (number_kept conn s.sessions)
+    by_connection true true = refl
+    by_connection false rated = refl
 
 -- a connection that is gone
 released_kept : (conn now : ℕ) (x : Session Sent) → kept_session (released conn (Detached now) x) ≡ map (released conn (Detached now)) (kept_session x)
-released_kept conn now x = by_place x.place
+released_kept conn now x = by_condition x.condition
   where
-    by_test : (c : ℕ) (b : Bool) → kept_session (if b then record x { place = Detached now } else record x { place = Attached c })
-        ≡ (if b then record (counted x) { place = Detached now } else record (counted x) { place = Attached c }) ∷ []
+    by_test : (c : ℕ) (b : Bool) → kept_session (if b then record x { condition = Detached now } else record x { condition = Attached c })
+        ≡ (if b then record (counted x) { condition = Detached now } else record (counted x) { condition = Attached c }) ∷ []
     by_test c true = refl
     by_test c false = refl
 
-    by_place : (place : Place) → kept_session (released conn (Detached now) (record x { place = place })) ≡ map (released conn (Detached now)) (kept_session (record x { place = place }))
-    by_place (Attached c) = by_test c (c == conn)
-    by_place (Detached since) = refl
-    by_place Ended = refl
+    by_condition : (condition : Condition) → kept_session (released conn (Detached now) (record x { condition = condition })) ≡ map (released conn (Detached now)) (kept_session (record x { condition = condition }))
+    by_condition (Attached c) = by_test c (c == conn)
+    by_condition (Detached since) = refl
+    by_condition Ended = refl
 
 each_released : (conn now : ℕ) (xs : List (Session Sent)) → flat_map kept_session (map (released conn (Detached now)) xs) ≡ map (released conn (Detached now)) (flat_map kept_session xs)
 each_released conn now [] = refl
@@ -239,21 +239,21 @@ each_released conn now (x ∷ xs) =
     ap (λ ys. ys ++ flat_map kept_session (map (released conn (Detached now)) xs)) (released_kept conn now x)
     ∙ (ap (λ ys. map (released conn (Detached now)) (kept_session x) ++ ys) (each_released conn now xs) ∙ sym (map_join (released conn (Detached now)) (kept_session x) (flat_map kept_session xs)))
 
--- a session that goes on
+-- a session that resumes
 joined_kept : (conn number : ℕ) (x : Session Sent) → kept_session (joined conn number x) ≡ map (joined conn number) (kept_session x)
-joined_kept conn number x = by_place x.place
+joined_kept conn number x = by_condition x.condition
   where
-    by_test : (place : Place) (b : Bool) → is_live place ≡ true → kept_session (if b then record x { place = Attached conn } else record x { place = place })
-        ≡ (if b then record (counted x) { place = Attached conn } else record (counted x) { place = place }) ∷ []
-    by_test place true live = refl
+    by_test : (condition : Condition) (b : Bool) → is_live condition ≡ true → kept_session (if b then record x { condition = Attached conn } else record x { condition = condition })
+        ≡ (if b then record (counted x) { condition = Attached conn } else record (counted x) { condition = condition }) ∷ []
+    by_test condition true live = refl
     by_test (Attached c) false live = refl
     by_test (Detached since) false live = refl
     by_test Ended false live = absurd (cc live)
 
-    by_place : (place : Place) → kept_session (joined conn number (record x { place = place })) ≡ map (joined conn number) (kept_session (record x { place = place }))
-    by_place (Attached c) = by_test (Attached c) (x.number == number) refl
-    by_place (Detached since) = by_test (Detached since) (x.number == number) refl
-    by_place Ended = refl
+    by_condition : (condition : Condition) → kept_session (joined conn number (record x { condition = condition })) ≡ map (joined conn number) (kept_session (record x { condition = condition }))
+    by_condition (Attached c) = by_test (Attached c) (x.number == number) refl
+    by_condition (Detached since) = by_test (Detached since) (x.number == number) refl
+    by_condition Ended = refl
 
 each_joined : (conn number : ℕ) (xs : List (Session Sent)) → flat_map kept_session (map (joined conn number) xs) ≡ map (joined conn number) (flat_map kept_session xs)
 each_joined conn number [] = refl
@@ -273,24 +273,24 @@ begins_kept w bot v n = replay (begins_with w bot v n)
 pub moved_kept : (w : Worker) (conn now : ℕ) (move : Move) → kept (moved conn now (begins_with w) move w.core) ≡ moved conn now (begins_kept w) move (kept w.core)
 moved_kept w conn now Nothing = refl
 moved_kept w conn now Answers = refl
-moved_kept w conn now (Shuts code) = ap (λ xs. record (gone conn (Detached now) (kept w.core)) { sessions = xs }) (each_released conn now w.core.sessions)
+moved_kept w conn now (ClosesWith code) = ap (λ xs. record (gone conn (Detached now) (kept w.core)) { sessions = xs }) (each_released conn now w.core.sessions)
 moved_kept w conn now (Begins bot v) = ap (λ xs. record (begun conn bot v (begins_kept w bot v) (kept w.core)) { sessions = xs })
-    (flat_map_join kept_session w.core.sessions (record { number = w.core.made + 1; token = bot.token; name = bot.name; viewer = v; place = Attached conn; sent = begins_with w bot v (w.core.made + 1) } ∷ []))
+    (flat_map_join kept_session w.core.sessions (record { number = w.core.made + 1; token = bot.token; name = bot.name; viewer = v; condition = Attached conn; sent = begins_with w bot v (w.core.made + 1) } ∷ []))
 moved_kept w conn now Denies = refl
 moved_kept w conn now (Resumes number older seq held) = resumed_kept conn now number older w.core
 moved_kept w conn now (Wants number want) = refl
 
 pub framed_kept : (w : Worker) (conn now : ℕ) (move : Move) → kept (framed conn now (begins_with w) move w.core) ≡ framed conn now (begins_kept w) move (kept w.core)
-framed_kept w conn now move = ap (noted conn now) (moved_kept w conn now move)
+framed_kept w conn now move = ap (frame_counted conn now) (moved_kept w conn now move)
 
 pub opened_kept : (s : State Sent) (conn now : ℕ) → kept (opened conn now s) ≡ opened conn now (kept s)
-opened_kept s conn now = by_link (has_link conn s) (nat_lt (length s.links) 64)
+opened_kept s conn now = by_connection (has_connection conn s) (nat_lt (length s.connections) 64)
   where
-    by_link : (b c : Bool) → kept (if b then s else (if c then record s { links = s.links ++ record { number = conn; heard = now; times = [] } ∷ [] } else s))
-        ≡ (if b then kept s else (if c then record (kept s) { links = s.links ++ record { number = conn; heard = now; times = [] } ∷ [] } else kept s))
-    by_link true c = refl
-    by_link false true = refl
-    by_link false false = refl
+    by_connection : (b c : Bool) → kept (if b then s else (if c then record s { connections = s.connections ++ record { number = conn; last_heartbeat_ms = now; times = [] } ∷ [] } else s))
+        ≡ (if b then kept s else (if c then record (kept s) { connections = s.connections ++ record { number = conn; last_heartbeat_ms = now; times = [] } ∷ [] } else kept s))
+    by_connection true c = refl
+    by_connection false true = refl
+    by_connection false false = refl
 
 -- what ends, or is lost
 
@@ -306,11 +306,11 @@ gone_kept : (s : State Sent) (conn now : ℕ) → kept (gone conn (Detached now)
 gone_kept s conn now = ap (λ xs. record (gone conn (Detached now) (kept s)) { sessions = xs }) (each_released conn now s.sessions)
 
 pub lost_kept : (s : State Sent) (conn now : ℕ) → kept (lost conn now s) ≡ lost conn now (kept s)
-lost_kept s conn now = by_link (has_link conn s)
+lost_kept s conn now = by_connection (has_connection conn s)
   where
-    by_link : (b : Bool) → kept (if b then gone conn (Detached now) s else s) ≡ (if b then gone conn (Detached now) (kept s) else kept s)
-    by_link true = gone_kept s conn now
-    by_link false = refl
+    by_connection : (b : Bool) → kept (if b then gone conn (Detached now) s else s) ≡ (if b then gone conn (Detached now) (kept s) else kept s)
+    by_connection true = gone_kept s conn now
+    by_connection false = refl
 
 -- of a session that has ended nothing is kept
 abbrev forgotten : Session Replay → List (Session Replay)
@@ -318,33 +318,33 @@ forgotten x = []
 
 module _ (last : Cursors) where
   left_one : (conn : ℕ) (x : Session Sent) → flat_map kept_session (left_of (ended_at last) conn x) ≡ flat_map (left_of forgotten conn) (kept_session x)
-  left_one conn x = by_place x.place
+  left_one conn x = by_condition x.condition
     where
-      by_test : (c : ℕ) (b : Bool) → flat_map kept_session (if b then ended_at last (record x { place = Attached c }) else record x { place = Attached c } ∷ [])
-          ≡ (if b then [] else record (counted x) { place = Attached c } ∷ []) ++ []
+      by_test : (c : ℕ) (b : Bool) → flat_map kept_session (if b then ended_at last (record x { condition = Attached c }) else record x { condition = Attached c } ∷ [])
+          ≡ (if b then [] else record (counted x) { condition = Attached c } ∷ []) ++ []
       by_test c true = refl
       by_test c false = refl
 
-      by_place : (place : Place) → flat_map kept_session (left_of (ended_at last) conn (record x { place = place })) ≡ flat_map (left_of forgotten conn) (kept_session (record x { place = place }))
-      by_place (Attached c) = by_test c (c == conn)
-      by_place (Detached since) = refl
-      by_place Ended = refl
+      by_condition : (condition : Condition) → flat_map kept_session (left_of (ended_at last) conn (record x { condition = condition })) ≡ flat_map (left_of forgotten conn) (kept_session (record x { condition = condition }))
+      by_condition (Attached c) = by_test c (c == conn)
+      by_condition (Detached since) = refl
+      by_condition Ended = refl
 
   kept_one : (now : ℕ) (x : Session Sent) → flat_map kept_session (kept_for (ended_at last) now x) ≡ flat_map (kept_for forgotten now) (kept_session x)
-  kept_one now x = by_place x.place
+  kept_one now x = by_condition x.condition
     where
-      by_test : (since : ℕ) (b : Bool) → flat_map kept_session (if b then ended_at last (record x { place = Detached since }) else record x { place = Detached since } ∷ [])
-          ≡ (if b then [] else record (counted x) { place = Detached since } ∷ []) ++ []
+      by_test : (since : ℕ) (b : Bool) → flat_map kept_session (if b then ended_at last (record x { condition = Detached since }) else record x { condition = Detached since } ∷ [])
+          ≡ (if b then [] else record (counted x) { condition = Detached since } ∷ []) ++ []
       by_test since true = refl
       by_test since false = refl
 
-      by_place : (place : Place) → flat_map kept_session (kept_for (ended_at last) now (record x { place = place })) ≡ flat_map (kept_for forgotten now) (kept_session (record x { place = place }))
-      by_place (Attached c) = refl
-      by_place (Detached since) = by_test since (nat_le (since + 180000) now)
-      by_place Ended = refl
+      by_condition : (condition : Condition) → flat_map kept_session (kept_for (ended_at last) now (record x { condition = condition })) ≡ flat_map (kept_for forgotten now) (kept_session (record x { condition = condition }))
+      by_condition (Attached c) = refl
+      by_condition (Detached since) = by_test since (nat_le (since + 180000) now)
+      by_condition Ended = refl
 
   pub closed_kept : (s : State Sent) (conn code now : ℕ) → kept (client_closed (ended_at last) conn code now s) ≡ client_closed forgotten conn code now (kept s)
-  closed_kept s conn code now = by_code (is_final code) (has_link conn s)
+  closed_kept s conn code now = by_code (is_final code) (has_connection conn s)
     where
       by_code : (final there : Bool) → kept (if final then (if there then left (ended_at last) conn s else s) else lost conn now s)
           ≡ (if final then (if there then left forgotten conn (kept s) else kept s) else lost conn now (kept s))
@@ -361,5 +361,5 @@ module _ (last : Cursors) where
 
   pub ticked_kept : (s : State Sent) (now : ℕ) → kept (ticked (ended_at last) now s) ≡ ticked forgotten now (kept s)
   ticked_kept s now =
-      expired_kept (all_gone (silent_of now s.links) now s) now
-      ∙ ap (expired forgotten now) (all_gone_kept (silent_of now s.links) now s)
+      expired_kept (all_gone (silent_of now s.connections) now s) now
+      ∙ ap (expired forgotten now) (all_gone_kept (silent_of now s.connections) now s)

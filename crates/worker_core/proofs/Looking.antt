@@ -15,7 +15,7 @@ use Rattle.edit_apply.specs.declared.Edit.{Edit}
 use Rattle.edit_events.specs.Due.{owed, due_between}
 use Rattle.edit_events.specs.Was.{was_of}
 use Rattle.replay_ring.specs.Replay.{Replay}
-use Rattle.session_core.specs.State.{State, Session, Place, Attached, Detached, Ended}
+use Rattle.session_core.specs.State.{State, Session, Condition, Attached, Detached, Ended}
 use Rattle.worker_core.specs.World.{sends}
 use Rattle.worker_core.specs.Kept.{told_more, told_sends, kept_looked, kept_sends}
 use Rattle.worker_core.specs.Outputs.{written, all_written}
@@ -26,23 +26,23 @@ use Rattle.worker_core.specs.declared.io.StepFault.{StepFault}
 use Rattle.worker_core.specs.declared.io.StepFault.TheVariants.{Spent, Memory}
 use Rattle.worker_core.proofs.Lists.{append_none, map_join}
 use Rattle.worker_core.proofs.Kept.{any_join, flat_map_join}
-use Rattle.worker_core.specs.Audience.{Picks, picked_by, viewer_of}
-use Rattle.worker_core.proofs.Picking.{Item, item_at, at_place, as_many_picked}
+use Rattle.worker_core.specs.Recipients.{Picks, picked_by, viewer_of}
+use Rattle.worker_core.proofs.Picking.{Item, item_at, at_index, as_many_picked}
 use Rattle.worker_core.proofs.Telling.{last_taken, rest_dropped, past_no}
 
--- what is owed to the session at a place, where it is picked by its viewer
+-- what is owed to the session at an index, where it is picked by its viewer
 pub owed_at : (s : Record) (e : Edit) (viewers : List Viewer) (whose : List ℕ) (told : List (List Dispatch)) (which : List ℕ) (xs : List (Session Replay)) (i k d : ℕ) → i < length xs → (here : Item xs i)
     → Picks viewers whose (map viewer_of xs) → Picks told which (map (owed s e) viewers) → k ≡ get_or whose i d
     → picked_by told (slice_get which k) ≡ Some (owed s e here.item.viewer)
-owed_at s e viewers whose told which xs i k d lt here audience picks is =
+owed_at s e viewers whose told which xs i k d lt here recipients picks is =
     let v : Viewer = here.item.viewer in
-    let many : length whose ≡ length xs = as_many_picked viewers whose (map viewer_of xs) audience ∙ length-map xs viewer_of in
-    let place = item_at whose i (omega (arith, lt, many)) in
-    let same : k ≡ place.item = is ∙ get_or_from_slice_get whose i place.item d place.found in
+    let many : length whose ≡ length xs = as_many_picked viewers whose (map viewer_of xs) recipients ∙ length-map xs viewer_of in
+    let index = item_at whose i (omega (arith, lt, many)) in
+    let same : k ≡ index.item = is ∙ get_or_from_slice_get whose i index.item d index.found in
     let mine : slice_get (map viewer_of xs) i ≡ Some v = slice_get-map viewer_of xs i ∙ ap (option_map viewer_of) here.found in
     let found : slice_get viewers k ≡ Some v =
-    ap (slice_get viewers) same ∙ (ap (picked_by viewers) (sym place.found) ∙ at_place viewers whose (map viewer_of xs) i v audience mine) in
-    at_place told which (map (owed s e) viewers) k (owed s e v) picks (slice_get-map (owed s e) viewers k ∙ ap (option_map (owed s e)) found)
+    ap (slice_get viewers) same ∙ (ap (picked_by viewers) (sym index.found) ∙ at_index viewers whose (map viewer_of xs) i v recipients mine) in
+    at_index told which (map (owed s e) viewers) k (owed s e v) picks (slice_get-map (owed s e) viewers k ∙ ap (option_map (owed s e)) found)
 
 -- the viewers of sessions stay
 pub viewers_stay : (s : Record) (e : Edit) (xs : List (Session Replay)) → map viewer_of (map (told_more s e) xs) ≡ map viewer_of xs
@@ -68,20 +68,20 @@ module _ (s : Record) (e : Edit) (old : State Replay) where
   abbrev xs : List (Session Replay)
   xs = old.sessions
 
-  -- the sessions before a place are told
-  pub record Told (i : ℕ) (mid : State Replay) (before outm : List Written) : Type 0 where
+  -- the sessions before an index are told
+  pub record SentDispatch (i : ℕ) (mid : State Replay) (before outm : List Written) : Type 0 where
     pub sessions : mid ≡ kept_with (map (told_more s e) (take i xs) ++ drop i xs) old
     pub out : outm ≡ before ++ all_written (flat_map (told_sends s e) (take i xs))
     pub counted : list_any (told_spends s e) (take i xs) ≡ false
 
-  module _ (ds : List Dispatch) (mid : State Replay) (before outm : List Written) (i : ℕ) (lt : i < length xs) (here : Item xs i) (told : Told i mid before outm) (due : ds ≡ owed s e here.item.viewer) where
+  module _ (ds : List Dispatch) (mid : State Replay) (before outm : List Written) (i : ℕ) (lt : i < length xs) (here : Item xs i) (told : SentDispatch i mid before outm) (due : ds ≡ owed s e here.item.viewer) where
     between : IsAt i (map (told_more s e) (take i xs)) here.item (drop (i + 1) xs) mid
     between = (
       ap (λ (m : State Replay). m.sessions) told.sessions ∙ ap (λ ys. map (told_more s e) (take i xs) ++ ys) (rest_dropped xs i here.item lt here.read),
       sym (length-map (take i xs) (told_more s e) ∙ length-take-le i xs (omega arith)),
     )
 
-    pub each_more : (new : State Replay) (out : List Written) → TellsAt i (λ x. ds) mid new outm out → Told (i + 1) new before out
+    pub each_more : (new : State Replay) (out : List Written) → TellsAt i (λ x. ds) mid new outm out → SentDispatch (i + 1) new before out
     each_more new out tells =
         let x = here.item in
         let step = tells (map (told_more s e) (take i xs)) (drop (i + 1) xs) x between in
@@ -94,8 +94,8 @@ module _ (s : Record) (e : Edit) (old : State Replay) where
               (sym (append_assoc (map (told_more s e) (take i xs)) (told_more s e x ∷ []) (drop (i + 1) xs))
               ∙ ap (λ ys. ys ++ drop (i + 1) xs) (sym (map_join (told_more s e) (take i xs) (x ∷ [])) ∙ ap (map (told_more s e)) (sym taken)))));
           out = step.1.0
-              ∙ (ap (λ ws. ws ++ all_written (sends x.place x.sent.last ds)) told.out
-              ∙ (ap (λ ds. (before ++ all_written (flat_map (told_sends s e) (take i xs))) ++ all_written (sends x.place x.sent.last ds)) due
+              ∙ (ap (λ ws. ws ++ all_written (sends x.condition x.sent.last ds)) told.out
+              ∙ (ap (λ ds. (before ++ all_written (flat_map (told_sends s e) (take i xs))) ++ all_written (sends x.condition x.sent.last ds)) due
               ∙ (append_assoc before (all_written (flat_map (told_sends s e) (take i xs))) (all_written (told_sends s e x))
               ∙ ap (λ ws. before ++ ws)
               (sym (map_join written (flat_map (told_sends s e) (take i xs)) (told_sends s e x))
@@ -136,14 +136,14 @@ module _ (s : Record) (e : Edit) (old : State Replay) where
       same [] = refl
       same (y ∷ ys) = ap (λ z. z ∷ map (told_more s e) ys) (one y) ∙ ap (λ zs. y ∷ zs) (same ys)
 
-      nothing : (p : Place) (n : ℕ) → sends p n [] ≡ []
+      nothing : (p : Condition) (n : ℕ) → sends p n [] ≡ []
       nothing (Attached conn) n = refl
       nothing (Detached since) n = refl
       nothing Ended n = refl
 
       silent : (ys : List (Session Replay)) → flat_map (told_sends s e) ys ≡ []
       silent [] = refl
-      silent (y ∷ ys) = ap (λ os. os ++ flat_map (told_sends s e) ys) (ap (λ ds. sends y.place y.sent.last ds) (owed_refused s e y.viewer refused) ∙ nothing y.place y.sent.last) ∙ silent ys
+      silent (y ∷ ys) = ap (λ os. os ++ flat_map (told_sends s e) ys) (ap (λ ds. sends y.condition y.sent.last ds) (owed_refused s e y.viewer refused) ∙ nothing y.condition y.sent.last) ∙ silent ys
 
       uncounted : (ys : List (Session Replay)) → list_any (told_spends s e) ys ≡ false
       uncounted [] = refl

@@ -19,9 +19,9 @@ use Rattle.session_core.specs.declared.fault.SessionFault.{SessionFault}
 use Rattle.session_core.specs.declared.fault.SessionFault.TheVariants as session
 use Rattle.session_core.specs.declared.reply.Reply.{Reply}
 use Rattle.session_core.specs.declared.reply.Reply.TheVariants as reply
-use Rattle.session_core.specs.State.{State, Session, Attached, has_link, open_replies}
+use Rattle.session_core.specs.State.{State, Session, Attached, has_connection, open_replies}
 use Rattle.session_core.specs.Ends.{closes, silent_of, tick_replies}
-use Rattle.session_core.specs.Frames.{Move, Nothing, Answers, Shuts, Begins, Denies, Resumes, Wants, Want, Members, Presence, Voice, want_reply, move_of, move_replies, is_spent, none_sent, as_kept}
+use Rattle.session_core.specs.Frames.{Move, Nothing, Answers, ClosesWith, Begins, Denies, Resumes, Wants, Want, Members, Presence, Voice, want_reply, move_of, move_replies, is_spent, none_sent, as_kept}
 use Rattle.session_core.specs.Resume.{resume_replies}
 use Rattle.replay_ring.specs.Replay.{Replay, fresh, texts_after}
 use Rattle.worker_core.specs.declared.replica.Replica.{Replica}
@@ -159,23 +159,23 @@ nothing_left [] none = refl
 nothing_left (x ∷ xs) none = absurd (omega arith)
 
 -- the session that has begun is the last one, and is told its first dispatches
-pub greet_made : {V : Type 0} (old : KeptWorker) (n place : ℕ) (list : List Dispatch) (new : State Replay) (before out : List Written) (result : Result V StepFault)
-    → place + 1 ≡ length old.core.sessions → option_map_or (greeted old n) (slice_get old.core.sessions place) [] ≡ list
-    → MatchResult result (λ v. TellsAt place (λ x. list) old.core new before out) (FailsAt place (λ x. list) old.core)
+pub greet_made : {V : Type 0} (old : KeptWorker) (n index : ℕ) (list : List Dispatch) (new : State Replay) (before out : List Written) (result : Result V StepFault)
+    → index + 1 ≡ length old.core.sessions → option_map_or (greeted old n) (slice_get old.core.sessions index) [] ≡ list
+    → MatchResult result (λ v. TellsAt index (λ x. list) old.core new before out) (FailsAt index (λ x. list) old.core)
     → MatchResult result (λ v. Greets old n (record old { core = new }) before out) (GreetsNot old n)
-greet_made old n place list new before out (Ok v) last first told = λ front x is.
-    let at : place ≡ length front = omega (arith, last, ap length is, length-append front (x ∷ [])) in
-    let here : list ≡ greeted old n x = sym first ∙ ap (λ o. option_map_or (greeted old n) o []) (found_at place front x [] old.core (is, at)) in
+greet_made old n index list new before out (Ok v) last first told = λ front x is.
+    let at : index ≡ length front = omega (arith, last, ap length is, length-append front (x ∷ [])) in
+    let here : list ≡ greeted old n x = sym first ∙ ap (λ o. option_map_or (greeted old n) o []) (found_at index front x [] old.core (is, at)) in
     let all = told front [] x (is, at) in (
       ap (λ (s : State Replay). record old { core = s }) all.0 ∙ ap (λ ds. record old { core = kept_with (front ++ further ds x ∷ []) old.core }) here,
       (
-        all.1.0 ∙ ap (λ ds. before ++ all_written (sends x.place x.sent.last ds)) here,
+        all.1.0 ∙ ap (λ ds. before ++ all_written (sends x.condition x.sent.last ds)) here,
         ap (λ ds. is_past x.sent.last (length ds)) (sym here) ∙ all.1.1,
       ),
     )
-greet_made old n place list new before out (Err fault) last first told = λ front x is.
-    let at : place ≡ length front = omega (arith, last, ap length is, length-append front (x ∷ [])) in
-    let here : list ≡ greeted old n x = sym first ∙ ap (λ o. option_map_or (greeted old n) o []) (found_at place front x [] old.core (is, at)) in
+greet_made old n index list new before out (Err fault) last first told = λ front x is.
+    let at : index ≡ length front = omega (arith, last, ap length is, length-append front (x ∷ [])) in
+    let here : list ≡ greeted old n x = sym first ∙ ap (λ o. option_map_or (greeted old n) o []) (found_at index front x [] old.core (is, at)) in
     subst (λ ds. FaultBy (is_past x.sent.last (length ds)) fault) here (told front [] x (is, at))
 
 -- a connection that opens
@@ -183,7 +183,7 @@ module _ (k : KeptWorker) (w : Worker) (stands : Stands k w) (conn : ℕ) (k1 : 
   pub open_made : (new : KeptWorker) (out : List Written) → Replied k k1 new out (open_replies conn k.core) → Steps w (Open conn) new out
   open_made new out replied =
       let step = opens k w stands conn in
-      let both = by_room (has_link conn k.core) (nat_lt (length k.core.links) 64) replied in
+      let both = by_room (has_connection conn k.core) (nat_lt (length k.core.connections) 64) replied in
       (subst (λ (h : KeptWorker). Stands h (taken w (Open conn))) (sym (both.0 ∙ moved_to)) step.0, (both.1 ∙ sym step.1.0, step.1.1))
     where
       by_room : (b c : Bool) → let replies = if b then [] else (if c then reply.Send conn (Hello 41250) ∷ [] else reply.Close conn 4000 ∷ []) in
@@ -193,7 +193,7 @@ module _ (k : KeptWorker) (w : Worker) (stands : Stands k w) (conn : ℕ) (k1 : 
       by_room false false told = told.0 refl
 
   pub open_fails : (fault : StepFault) → RepliedNot k1 fault (open_replies conn k.core) → Fails w (Open conn) fault
-  open_fails fault told = by_room (has_link conn k.core) (nat_lt (length k.core.links) 64) told
+  open_fails fault told = by_room (has_connection conn k.core) (nat_lt (length k.core.connections) 64) told
     where
       by_room : (b c : Bool) → let replies = if b then [] else (if c then reply.Send conn (Hello 41250) ∷ [] else reply.Close conn 4000 ∷ []) in
           RepliedNot k1 fault replies → FaultBy false fault
@@ -212,7 +212,7 @@ module _ (k : KeptWorker) (w : Worker) (stands : Stands k w) (conn : ℕ) (k1 : 
 module _ (k : KeptWorker) (conn : ℕ) where
   -- the session that has begun
   abbrev begun_with : Bot → Viewer → Session Replay
-  begun_with bot v = record { number = k.core.made + 1; token = bot.token; name = bot.name; viewer = v; place = Attached conn; sent = fresh 1024 4194304 }
+  begun_with bot v = record { number = k.core.made + 1; token = bot.token; name = bot.name; viewer = v; condition = Attached conn; sent = fresh 1024 4194304 }
 
   abbrev first_count : Bot → Viewer → ℕ
   first_count bot v = length (kept_first k v bot.name (k.core.made + 1))
@@ -230,7 +230,7 @@ module _ (k : KeptWorker) (conn : ℕ) where
       → (new ≡ kept_after_move move (after_frame k conn move (kept_start k))) × ((out ≡ kept_frame_sends k conn move) × (kept_frame_spends k move ≡ false))
   move_made k1 new out Nothing is counted told = ((told.0 refl).0 ∙ is, ((told.0 refl).1, refl))
   move_made k1 new out Answers is counted told = ((told.0 refl).0 ∙ is, ((told.0 refl).1, refl))
-  move_made k1 new out (Shuts code) is counted told = ((told.0 refl).0 ∙ is, ((told.0 refl).1, refl))
+  move_made k1 new out (ClosesWith code) is counted told = ((told.0 refl).0 ∙ is, ((told.0 refl).1, refl))
   move_made k1 new out (Begins bot v) is counted told = from_start k1 is (told.1 (reply.Begin (k.core.made + 1)) refl)
     where
       from_start : (k1 : KeptWorker) → k1 ≡ after_frame k conn (Begins bot v) none_sent → Greets k1 (k.core.made + 1) new [] out
@@ -259,7 +259,7 @@ module _ (k : KeptWorker) (conn : ℕ) where
       → RepliedNot k1 fault (move_replies conn move k.core) → FaultBy (kept_frame_spends k move) fault
   move_fails k1 fault Nothing is counted told = told.0 refl
   move_fails k1 fault Answers is counted told = told.0 refl
-  move_fails k1 fault (Shuts code) is counted told = told.0 refl
+  move_fails k1 fault (ClosesWith code) is counted told = told.0 refl
   move_fails k1 fault (Begins bot v) is counted told =
       let here = subst (λ (h : KeptWorker). GreetsNot h (k.core.made + 1) fault) is (told.1 (reply.Begin (k.core.made + 1)) refl) in
       let past = here k.core.sessions (begun_with bot v) refl in
@@ -277,7 +277,7 @@ module _ (k : KeptWorker) (conn : ℕ) where
   spent_frame : (move : Move) → is_spent move k.core ≡ true → kept_frame_spends k move ≡ true
   spent_frame Nothing e = e
   spent_frame Answers e = e
-  spent_frame (Shuts code) e = e
+  spent_frame (ClosesWith code) e = e
   spent_frame (Begins bot v) e = ap (λ b. b || is_past 0 (first_count bot v)) e
   spent_frame Denies e = e
   spent_frame (Resumes number older seq held) e = e
@@ -343,11 +343,11 @@ module _ (k : KeptWorker) (w : Worker) (stands : Stands k w) where
         → MatchResult result (λ out. Steps w (Tick now) new (items out)) (Fails w (Tick now))
     tick_ends items (Ok out) k1 new replies is moved_to all =
         let step = ticks k w stands now in
-        let done = all (ap (list_all is_plain) is ∙ are_plain (silent_of moment k.core.links)) in (
+        let done = all (ap (list_all is_plain) is ∙ are_plain (silent_of moment k.core.connections)) in (
           subst (λ (h : KeptWorker). Stands h (taken w (Tick now))) (sym (done.0 ∙ moved_to)) step.0,
-          (done.1 ∙ (ap (flat_map plain) is ∙ (plain_closes (silent_of moment k.core.links) ∙ sym step.1.0)), refl),
+          (done.1 ∙ (ap (flat_map plain) is ∙ (plain_closes (silent_of moment k.core.connections) ∙ sym step.1.0)), refl),
         )
-    tick_ends items (Err fault) k1 new replies is moved_to all = all (ap (list_all is_plain) is ∙ are_plain (silent_of moment k.core.links))
+    tick_ends items (Err fault) k1 new replies is moved_to all = all (ap (list_all is_plain) is ∙ are_plain (silent_of moment k.core.connections))
 
 -- ---- the first worker
 

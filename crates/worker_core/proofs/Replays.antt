@@ -8,7 +8,7 @@ use Rattle.dispatch_types.specs.declared.dispatch.Dispatch.{Dispatch}
 use Rattle.replay_ring.specs.Replay.{fresh, pushed, pushed_all, replay_of}
 use Rattle.replay_ring.proofs.Suffixes.{pushed_all-fresh}
 use Rattle.session_core.specs.declared.reply.Mark.{Mark}
-use Rattle.worker_core.specs.World.{Cursors, Told, told, dispatch_of, Sent, dispatches, texts_from, replay}
+use Rattle.worker_core.specs.World.{Cursors, SentDispatch, told, dispatch_of, Sent, dispatches, texts_from, replay}
 use Rattle.worker_core.proofs.Lists.{map_join}
 use Rattle.worker_core.proofs.Folds.{dispatches_told}
 
@@ -35,7 +35,7 @@ none_before : (n : ℕ) → 0 + n ≡ n
 none_before n = omega arith
 
 -- of dispatches that follow, what is kept is what pushes of their texts leave
-pub replay_told : (ts : List Told) (end : Option Cursors) (mark : Mark) (b a : Cursors) (ds : List Dispatch)
+pub replay_told : (ts : List SentDispatch) (end : Option Cursors) (mark : Mark) (b a : Cursors) (ds : List Dispatch)
     → let old : Sent = record { told = ts; end = end } in
     replay (record { told = ts ++ told mark b a ds; end = end }) ≡ pushed_all (replay old) (texts_from (replay old).last ds)
 replay_told ts end mark b a ds =

@@ -1,4 +1,4 @@
--- A session that goes on: which it is, and what goes out again.
+-- A session that resumes: which it is, and what goes out again.
 use Rattle.std.proofs.Common.{◌≡◌, ℕ, ◌+◌, ◌-◌, ◌≤◌, zero, suc, List, [], ◌∷◌, ◌++◌, Bool, true, false, not, Option, Some, None, Result, Ok, Err, if◌then◌else◌, length, map, drop, refl, sym, ap, subst, ◌∙◌, arith}
 use Rattle.std.specs.Prelude.{◌==◌, ◌&&◌, flat_map, nat_lt}
 use Rattle.std.specs.List.{find}
@@ -14,18 +14,18 @@ use Rattle.gateway_frames.specs.declared.frame.Frame.TheVariants as frame
 use Rattle.gateway_frames.specs.declared.frame.Identify.{Identify}
 use Rattle.gateway_frames.specs.declared.frame.Resume.{Resume}
 use Rattle.gateway_frames.specs.declared.fault.FrameFault.{FrameFault}
-use Rattle.gateway_frames.specs.declared.out.Out.TheVariants.{Resumed}
+use Rattle.gateway_frames.specs.declared.out.Out.TheVariants as outs
 use Rattle.gateway_frames.specs.Read.{frame_of}
 use Rattle.replay_ring.specs.Replay.{Replay, texts_after}
 use Rattle.replay_ring.proofs.Suffixes.{texts_after-replay_of}
 use Rattle.session_core.specs.declared.bot.Bot.{Bot}
 use Rattle.session_core.specs.declared.reply.Reply.{Reply}
 use Rattle.session_core.specs.declared.reply.Reply.TheVariants as reply
-use Rattle.session_core.specs.State.{State, Session, Attached, is_live, attached, has_link, number_on}
+use Rattle.session_core.specs.State.{State, Session, Attached, is_live, attached, has_connection, number_on}
 use Rattle.session_core.specs.Identify.{identified}
 use Rattle.session_core.specs.Rate.{is_rated}
-use Rattle.session_core.specs.Frames.{Move, Nothing, Answers, Shuts, Begins, Denies, Resumes, Wants, identify_move, resume_move, later_move, first_move, read_move, move_of}
-use Rattle.session_core.specs.Resume.{Unknown, Beyond, Goes, session_id, session_named, resume_by, older_closes, resume_replies}
+use Rattle.session_core.specs.Frames.{Move, Nothing, Answers, ClosesWith, Begins, Denies, Resumes, Wants, identify_move, resume_move, move_in_session, move_before_session, read_move, move_of}
+use Rattle.session_core.specs.Resume.{NotResumable, InvalidSeq, Resumed, session_id, session_named, resume_by, older_closes, resume_replies}
 use Rattle.worker_core.specs.World.{Sent, dispatches, texts_from, replay, Worker, Output, Says, sends, older_sends, resent, numbered, frame_sends}
 use Rattle.worker_core.specs.Outputs.{written, all_written}
 use Rattle.worker_core.specs.Stands.{plain}
@@ -33,7 +33,7 @@ use Rattle.worker_core.specs.declared.io.Output.TheVariants.{Send}
 use Rattle.worker_core.proofs.Lists.{map_join}
 use Rattle.worker_core.proofs.Kept.{flat_map_join}
 
--- ---- which session goes on
+-- ---- which session resumes
 
 -- the first that meets one test is also the first that meets a stricter one that it meets
 module _ {A : Type 0} (p q : A → Bool) (stricter : (y : A) → q y ≡ true → p y ≡ true) (x : A) (is : q x ≡ true) where
@@ -65,21 +65,21 @@ both_true false c e = absurd (cc e)
 -- the session of an id is the one of its number
 pub named_number : (s : State Sent) (id : List ℕ) (x : Session Sent) → session_named id s ≡ Some x → numbered x.number s.sessions ≡ Some x
 named_number s id x found =
-    let meets = both_true (is_live x.place) (bytes_eq (session_id s.worker x.number) id)
-    (found_meets (λ (y : Session Sent). is_live y.place && bytes_eq (session_id s.worker y.number) id) s.sessions x found) in
+    let meets = both_true (is_live x.condition) (bytes_eq (session_id s.worker x.number) id)
+    (found_meets (λ (y : Session Sent). is_live y.condition && bytes_eq (session_id s.worker y.number) id) s.sessions x found) in
     let own : (x.number == x.number) ≡ true = grind (arith, nat_tests) in
-    let itself : (is_live x.place && (x.number == x.number)) ≡ true = grind (arith, meets.0, own) in
+    let itself : (is_live x.condition && (x.number == x.number)) ≡ true = grind (arith, meets.0, own) in
     first_of_fewer
-    (λ (y : Session Sent). is_live y.place && bytes_eq (session_id s.worker y.number) id)
-    (λ (y : Session Sent). is_live y.place && (y.number == x.number))
+    (λ (y : Session Sent). is_live y.condition && bytes_eq (session_id s.worker y.number) id)
+    (λ (y : Session Sent). is_live y.condition && (y.number == x.number))
     (λ y strict.
-    let both = both_true (is_live y.place) (y.number == x.number) strict in
+    let both = both_true (is_live y.condition) (y.number == x.number) strict in
     let same : y.number ≡ x.number = eqb-true y.number x.number both.1 in
     let named : bytes_eq (session_id s.worker y.number) id ≡ true = ap (λ n. bytes_eq (session_id s.worker n) id) same ∙ meets.1 in
     grind (arith, both.0, named))
     x itself s.sessions found
 
--- a resume that goes on is of a session that has this kept
+-- a resume that is granted is of a session that has this kept
 pub record IsOf (s : State Sent) (number seq : ℕ) (held : Replay) : Type 0 where
   pub session : Session Sent
   pub found : numbered number s.sessions ≡ Some session
@@ -90,7 +90,7 @@ pub record IsOf (s : State Sent) (number seq : ℕ) (held : Replay) : Type 0 whe
 abbrev pub Fits : State Sent → Move → Type 0
 Fits s Nothing = Unit {0}
 Fits s Answers = Unit {0}
-Fits s (Shuts code) = Unit {0}
+Fits s (ClosesWith code) = Unit {0}
 Fits s (Begins bot v) = Unit {0}
 Fits s Denies = Unit {0}
 Fits s (Resumes number older seq held) = IsOf s number seq held
@@ -101,7 +101,7 @@ fits_named s r None none = tt
 fits_named s r (Some x) found = by_tests (bytes_eq x.token r.token) (nat_lt (replay x.sent).last r.seq) (nat_lt r.seq ((replay x.sent).last - length (replay x.sent).held)) refl refl
   where
     by_tests : (own past below : Bool) → nat_lt (replay x.sent).last r.seq ≡ past → nat_lt r.seq ((replay x.sent).last - length (replay x.sent).held) ≡ below
-        → Fits s (resume_move (if not own then Unknown else (if past then Beyond else (if below then Unknown else Goes x.number (attached x.place) r.seq (replay x.sent)))))
+        → Fits s (resume_move (if not own then NotResumable else (if past then InvalidSeq else (if below then NotResumable else Resumed x.number (attached x.condition) r.seq (replay x.sent)))))
     by_tests false past below p b = tt
     by_tests true true below p b = tt
     by_tests true false true p b = tt
@@ -117,13 +117,13 @@ fits_named s r (Some x) found = by_tests (bytes_eq x.token r.token) (nat_lt (rep
         at_least n m e = grind (arith, nat_tests, e)
 
 pub fits_text : (w : Worker) (conn : ℕ) (text : List ℕ) → Fits w.core (move_of replay w.core w.now conn text)
-fits_text w conn text = by_link (has_link conn w.core) (is_rated conn w.now w.core)
+fits_text w conn text = by_connection (has_connection conn w.core) (is_rated conn w.now w.core)
   where
     by_start : (i : Identify) (r : Result Bot ℕ) → Fits w.core (identify_move i r)
     by_start i (Ok bot) = tt
     by_start i (Err code) = tt
 
-    by_first : (f : Frame) → Fits w.core (first_move replay w.core f)
+    by_first : (f : Frame) → Fits w.core (move_before_session replay w.core f)
     by_first (frame.Heartbeat seq) = tt
     by_first (frame.Identify i) = by_start i (identified w.core i)
     by_first (frame.Resume r) = fits_named w.core r (session_named r.session w.core) refl
@@ -131,7 +131,7 @@ fits_text w conn text = by_link (has_link conn w.core) (is_rated conn w.now w.co
     by_first (frame.Voice ask) = tt
     by_first (frame.Ask ask) = tt
 
-    by_later : (number : ℕ) (f : Frame) → Fits w.core (later_move number f)
+    by_later : (number : ℕ) (f : Frame) → Fits w.core (move_in_session number f)
     by_later number (frame.Heartbeat seq) = tt
     by_later number (frame.Identify i) = tt
     by_later number (frame.Resume r) = tt
@@ -144,10 +144,10 @@ fits_text w conn text = by_link (has_link conn w.core) (is_rated conn w.now w.co
     by_read (Some number) (Ok f) = by_later number f
     by_read None (Ok f) = by_first f
 
-    by_link : (b rated : Bool) → Fits w.core (if b then (if rated then Shuts 4008 else read_move replay w.core (number_on conn w.core) (frame_of text)) else Nothing)
-    by_link false rated = tt
-    by_link true true = tt
-    by_link true false = by_read (number_on conn w.core) (frame_of text)
+    by_connection : (b rated : Bool) → Fits w.core (if b then (if rated then ClosesWith 4008 else read_move replay w.core (number_on conn w.core) (frame_of text)) else Nothing)
+    by_connection false rated = tt
+    by_connection true true = tt
+    by_connection true false = by_read (number_on conn w.core) (frame_of text)
 
 -- ---- what goes out again
 
@@ -183,9 +183,9 @@ resumes_out w conn number older seq held of =
     let High : Replay → Type 0 = λ r. seq ≤ r.last in
     let x : Session Sent = of.session in
     let again : List Output = sends (Attached conn) seq (drop seq (dispatches x.sent)) in
-    let end : List Output = Says conn (Resumed held.last) ∷ [] in
+    let end : List Output = Says conn (outs.Resumed held.last) ∷ [] in
     let texts : List Reply = map (λ text. reply.Text conn text) (texts_after held seq) in
-    let done : List Reply = reply.Send conn (Resumed held.last) ∷ [] in
+    let done : List Reply = reply.Send conn (outs.Resumed held.last) ∷ [] in
     let is : texts_from seq (drop seq (dispatches x.sent)) ≡ texts_after held seq =
     resent_texts x.sent seq (subst Low (sym of.same) of.low) (subst High (sym of.same) of.high) ∙ ap (λ r. texts_after r seq) of.same in
     ap (λ o. all_written (older_sends older ++ (resent conn seq o ++ end))) of.found

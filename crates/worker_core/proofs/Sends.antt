@@ -16,11 +16,11 @@ use Rattle.edit_apply.specs.declared.Edit.{Edit}
 use Rattle.gateway_frames.specs.declared.out.Out.TheVariants.{Hello, Ack, Invalid, Resumed}
 use Rattle.session_core.specs.declared.bot.Bot.{Bot}
 use Rattle.session_core.specs.declared.reply.Mark.TheVariants.{Start, Entry}
-use Rattle.session_core.specs.State.{State, Session, Place, Attached, Detached, Ended, is_on, has_link, opened, gone}
+use Rattle.session_core.specs.State.{State, Session, Condition, Attached, Detached, Ended, is_on, has_connection, opened, gone}
 use Rattle.replay_ring.specs.Replay.{Replay}
-use Rattle.session_core.specs.Frames.{Move, Nothing, Answers, Shuts, Begins, Denies, Resumes, Wants, Want, Members, Presence, Voice, move_of}
+use Rattle.session_core.specs.Frames.{Move, Nothing, Answers, ClosesWith, Begins, Denies, Resumes, Wants, Want, Members, Presence, Voice, move_of}
 use Rattle.session_core.specs.Ends.{silent_of}
-use Rattle.worker_core.specs.World.{Seen, Cursors, cursors, chunks_told, is_numbered, change_first, answer_to, after_answer, answer_sends, asked, wished, want_sends, after_want, seen_with, Told, told, dispatch_of, Sent, dispatches, texts_from, replay, older_sends, resent, numbered, Worker, Output, Says, Tells, Closes, Wishes, sends, after_entry, entry_owed, entry_sends, entered, looked, look_sends, first_dispatches, begins_with, Look, Open, Frame, Lost, Closed, Tick, framed, frame_sends, open_sends, taken}
+use Rattle.worker_core.specs.World.{Seen, Cursors, cursors, chunks_told, is_numbered, change_first, answer_to, after_answer, answer_sends, asked, wished, want_sends, after_want, seen_with, SentDispatch, told, dispatch_of, Sent, dispatches, texts_from, replay, older_sends, resent, numbered, Worker, Output, Says, Tells, Closes, Wishes, sends, after_entry, entry_owed, entry_sends, entered, looked, look_sends, first_dispatches, begins_with, Look, Open, Frame, Lost, Closed, Tick, framed, frame_sends, open_sends, taken}
 use Rattle.worker_core.specs.Law.{IsNumber, HasSent, OutputHolds, EachSendHolds}
 use Rattle.worker_core.proofs.Lists.{map_join}
 use Rattle.worker_core.proofs.Folds.{dispatches_told, same_id}
@@ -34,7 +34,7 @@ number_stays n d xs ys (front, (back, (is, count))) = (front, (back ++ ys, (ap (
 
 -- a session that the connection has, and the number of a dispatch of it
 abbrev IsSentOn : ℕ → ℕ → Dispatch → Session Sent → Type 0
-IsSentOn conn n d x = (is_on conn x.place ≡ true) × IsNumber n d (map dispatch_of x.sent.told)
+IsSentOn conn n d x = (is_on conn x.condition ≡ true) × IsNumber n d (map dispatch_of x.sent.told)
 
 -- the sends of one session
 module _ (xs : List (Session Sent)) (conn : ℕ) (whole : List Dispatch) (here : (n : ℕ) (d : Dispatch) → IsNumber n d whole → HasSent conn n d xs) where
@@ -48,17 +48,17 @@ module _ (xs : List (Session Sent)) (conn : ℕ) (whole : List Dispatch) (here :
 
 -- an entry leaves each session's connection and numbers
 module _ (seen : Seen) (g : ℕ) (e : Edit) where
-  abbrev batch : Session Sent → List Told
+  abbrev batch : Session Sent → List SentDispatch
   batch x = told (Entry g (length (seen g) + 1)) (cursors seen) (cursors (seen_with seen g e)) (entry_owed seen g e x)
 
   session_stays : (conn n : ℕ) (d : Dispatch) (x : Session Sent) → IsSentOn conn n d x → IsSentOn conn n d (after_entry seen g e x)
-  session_stays conn n d x = by_place x.place
+  session_stays conn n d x = by_condition x.condition
     where
-      by_place : (place : Place) → IsSentOn conn n d (record x { place = place }) → IsSentOn conn n d (after_entry seen g e (record x { place = place }))
-      by_place (Attached own) (at, number) =
+      by_condition : (condition : Condition) → IsSentOn conn n d (record x { condition = condition }) → IsSentOn conn n d (after_entry seen g e (record x { condition = condition }))
+      by_condition (Attached own) (at, number) =
           (at, subst (λ (ds : List Dispatch). IsNumber n d ds) (sym (map_join dispatch_of x.sent.told (batch x))) (number_stays n d (map dispatch_of x.sent.told) (map dispatch_of (batch x)) number))
-      by_place (Detached since) (at, number) = absurd (cc at)
-      by_place Ended (at, number) = absurd (cc at)
+      by_condition (Detached since) (at, number) = absurd (cc at)
+      by_condition Ended (at, number) = absurd (cc at)
 
   sent_stays : (conn n : ℕ) (d : Dispatch) (xs : List (Session Sent)) → HasSent conn n d xs → HasSent conn n d (map (after_entry seen g e) xs)
   sent_stays conn n d [] h = h
@@ -72,16 +72,16 @@ module _ (seen : Seen) (g : ℕ) (e : Edit) where
   output_stays xs (Wishes guild edit) h = tt
 
   own_sends : (x : Session Sent) (ys : List (Session Sent)) → ((conn n : ℕ) (d : Dispatch) → IsSentOn conn n d (after_entry seen g e x) → HasSent conn n d ys) → All (OutputHolds ys) (entry_sends seen g e x)
-  own_sends x ys = by_place x.place
+  own_sends x ys = by_condition x.condition
     where
-      by_place : (place : Place) → ((conn n : ℕ) (d : Dispatch) → IsSentOn conn n d (after_entry seen g e (record x { place = place })) → HasSent conn n d ys) → All (OutputHolds ys) (entry_sends seen g e (record x { place = place }))
-      by_place (Attached own) here =
+      by_condition : (condition : Condition) → ((conn n : ℕ) (d : Dispatch) → IsSentOn conn n d (after_entry seen g e (record x { condition = condition })) → HasSent conn n d ys) → All (OutputHolds ys) (entry_sends seen g e (record x { condition = condition }))
+      by_condition (Attached own) here =
           let ds : List Dispatch = entry_owed seen g e x in
           let all : map dispatch_of (x.sent.told ++ batch x) ≡ map dispatch_of x.sent.told ++ ds = map_join dispatch_of x.sent.told (batch x) ∙ ap (λ xs. map dispatch_of x.sent.told ++ xs) (dispatches_told (Entry g (length (seen g) + 1)) (cursors seen) (cursors (seen_with seen g e)) ds) in
           subst (λ (n : ℕ). All (OutputHolds ys) (sends (Attached own) n ds)) (length-map x.sent.told dispatch_of)
           (sends_from ys own (map dispatch_of (x.sent.told ++ batch x)) (λ n d number. here own n d (same_id own, number)) (map dispatch_of x.sent.told) ds all)
-      by_place (Detached since) here = All-nil (OutputHolds ys)
-      by_place Ended here = All-nil (OutputHolds ys)
+      by_condition (Detached since) here = All-nil (OutputHolds ys)
+      by_condition Ended here = All-nil (OutputHolds ys)
 
   entry_holds : (xs ys : List (Session Sent)) → ((conn n : ℕ) (d : Dispatch) → HasSent conn n d (map (after_entry seen g e) xs) → HasSent conn n d ys) → All (OutputHolds ys) (flat_map (entry_sends seen g e) xs)
   entry_holds [] ys into = All-nil (OutputHolds ys)
@@ -107,7 +107,7 @@ last_session conn n d (y ∷ xs) x h = inr (last_session conn n d xs x h)
 start_holds : (w : Worker) (conn : ℕ) (bot : Bot) (v : Viewer) → All (OutputHolds (framed w conn (Begins bot v)).core.sessions) (sends (Attached conn) 0 (first_dispatches w v bot (w.core.made + 1)))
 start_holds w conn bot v =
     let ds : List Dispatch = first_dispatches w v bot (w.core.made + 1) in
-    let x : Session Sent = record { number = w.core.made + 1; token = bot.token; name = bot.name; viewer = v; place = Attached conn; sent = begins_with w bot v (w.core.made + 1) } in
+    let x : Session Sent = record { number = w.core.made + 1; token = bot.token; name = bot.name; viewer = v; condition = Attached conn; sent = begins_with w bot v (w.core.made + 1) } in
     sends_from (w.core.sessions ++ x ∷ []) conn (map dispatch_of x.sent.told) (λ n d number. last_session conn n d w.core.sessions x (same_id conn, number)) [] ds
     (dispatches_told Start (cursors w.seen) (cursors w.seen) ds)
 
@@ -118,7 +118,7 @@ older_holds : (xs : List (Session Sent)) (older : Option ℕ) → All (OutputHol
 older_holds xs None = All-nil (OutputHolds xs)
 older_holds xs (Some c) = one_holds xs (Closes c 4000) tt
 
--- a session that goes on is sent what it was sent
+-- a session that resumes is sent what it was sent
 goes_on_holds : (w : Worker) (conn number : ℕ) (older : Option ℕ) (seq : ℕ) (held : Replay) → IsOf w.core number seq held
     → All (OutputHolds (framed w conn (Resumes number older seq held)).core.sessions) (frame_sends w conn (Resumes number older seq held))
 goes_on_holds w conn number older seq held of =
@@ -154,7 +154,7 @@ chunk_dispatches made now (d ∷ ds) = ap (λ xs. d ∷ xs) (chunk_dispatches (m
 
 answer_holds : (w : Worker) (ask : Ask) (number : ℕ) (x : Session Sent) → numbered number w.core.sessions ≡ Some x
     → All (OutputHolds (asked w ask number).core.sessions) (answer_sends w ask x)
-answer_holds w ask number x found = by_place x.place refl
+answer_holds w ask number x found = by_condition x.condition refl
   where
     ys : List (Session Sent)
     ys = (asked w ask number).core.sessions
@@ -162,21 +162,21 @@ answer_holds w ask number x found = by_place x.place refl
     ds : List Dispatch
     ds = answer_to w ask x
 
-    more : List Told
+    more : List SentDispatch
     more = chunks_told w.chunks (cursors w.seen) ds
 
     whole : map dispatch_of (x.sent.told ++ more) ≡ map dispatch_of x.sent.told ++ ds
     whole = map_join dispatch_of x.sent.told more ∙ ap (λ xs. map dispatch_of x.sent.told ++ xs) (chunk_dispatches w.chunks (cursors w.seen) ds)
 
-    by_place : (place : Place) → x.place ≡ place → All (OutputHolds ys) (sends place (length x.sent.told) ds)
-    by_place (Attached own) is =
-        let on : is_on own x.place ≡ true = ap (is_on own) is ∙ same_id own in
+    by_condition : (condition : Condition) → x.condition ≡ condition → All (OutputHolds ys) (sends condition (length x.sent.told) ds)
+    by_condition (Attached own) is =
+        let on : is_on own x.condition ≡ true = ap (is_on own) is ∙ same_id own in
         subst (λ (n : ℕ). All (OutputHolds ys) (sends (Attached own) n ds)) (length-map x.sent.told dispatch_of)
         (sends_from ys own (map dispatch_of (x.sent.told ++ more))
         (λ n d number_is. changed_has own n d (is_numbered number) (after_answer w ask) x (on, number_is) w.core.sessions found)
         (map dispatch_of x.sent.told) ds whole)
-    by_place (Detached since) is = All-nil (OutputHolds ys)
-    by_place Ended is = All-nil (OutputHolds ys)
+    by_condition (Detached since) is = All-nil (OutputHolds ys)
+    by_condition Ended is = All-nil (OutputHolds ys)
 
 -- a wish is no dispatch
 wished_holds : (xs : List (Session Sent)) (g : ℕ) (o : Option Edit) → All (OutputHolds xs) (wished g o)
@@ -201,7 +201,7 @@ want_holds w number (Voice ask) (Some x) found = by_there (contains ask.guild w.
 frame_holds : (w : Worker) (conn : ℕ) (move : Move) → Fits w.core move → All (OutputHolds (framed w conn move).core.sessions) (frame_sends w conn move)
 frame_holds w conn Nothing fits = All-nil (OutputHolds w.core.sessions)
 frame_holds w conn Answers fits = one_holds w.core.sessions (Says conn Ack) tt
-frame_holds w conn (Shuts code) fits = one_holds (gone conn (Detached w.now) w.core).sessions (Closes conn code) tt
+frame_holds w conn (ClosesWith code) fits = one_holds (gone conn (Detached w.now) w.core).sessions (Closes conn code) tt
 frame_holds w conn (Begins bot v) fits = start_holds w conn bot v
 frame_holds w conn Denies fits = one_holds w.core.sessions (Says conn (Invalid false)) tt
 frame_holds w conn (Resumes number older seq held) fits = goes_on_holds w conn number older seq held fits
@@ -210,13 +210,13 @@ frame_holds w conn (Wants number (Presence status)) fits = want_holds w number (
 frame_holds w conn (Wants number (Voice ask)) fits = want_holds w number (Voice ask) (numbered number w.core.sessions) refl
 
 open_holds : (w : Worker) (conn : ℕ) → All (OutputHolds (opened conn w.now w.core).sessions) (open_sends conn w.core)
-open_holds w conn = by_link (has_link conn w.core) (nat_lt (length w.core.links) 64)
+open_holds w conn = by_connection (has_connection conn w.core) (nat_lt (length w.core.connections) 64)
   where
-    by_link : (b c : Bool) → let s : State Sent = if b then w.core else (if c then record w.core { links = w.core.links ++ record { number = conn; heard = w.now; times = [] } ∷ [] } else w.core) in
+    by_connection : (b c : Bool) → let s : State Sent = if b then w.core else (if c then record w.core { connections = w.core.connections ++ record { number = conn; last_heartbeat_ms = w.now; times = [] } ∷ [] } else w.core) in
         All (OutputHolds s.sessions) (if b then [] else (if c then Says conn (Hello 41250) ∷ [] else Closes conn 4000 ∷ []))
-    by_link true c = All-nil (OutputHolds w.core.sessions)
-    by_link false true = one_holds w.core.sessions (Says conn (Hello 41250)) tt
-    by_link false false = one_holds w.core.sessions (Closes conn 4000) tt
+    by_connection true c = All-nil (OutputHolds w.core.sessions)
+    by_connection false true = one_holds w.core.sessions (Says conn (Hello 41250)) tt
+    by_connection false false = one_holds w.core.sessions (Closes conn 4000) tt
 
 tick_holds : (xs : List (Session Sent)) (conns : List ℕ) → All (OutputHolds xs) (map (λ conn. Closes conn 4000) conns)
 tick_holds xs [] = All-nil (OutputHolds xs)
@@ -233,4 +233,4 @@ each_send_holds w (Open conn) = open_holds w conn
 each_send_holds w (Frame conn text) = frame_holds w conn (move_of replay w.core w.now conn text) (fits_text w conn text)
 each_send_holds w (Lost conn) = All-nil (OutputHolds (taken w (Lost conn)).core.sessions)
 each_send_holds w (Closed conn code) = All-nil (OutputHolds (taken w (Closed conn code)).core.sessions)
-each_send_holds w (Tick now) = tick_holds (taken w (Tick now)).core.sessions (silent_of (max w.now now) w.core.links)
+each_send_holds w (Tick now) = tick_holds (taken w (Tick now)).core.sessions (silent_of (max w.now now) w.core.connections)

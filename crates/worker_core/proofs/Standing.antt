@@ -1,4 +1,4 @@
--- Each step of a worker's value, on what it keeps, is that of each worker that it stands for.
+-- Each step of a worker's value, on what it keeps, is that of each worker that it represents.
 use Rattle.worker_core.proofs.Logs.{state_id}
 use Rattle.std.proofs.Common.{◌≡◌, ℕ, ◌+◌, List, [], ◌∷◌, ◌++◌, Bool, true, false, Option, Some, None, if◌then◌else◌, length, map, refl, sym, ap, subst, ◌∙◌}
 use Rattle.std.specs.Prelude.{◌==◌, ◌||◌, filter, flat_map, is_some, max, option_map}
@@ -18,8 +18,8 @@ use Rattle.session_core.specs.declared.bot.Bot.{Bot}
 use Rattle.session_core.specs.State.{State, Attached, opened, begun}
 use Rattle.replay_ring.specs.Replay.{Replay, fresh, pushed_all}
 use Rattle.session_core.specs.declared.reply.Mark.TheVariants.{Start}
-use Rattle.session_core.specs.Frames.{Move, Nothing, Answers, Shuts, Begins, Denies, Resumes, Wants, move_of, moved, framed as with_frame, is_spent, as_kept}
-use Rattle.session_core.specs.Rate.{noted}
+use Rattle.session_core.specs.Frames.{Move, Nothing, Answers, ClosesWith, Begins, Denies, Resumes, Wants, move_of, moved, framed as with_frame, is_spent, as_kept}
+use Rattle.session_core.specs.Rate.{frame_counted}
 use Rattle.session_core.specs.Ends.{lost, client_closed, ticked}
 use Rattle.worker_core.specs.declared.replica.Replica.{Replica}
 use Rattle.worker_core.specs.World.{Worker, cursors, tick_sends, entered, looked, look_sends, Look, Open, Frame, Lost, Closed, Tick, framed, after_move, frame_sends, open_sends, begins_with, first_dispatches, listed_guilds, greeting_of, ready, sends, texts_from, replay}
@@ -106,7 +106,7 @@ replicas_looked es w g h there =
 move_stands : (move : Move) (k : KeptWorker) (w : Worker) → Stands k w → Stands (kept_after_move move k) (after_move move w)
 move_stands Nothing k w stands = stands
 move_stands Answers k w stands = stands
-move_stands (Shuts code) k w stands = stands
+move_stands (ClosesWith code) k w stands = stands
 move_stands (Begins bot v) k w stands = stands
 move_stands Denies k w stands = stands
 move_stands (Resumes number older seq held) k w stands = stands
@@ -214,7 +214,7 @@ module _ (k : KeptWorker) (w : Worker) (stands : Stands k w) where
   moved_by conn move =
       ap (λ c. with_frame conn k.now (kept_start k) move c) stands.core
       ∙ (ap (λ n. with_frame conn n (kept_start k) move (kept w.core)) stands.now
-      ∙ (ap (noted conn w.now) (by_move move) ∙ sym (framed_kept w conn w.now move)))
+      ∙ (ap (frame_counted conn w.now) (by_move move) ∙ sym (framed_kept w conn w.now move)))
     where
       same_start : (bot : Bot) (v : Viewer) (n : ℕ) → kept_start k bot v n ≡ begins_kept w bot v n
       same_start bot v n =
@@ -224,9 +224,9 @@ module _ (k : KeptWorker) (w : Worker) (stands : Stands k w) where
       by_move : (move : Move) → moved conn w.now (kept_start k) move (kept w.core) ≡ moved conn w.now (begins_kept w) move (kept w.core)
       by_move Nothing = refl
       by_move Answers = refl
-      by_move (Shuts code) = refl
+      by_move (ClosesWith code) = refl
       by_move (Begins bot v) = ap (λ start. record (begun conn bot v (λ n. fresh 1024 4194304) (kept w.core)) {
-        sessions = (kept w.core).sessions ++ record { number = w.core.made + 1; token = bot.token; name = bot.name; viewer = v; place = Attached conn; sent = start } ∷ [];
+        sessions = (kept w.core).sessions ++ record { number = w.core.made + 1; token = bot.token; name = bot.name; viewer = v; condition = Attached conn; sent = start } ∷ [];
       }) (same_start bot v (w.core.made + 1))
       by_move Denies = refl
       by_move (Resumes number older seq held) = refl
@@ -235,7 +235,7 @@ module _ (k : KeptWorker) (w : Worker) (stands : Stands k w) where
   sent_by : (conn : ℕ) (move : Move) → Fits w.core move → all_written (frame_sends w conn move) ≡ kept_frame_sends k conn move
   sent_by conn Nothing fits = refl
   sent_by conn Answers fits = refl
-  sent_by conn (Shuts code) fits = refl
+  sent_by conn (ClosesWith code) fits = refl
   sent_by conn (Begins bot v) fits =
       ap all_written
       (ap (λ (c : State Replay). sends (Attached conn) 0 (first_dispatches w v bot (c.made + 1))) (sym stands.core)
@@ -247,7 +247,7 @@ module _ (k : KeptWorker) (w : Worker) (stands : Stands k w) where
   spent_by : (move : Move) → frame_spends w move ≡ kept_frame_spends k move
   spent_by Nothing = refl
   spent_by Answers = refl
-  spent_by (Shuts code) = refl
+  spent_by (ClosesWith code) = refl
   spent_by (Begins bot v) =
       ap (λ (c : State Replay). is_spent (Begins bot v) c || is_past 0 (length (first_dispatches w v bot (c.made + 1)))) (sym stands.core)
       ∙ ap (λ ds. is_spent (Begins bot v) k.core || is_past 0 (length ds)) (sym (first_kept v bot (k.core.made + 1)))

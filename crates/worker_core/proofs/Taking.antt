@@ -2,7 +2,7 @@
 use Rattle.std.proofs.Common.{◌≡◌, ℕ, Bool, true, false, if◌then◌else◌, refl}
 use Rattle.std.specs.Prelude.{max}
 use Rattle.dispatch_types.specs.Fold.{contains}
-use Rattle.session_core.specs.Frames.{Want, Members, Presence, Voice, Move, Nothing, Answers, Shuts, Begins, Denies, Resumes, Wants, move_of}
+use Rattle.session_core.specs.Frames.{Want, Members, Presence, Voice, Move, Nothing, Answers, ClosesWith, Begins, Denies, Resumes, Wants, move_of}
 use Rattle.session_core.specs.Frames.{framed as with_frame}
 use Rattle.worker_core.specs.World.{replay, Worker, begins_with, looked, Input, Look, Open, Frame, Lost, Closed, Tick, after_want, framed, taken}
 use Rattle.worker_core.proofs.Workers.{Follows, gone_follows, begun_follows, resumed_follows, opened_follows, lost_follows, closed_follows, ticked_follows, looked_follows}
@@ -16,7 +16,7 @@ want_follows number (Voice ask) w old = old
 framed_follows : (w : Worker) (conn : ℕ) (move : Move) → Follows w → Follows (framed w conn move)
 framed_follows w conn Nothing old = record { sessions = old.sessions; strangers = old.strangers }
 framed_follows w conn Answers old = record { sessions = old.sessions; strangers = old.strangers }
-framed_follows w conn (Shuts code) old = let after = gone_follows w conn old in record { sessions = after.sessions; strangers = after.strangers }
+framed_follows w conn (ClosesWith code) old = let after = gone_follows w conn old in record { sessions = after.sessions; strangers = after.strangers }
 framed_follows w conn Denies old = record { sessions = old.sessions; strangers = old.strangers }
 framed_follows w conn (Resumes number older seq held) old = let after = resumed_follows w conn number older old in record { sessions = after.sessions; strangers = after.strangers }
 framed_follows w conn (Begins bot viewer) old = let after = begun_follows w conn bot viewer old in record { sessions = after.sessions; strangers = after.strangers }

@@ -1,4 +1,4 @@
--- Sessions by their places, and what a call that sends to them leaves.
+-- Sessions by their indexes, and what a call that sends to them leaves.
 use Rattle.std.proofs.Common.{◌≡◌, ℕ, ◌+◌, ◌-◌, ◌^◌, ◌<◌, ◌≤◌, List, [], ◌∷◌, ◌++◌, true, false, Option, Some, Result, Ok, Err, MatchResult, OnOk, suc, zero, length, take, drop, get_or, refl, sym, ap, ◌∙◌, append_assoc, arith}
 use Rattle.std.specs.Prelude.{◌&&◌, nat_lt, slice_get, slice_set}
 use Rattle.std.specs.Prelude.{option_map}
@@ -11,7 +11,7 @@ use Rattle.std.proofs.lemmas.List.{length-append}
 use Rattle.std.proofs.lemmas.Grind.{fold-append}
 use Rattle.std.proofs.lemmas.Bool.Decides.{nat_tests}
 use Rattle.dispatch_types.specs.declared.dispatch.Dispatch.{Dispatch}
-use Rattle.session_core.specs.State.{State, Session, Place, Attached, Detached, Ended, attached}
+use Rattle.session_core.specs.State.{State, Session, Condition, Attached, Detached, Ended, attached}
 use Rattle.session_core.specs.Pushes.{next_number, further_by, pushed_at}
 use Rattle.worker_core.specs.World.{Tells, sends, texts_from}
 use Rattle.worker_core.specs.Outputs.{written, all_written}
@@ -34,27 +34,27 @@ pub set_at : {A : Type 0} (front : List A) (x : A) (back : List A) (y : A) → s
 set_at [] x back y = refl
 set_at (f ∷ front) x back y = ap (λ zs. f ∷ zs) (set_at front x back y)
 
--- a list split at a place
+-- a list split at an index
 pub record Split {A : Type 0} (xs : List A) (i : ℕ) : Type 0 where
   pub front : List A
   pub item : A
   pub back : List A
   pub whole : xs ≡ front ++ item ∷ back
-  pub place : i ≡ length front
+  pub index : i ≡ length front
 
 pub split_at : {A : Type 0} (xs : List A) (i : ℕ) → i < length xs → Split xs i
 split_at [] i lt = absurd (omega arith)
-split_at (x ∷ xs) zero lt = record { front = []; item = x; back = xs; whole = refl; place = refl }
+split_at (x ∷ xs) zero lt = record { front = []; item = x; back = xs; whole = refl; index = refl }
 split_at (x ∷ xs) (suc i) lt =
     let rest = split_at xs i (omega arith) in
-    record { front = x ∷ rest.front; item = rest.item; back = rest.back; whole = ap (λ ys. x ∷ ys) rest.whole; place = ap suc rest.place }
+    record { front = x ∷ rest.front; item = rest.item; back = rest.back; whole = ap (λ ys. x ∷ ys) rest.whole; index = ap suc rest.index }
 
 -- one text kept
-pushed_is : (place : ℕ) (text : List ℕ) (front : List (Session Replay)) (x : Session Replay) (back : List (Session Replay)) (old : State Replay) → IsAt place front x back old
-    → pushed_at place text old ≡ kept_with (front ++ further_by text x ∷ back) old
-pushed_is place text front x back old at =
+pushed_is : (index : ℕ) (text : List ℕ) (front : List (Session Replay)) (x : Session Replay) (back : List (Session Replay)) (old : State Replay) → IsAt index front x back old
+    → pushed_at index text old ≡ kept_with (front ++ further_by text x ∷ back) old
+pushed_is index text front x back old at =
     ap (λ xs. kept_with xs old)
-    (ap (λ xs. option_map_or (λ y. slice_set xs place (further_by text y)) (slice_get xs place) xs) at.0
+    (ap (λ xs. option_map_or (λ y. slice_set xs index (further_by text y)) (slice_get xs index) xs) at.0
     ∙ (ap (λ n. option_map_or (λ y. slice_set (front ++ x ∷ back) n (further_by text y)) (slice_get (front ++ x ∷ back) n) (front ++ x ∷ back)) at.1
     ∙ (ap (λ o. option_map_or (λ y. slice_set (front ++ x ∷ back) (length front) (further_by text y)) o (front ++ x ∷ back)) (get_at front x back)
     ∙ set_at front x back (further_by text x))))
@@ -74,12 +74,12 @@ further_join ds es x =
     ∙ ap (λ r. record x { sent = r })
     (sym (fold-append pushed x.sent (texts_from x.sent.last ds) (texts_from (x.sent.last + length ds) es)) ∙ ap (pushed_all x.sent) (sym (texts_join x.sent.last ds es)))
 
-pub found_at : (place : ℕ) (front : List (Session Replay)) (x : Session Replay) (back : List (Session Replay)) (old : State Replay) → IsAt place front x back old
-    → slice_get old.sessions place ≡ Some x
-found_at place front x back old at = ap (λ xs. slice_get xs place) at.0 ∙ (ap (λ n. slice_get (front ++ x ∷ back) n) at.1 ∙ get_at front x back)
+pub found_at : (index : ℕ) (front : List (Session Replay)) (x : Session Replay) (back : List (Session Replay)) (old : State Replay) → IsAt index front x back old
+    → slice_get old.sessions index ≡ Some x
+found_at index front x back old at = ap (λ xs. slice_get xs index) at.0 ∙ (ap (λ n. slice_get (front ++ x ∷ back) n) at.1 ∙ get_at front x back)
 
 -- what goes out of two lists of dispatches
-pub sends_join : (place : Place) (n : ℕ) (ds es : List Dispatch) → sends place n (ds ++ es) ≡ sends place n ds ++ sends place (n + length ds) es
+pub sends_join : (condition : Condition) (n : ℕ) (ds es : List Dispatch) → sends condition n (ds ++ es) ≡ sends condition n ds ++ sends condition (n + length ds) es
 sends_join (Attached conn) n [] es = ap (λ m. sends (Attached conn) m es) (omega arith)
 sends_join (Attached conn) n (d ∷ ds) es = ap (λ out. Tells conn (n + 1) d ∷ out)
     (sends_join (Attached conn) (n + 1) ds es ∙ ap (λ m. sends (Attached conn) (n + 1) ds ++ sends (Attached conn) m es) (omega arith))
@@ -103,11 +103,11 @@ pub past_step : (n m : ℕ) → is_past (n + m) 1 ≡ is_past n (m + 1)
 past_step n m = ap (λ k. nat_lt (2 ^ 64 - 1) k) (omega arith) ∙ sym (past_is n (m + 1) (omega arith))
 
 -- one dispatch more
-module _ (place : ℕ) (ds : List Dispatch) (d : Dispatch) (old mid : State Replay) (before outm : List Written) (told : TellsAt place (λ x. ds) old mid before outm) where
-  between : (front back : List (Session Replay)) (x : Session Replay) → IsAt place front x back old → IsAt place front (further ds x) back mid
+module _ (index : ℕ) (ds : List Dispatch) (d : Dispatch) (old mid : State Replay) (before outm : List Written) (told : TellsAt index (λ x. ds) old mid before outm) where
+  between : (front back : List (Session Replay)) (x : Session Replay) → IsAt index front x back old → IsAt index front (further ds x) back mid
   between front back x at = (ap (λ (s : State Replay). s.sessions) (told front back x at).0, at.1)
 
-  pub tells_more : (new : State Replay) (out : List Written) → TellsAt place (λ x. d ∷ []) mid new outm out → TellsAt place (λ x. ds ++ d ∷ []) old new before out
+  pub tells_more : (new : State Replay) (out : List Written) → TellsAt index (λ x. d ∷ []) mid new outm out → TellsAt index (λ x. ds ++ d ∷ []) old new before out
   tells_more new out next front back x at =
       let first = told front back x at in
       let after = next front back (further ds x) (between front back x at) in
@@ -117,52 +117,52 @@ module _ (place : ℕ) (ds : List Dispatch) (d : Dispatch) (old mid : State Repl
             ∙ (ap (λ (s : State Replay). kept_with (front ++ further (d ∷ []) (further ds x) ∷ back) s) first.0
             ∙ ap (λ (y : Session Replay). kept_with (front ++ y ∷ back) old) (further_join ds (d ∷ []) x)),
         (
-          after.1.0 ∙ (ap (λ ws. ws ++ all_written (sends x.place (further ds x).sent.last (d ∷ []))) first.1.0
-              ∙ (ap (λ n. (before ++ all_written (sends x.place x.sent.last ds)) ++ all_written (sends x.place n (d ∷ []))) last
-              ∙ (append_assoc before (all_written (sends x.place x.sent.last ds)) (all_written (sends x.place (x.sent.last + length ds) (d ∷ [])))
+          after.1.0 ∙ (ap (λ ws. ws ++ all_written (sends x.condition (further ds x).sent.last (d ∷ []))) first.1.0
+              ∙ (ap (λ n. (before ++ all_written (sends x.condition x.sent.last ds)) ++ all_written (sends x.condition n (d ∷ []))) last
+              ∙ (append_assoc before (all_written (sends x.condition x.sent.last ds)) (all_written (sends x.condition (x.sent.last + length ds) (d ∷ [])))
               ∙ ap (λ ws. before ++ ws)
-              (sym (map_join written (sends x.place x.sent.last ds) (sends x.place (x.sent.last + length ds) (d ∷ [])))
-              ∙ ap all_written (sym (sends_join x.place x.sent.last ds (d ∷ []))))))),
+              (sym (map_join written (sends x.condition x.sent.last ds) (sends x.condition (x.sent.last + length ds) (d ∷ [])))
+              ∙ ap all_written (sym (sends_join x.condition x.sent.last ds (d ∷ []))))))),
           ap (λ n. is_past x.sent.last n) count ∙ (sym (past_step x.sent.last (length ds)) ∙ (ap (λ n. is_past n 1) (sym last) ∙ after.1.1)),
         ),
       )
 
-  pub fails_more : (rest : List Dispatch) (fault : StepFault) → FailsAt place (λ x. d ∷ []) mid fault → FailsAt place (λ x. ds ++ d ∷ rest) old fault
+  pub fails_more : (rest : List Dispatch) (fault : StepFault) → FailsAt index (λ x. d ∷ []) mid fault → FailsAt index (λ x. ds ++ d ∷ rest) old fault
   fails_more rest Memory fails front back x at = tt
   fails_more rest Spent fails front back x at =
       let past : is_past x.sent.last (length ds + 1) ≡ true =
       sym (past_step x.sent.last (length ds)) ∙ (ap (λ n. is_past n 1) (sym (last_further ds x)) ∙ fails front back (further ds x) (between front back x at)) in
       past_more x.sent.last (length ds + 1) (length (ds ++ d ∷ rest)) (omega (arith, length-append ds (d ∷ rest))) past
 
-pub tells_one : (place : ℕ) (d : Dispatch) (old new : State Replay) (number : ℕ) (conn : Option ℕ) (text : List ℕ) (before out : List Written)
-    → option_map next_number (slice_get old.sessions place) ≡ Some number → number < 2 ^ 64
-    → option_map (λ (x : Session Replay). attached x.place) (slice_get old.sessions place) ≡ Some conn
-    → text ≡ compact_text (data_of d number) → new ≡ pushed_at place text old → out ≡ before ++ sent_to conn text
-    → TellsAt place (λ x. d ∷ []) old new before out
-tells_one place d old new number conn text before out by fits goes is kept sent front back x at =
-    let found = found_at place front x back old at in
+pub tells_one : (index : ℕ) (d : Dispatch) (old new : State Replay) (number : ℕ) (conn : Option ℕ) (text : List ℕ) (before out : List Written)
+    → option_map next_number (slice_get old.sessions index) ≡ Some number → number < 2 ^ 64
+    → option_map (λ (x : Session Replay). attached x.condition) (slice_get old.sessions index) ≡ Some conn
+    → text ≡ compact_text (data_of d number) → new ≡ pushed_at index text old → out ≡ before ++ sent_to conn text
+    → TellsAt index (λ x. d ∷ []) old new before out
+tells_one index d old new number conn text before out by fits goes is kept sent front back x at =
+    let found = found_at index front x back old at in
     let next : x.sent.last + 1 ≡ number = cc (ap (option_map next_number) (sym found) ∙ by) in
-    let to : attached x.place ≡ conn = cc (ap (option_map (λ (x : Session Replay). attached x.place)) (sym found) ∙ goes) in
+    let to : attached x.condition ≡ conn = cc (ap (option_map (λ (x : Session Replay). attached x.condition)) (sym found) ∙ goes) in
     let whole : text ≡ compact_text (data_of d (x.sent.last + 1)) = is ∙ ap (λ n. compact_text (data_of d n)) (sym next) in (
-      kept ∙ (ap (λ t. pushed_at place t old) whole ∙ pushed_is place (compact_text (data_of d (x.sent.last + 1))) front x back old at),
+      kept ∙ (ap (λ t. pushed_at index t old) whole ∙ pushed_is index (compact_text (data_of d (x.sent.last + 1))) front x back old at),
       (
-        sent ∙ ap (λ ws. before ++ ws) (ap (λ c. sent_to c text) (sym to) ∙ (ap (λ t. sent_to (attached x.place) t) whole ∙ by_place x.place)),
+        sent ∙ ap (λ ws. before ++ ws) (ap (λ c. sent_to c text) (sym to) ∙ (ap (λ t. sent_to (attached x.condition) t) whole ∙ by_condition x.condition)),
         past_is x.sent.last 1 (omega arith) ∙ few (x.sent.last + 1) (omega (arith, next, fits)),
       ),
     )
   where
-    by_place : (p : Place) → sent_to (attached p) (compact_text (data_of d (x.sent.last + 1))) ≡ all_written (sends p x.sent.last (d ∷ []))
-    by_place (Attached c) = refl
-    by_place (Detached since) = refl
-    by_place Ended = refl
+    by_condition : (p : Condition) → sent_to (attached p) (compact_text (data_of d (x.sent.last + 1))) ≡ all_written (sends p x.sent.last (d ∷ []))
+    by_condition (Attached c) = refl
+    by_condition (Detached since) = refl
+    by_condition Ended = refl
 
     few : (n : ℕ) → n < 2 ^ 64 → nat_lt (2 ^ 64 - 1) n ≡ false
     few n lt = grind (arith, nat_tests)
 
-pub fails_one : (place : ℕ) (d : Dispatch) (old : State Replay) → option_map (λ (x : Session Replay). x.sent.last) (slice_get old.sessions place) ≡ Some (2 ^ 64 - 1)
-    → FailsAt place (λ x. d ∷ []) old Spent
-fails_one place d old last front back x at =
-    let is : x.sent.last ≡ 2 ^ 64 - 1 = cc (ap (option_map (λ (y : Session Replay). y.sent.last)) (sym (found_at place front x back old at)) ∙ last) in
+pub fails_one : (index : ℕ) (d : Dispatch) (old : State Replay) → option_map (λ (x : Session Replay). x.sent.last) (slice_get old.sessions index) ≡ Some (2 ^ 64 - 1)
+    → FailsAt index (λ x. d ∷ []) old Spent
+fails_one index d old last front back x at =
+    let is : x.sent.last ≡ 2 ^ 64 - 1 = cc (ap (option_map (λ (y : Session Replay). y.sent.last)) (sym (found_at index front x back old at)) ∙ last) in
     past_is x.sent.last 1 (omega arith) ∙ ap (λ n. nat_lt (2 ^ 64 - 1) (n + 1)) is
 
 -- one item more of a list
@@ -172,15 +172,15 @@ last_taken xs i x lt at = ap (λ n. take n xs) (one_more i) ∙ (take-suc xs i x
 pub rest_dropped : {A : Type 0} (xs : List A) (i : ℕ) (x : A) → i < length xs → get_or xs i x ≡ x → drop i xs ≡ x ∷ drop (i + 1) xs
 rest_dropped xs i x lt at = drop-cons xs i x lt ∙ (ap (λ y. y ∷ drop (suc i) xs) at ∙ ap (λ n. x ∷ drop n xs) (sym (one_more i)))
 
-pub as_many_at : (place : ℕ) (due : Session Replay → List Dispatch) (old new : State Replay) (before out : List Written) → place < length old.sessions
-    → TellsAt place due old new before out → length new.sessions ≡ length old.sessions
-as_many_at place due old new before out lt told =
-    let split = split_at old.sessions place lt in
+pub as_many_at : (index : ℕ) (due : Session Replay → List Dispatch) (old new : State Replay) (before out : List Written) → index < length old.sessions
+    → TellsAt index due old new before out → length new.sessions ≡ length old.sessions
+as_many_at index due old new before out lt told =
+    let split = split_at old.sessions index lt in
     let x = split.item in
-    ap (λ (s : State Replay). length s.sessions) (told split.front split.back x (split.whole, split.place)).0
+    ap (λ (s : State Replay). length s.sessions) (told split.front split.back x (split.whole, split.index)).0
     ∙ (length-append split.front (further (due x) x ∷ split.back) ∙ (sym (length-append split.front (x ∷ split.back)) ∙ ap length (sym split.whole)))
 
-pub kept_many : (r : Result (Unit {0}) StepFault) (place : ℕ) (due : Session Replay → List Dispatch) (old new : State Replay) (before out : List Written) → place < length old.sessions
-    → MatchResult r (λ _. TellsAt place due old new before out) (FailsAt place due old) → OnOk r (length new.sessions ≡ length old.sessions)
-kept_many (Ok x) place due old new before out lt told = as_many_at place due old new before out lt told
-kept_many (Err fault) place due old new before out lt fails = tt
+pub kept_many : (r : Result (Unit {0}) StepFault) (index : ℕ) (due : Session Replay → List Dispatch) (old new : State Replay) (before out : List Written) → index < length old.sessions
+    → MatchResult r (λ _. TellsAt index due old new before out) (FailsAt index due old) → OnOk r (length new.sessions ≡ length old.sessions)
+kept_many (Ok x) index due old new before out lt told = as_many_at index due old new before out lt told
+kept_many (Err fault) index due old new before out lt fails = tt

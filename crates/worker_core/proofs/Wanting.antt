@@ -20,19 +20,19 @@ use Rattle.member_chunks.specs.Answered.{answered}
 use Rattle.wishes.specs.Wishes.{presence_wish, voice_wish}
 use Rattle.replay_ring.specs.Replay.{Replay, replay_of, pushed_all}
 use Rattle.session_core.specs.declared.reply.Mark.TheVariants.{Start}
-use Rattle.session_core.specs.State.{State, Session, Place, Attached, Detached, Ended, is_live}
+use Rattle.session_core.specs.State.{State, Session, Condition, Attached, Detached, Ended, is_live}
 use Rattle.session_core.specs.Frames.{Want, Members, Presence, Voice}
 use Rattle.worker_core.specs.declared.replica.Replica.{Replica}
 use Rattle.worker_core.specs.declared.io.Output.{Output as Written}
 use Rattle.worker_core.specs.declared.io.StepFault.{StepFault}
 use Rattle.worker_core.specs.declared.io.StepFault.TheVariants.{Spent}
-use Rattle.worker_core.specs.World.{Cursors, cursors, Told, told, chunks_told, dispatch_of, Sent, texts_from, replay, Worker, Output, sends, is_numbered, numbered, change_first, answer_to, after_answer, asked, wished, presence_wishes, voice_wishes, want_sends, after_want}
+use Rattle.worker_core.specs.World.{Cursors, cursors, SentDispatch, told, chunks_told, dispatch_of, Sent, texts_from, replay, Worker, Output, sends, is_numbered, numbered, change_first, answer_to, after_answer, asked, wished, presence_wishes, voice_wishes, want_sends, after_want}
 use Rattle.worker_core.specs.Kept.{counted, kept_session, kept}
 use Rattle.worker_core.specs.Outputs.{all_written}
 use Rattle.worker_core.specs.Spent.{is_past, chunks_spend, want_spends}
 use Rattle.worker_core.specs.Telling.{FaultBy, kept_with, further, TellsAt, FailsAt}
 use Rattle.worker_core.specs.Stands.{replica_id, replica, KeptWorker, Stands, answered_by, kept_answer, is_of, kept_numbered, kept_after_answer, kept_asked, kept_after_want, kept_presence_wishes, wished_by, kept_voice_wishes, kept_want_sends, kept_want_spends, wanted_sends, wanted_spends, Gives, GivesNot}
-use Rattle.worker_core.specs.Audience.{viewer_of}
+use Rattle.worker_core.specs.Recipients.{viewer_of}
 use Rattle.worker_core.proofs.Lists.{append_none, map_join}
 use Rattle.worker_core.proofs.Folds.{dispatches_told}
 use Rattle.worker_core.proofs.Logs.{state_id}
@@ -48,7 +48,7 @@ pub record First {A : Type 0} (p : A → Bool) (xs : List A) (i : ℕ) : Type 0 
   pub item : A
   pub back : List A
   pub whole : xs ≡ front ++ item ∷ back
-  pub place : i ≡ length front
+  pub index : i ≡ length front
   pub found : find p xs ≡ Some item
   pub changes : (f : A → A) → change_first p f xs ≡ front ++ f item ∷ back
 
@@ -58,13 +58,13 @@ first_later p x xs i differ rest = record {
   item = rest.item;
   back = rest.back;
   whole = ap (λ ys. x ∷ ys) rest.whole;
-  place = ap suc rest.place;
+  index = ap suc rest.index;
   found = simp differ rest.found;
   changes = λ f. simp differ (ap (λ ys. x ∷ ys) (rest.changes f));
 }
 
 first_here : {A : Type 0} (p : A → Bool) (x : A) (xs : List A) → p x ≡ true → First p (x ∷ xs) 0
-first_here p x xs same = record { front = []; item = x; back = xs; whole = refl; place = refl; found = simp same refl; changes = λ f. simp same refl }
+first_here p x xs same = record { front = []; item = x; back = xs; whole = refl; index = refl; found = simp same refl; changes = λ f. simp same refl }
 
 from_first : {A : Type 0} (p : A → Bool) (xs : List A) → position_or_len p xs < length xs → First p xs (position_or_len p xs)
 from_first p [] lt = absurd (omega (arith, lt))
@@ -101,46 +101,46 @@ pub there_at : {A : Type 0} (p : A → Bool) (xs : List A) (i : ℕ) → positio
 there_at p xs i is =
     let first = first_at p xs i is in
     ap (λ ys. slice_get ys i) first.whole
-    ∙ (ap (λ n. slice_get (first.front ++ first.item ∷ first.back) n) first.place ∙ (get_at first.front first.item first.back ∙ sym first.found))
+    ∙ (ap (λ n. slice_get (first.front ++ first.item ∷ first.back) n) first.index ∙ (get_at first.front first.item first.back ∙ sym first.found))
 
 -- ---- the session of a number, on what is kept
 
 pub numbered_kept : (number : ℕ) (xs : List (Session Sent)) → find (is_of number) (flat_map kept_session xs) ≡ option_map counted (numbered number xs)
 numbered_kept number [] = refl
-numbered_kept number (x ∷ xs) = by_place x.place (numbered_kept number xs)
+numbered_kept number (x ∷ xs) = by_condition x.condition (numbered_kept number xs)
   where
     by_test : (y : Session Sent) (b : Bool) (rest : Option (Session Sent)) (kept_rest : Option (Session Replay)) → kept_rest ≡ option_map counted rest
         → (if b then Some (counted y) else kept_rest) ≡ option_map counted (if b then Some y else rest)
     by_test y true rest kept_rest same = refl
     by_test y false rest kept_rest same = same
 
-    by_place : (place : Place) → find (is_of number) (flat_map kept_session xs) ≡ option_map counted (numbered number xs)
-        → find (is_of number) (kept_session (record x { place = place }) ++ flat_map kept_session xs) ≡ option_map counted (numbered number (record x { place = place } ∷ xs))
-    by_place (Attached c) same = by_test (record x { place = Attached c }) (x.number == number) (numbered number xs) (find (is_of number) (flat_map kept_session xs)) same
-    by_place (Detached since) same = by_test (record x { place = Detached since }) (x.number == number) (numbered number xs) (find (is_of number) (flat_map kept_session xs)) same
-    by_place Ended same = same
+    by_condition : (condition : Condition) → find (is_of number) (flat_map kept_session xs) ≡ option_map counted (numbered number xs)
+        → find (is_of number) (kept_session (record x { condition = condition }) ++ flat_map kept_session xs) ≡ option_map counted (numbered number (record x { condition = condition } ∷ xs))
+    by_condition (Attached c) same = by_test (record x { condition = Attached c }) (x.number == number) (numbered number xs) (find (is_of number) (flat_map kept_session xs)) same
+    by_condition (Detached since) same = by_test (record x { condition = Detached since }) (x.number == number) (numbered number xs) (find (is_of number) (flat_map kept_session xs)) same
+    by_condition Ended same = same
 
-module _ (number : ℕ) (f : Session Sent → Session Sent) (g : Session Replay → Session Replay) (same : (x : Session Sent) → is_live x.place ≡ true → kept_session (f x) ≡ g (counted x) ∷ []) where
+module _ (number : ℕ) (f : Session Sent → Session Sent) (g : Session Replay → Session Replay) (same : (x : Session Sent) → is_live x.condition ≡ true → kept_session (f x) ≡ g (counted x) ∷ []) where
   changed_kept : (xs : List (Session Sent)) → flat_map kept_session (change_first (is_numbered number) f xs) ≡ change_first (is_of number) g (flat_map kept_session xs)
   changed_kept [] = refl
-  changed_kept (x ∷ xs) = by_place x.place (changed_kept xs)
+  changed_kept (x ∷ xs) = by_condition x.condition (changed_kept xs)
     where
-      by_test : (y : Session Sent) → is_live y.place ≡ true → kept_session y ≡ counted y ∷ [] → (b : Bool)
+      by_test : (y : Session Sent) → is_live y.condition ≡ true → kept_session y ≡ counted y ∷ [] → (b : Bool)
           → flat_map kept_session (change_first (is_numbered number) f xs) ≡ change_first (is_of number) g (flat_map kept_session xs)
           → flat_map kept_session (if b then f y ∷ xs else y ∷ change_first (is_numbered number) f xs)
           ≡ (if b then g (counted y) ∷ flat_map kept_session xs else counted y ∷ change_first (is_of number) g (flat_map kept_session xs))
       by_test y live one true rest = ap (λ zs. zs ++ flat_map kept_session xs) (same y live)
       by_test y live one false rest = ap (λ zs. zs ++ flat_map kept_session (change_first (is_numbered number) f xs)) one ∙ ap (λ zs. counted y ∷ zs) rest
 
-      by_place : (place : Place) → flat_map kept_session (change_first (is_numbered number) f xs) ≡ change_first (is_of number) g (flat_map kept_session xs)
-          → flat_map kept_session (change_first (is_numbered number) f (record x { place = place } ∷ xs))
-          ≡ change_first (is_of number) g (kept_session (record x { place = place }) ++ flat_map kept_session xs)
-      by_place (Attached c) rest = by_test (record x { place = Attached c }) refl refl (x.number == number) rest
-      by_place (Detached since) rest = by_test (record x { place = Detached since }) refl refl (x.number == number) rest
-      by_place Ended rest = rest
+      by_condition : (condition : Condition) → flat_map kept_session (change_first (is_numbered number) f xs) ≡ change_first (is_of number) g (flat_map kept_session xs)
+          → flat_map kept_session (change_first (is_numbered number) f (record x { condition = condition } ∷ xs))
+          ≡ change_first (is_of number) g (kept_session (record x { condition = condition }) ++ flat_map kept_session xs)
+      by_condition (Attached c) rest = by_test (record x { condition = Attached c }) refl refl (x.number == number) rest
+      by_condition (Detached since) rest = by_test (record x { condition = Detached since }) refl refl (x.number == number) rest
+      by_condition Ended rest = rest
 
 -- what is kept of chunks that follow
-replay_chunks : (ts : List Told) (end : Option Cursors) (made : ℕ) (now : Cursors) (ds : List Dispatch) → let old : Sent = record { told = ts; end = end } in
+replay_chunks : (ts : List SentDispatch) (end : Option Cursors) (made : ℕ) (now : Cursors) (ds : List Dispatch) → let old : Sent = record { told = ts; end = end } in
     replay (record { told = ts ++ chunks_told made now ds; end = end }) ≡ pushed_all (replay old) (texts_from (replay old).last ds)
 replay_chunks ts end made now ds =
     ap (λ xs. replay_of 1024 4194304 (texts_from 0 xs))
@@ -188,7 +188,7 @@ module _ (k : KeptWorker) (w : Worker) (stands : Stands k w) where
       by_there false = refl
 
   sends_kept : (want : Want) (x : Session Sent) → kept_want_sends k want (counted x) ≡ want_sends w want x
-  sends_kept (Members ask) x = ap (λ n. sends x.place n (kept_answer k ask (counted x))) (last_is x.sent) ∙ ap (sends x.place (length x.sent.told)) (answer_kept ask x)
+  sends_kept (Members ask) x = ap (λ n. sends x.condition n (kept_answer k ask (counted x))) (last_is x.sent) ∙ ap (sends x.condition (length x.sent.told)) (answer_kept ask x)
   sends_kept (Presence status) x = presence_kept status x
   sends_kept (Voice ask) x = voice_kept ask x
 
@@ -217,16 +217,16 @@ module _ (k : KeptWorker) (w : Worker) (stands : Stands k w) where
   pub wants_spent : (number : ℕ) (want : Want) → option_map_or (want_spends w want) (numbered number w.core.sessions) false ≡ wanted_spends k number want
   wants_spent number want = sym (by_found (kept_want_spends k want) (want_spends w want) false (spends_kept want) number)
 
-  told_kept : (ask : Ask) (x : Session Sent) → is_live x.place ≡ true → kept_session (after_answer w ask x) ≡ kept_after_answer k ask (counted x) ∷ []
-  told_kept ask x live = by_place x.place live
+  told_kept : (ask : Ask) (x : Session Sent) → is_live x.condition ≡ true → kept_session (after_answer w ask x) ≡ kept_after_answer k ask (counted x) ∷ []
+  told_kept ask x live = by_condition x.condition live
     where
       more : replay (after_answer w ask x).sent ≡ pushed_all (replay x.sent) (texts_from (replay x.sent).last (kept_answer k ask (counted x)))
       more = replay_chunks x.sent.told x.sent.end w.chunks (cursors w.seen) (answer_to w ask x) ∙ ap (λ ds. pushed_all (replay x.sent) (texts_from (replay x.sent).last ds)) (sym (answer_kept ask x))
 
-      by_place : (place : Place) → is_live place ≡ true → kept_session (after_answer w ask (record x { place = place })) ≡ kept_after_answer k ask (counted (record x { place = place })) ∷ []
-      by_place (Attached c) live = ap (λ r. record { number = x.number; token = x.token; name = x.name; viewer = x.viewer; place = Attached c; sent = r } ∷ []) more
-      by_place (Detached since) live = ap (λ r. record { number = x.number; token = x.token; name = x.name; viewer = x.viewer; place = Detached since; sent = r } ∷ []) more
-      by_place Ended live = absurd (cc live)
+      by_condition : (condition : Condition) → is_live condition ≡ true → kept_session (after_answer w ask (record x { condition = condition })) ≡ kept_after_answer k ask (counted (record x { condition = condition })) ∷ []
+      by_condition (Attached c) live = ap (λ r. record { number = x.number; token = x.token; name = x.name; viewer = x.viewer; condition = Attached c; sent = r } ∷ []) more
+      by_condition (Detached since) live = ap (λ r. record { number = x.number; token = x.token; name = x.name; viewer = x.viewer; condition = Detached since; sent = r } ∷ []) more
+      by_condition Ended live = absurd (cc live)
 
   asked_stands : (ask : Ask) (number : ℕ) → Stands (kept_asked k ask number) (asked w ask number)
   asked_stands ask number = record {
@@ -311,13 +311,13 @@ module _ (old : KeptWorker) (n : ℕ) (ask : Ask) where
       none_more : old.chunks + 0 ≡ old.chunks
       none_more = omega arith
 
-  module _ (place : ℕ) (list : List Dispatch) (is : position (is_of n) old.core.sessions ≡ Some place)
-      (made : option_map_or (kept_answer old ask) (slice_get old.core.sessions place) [] ≡ list) where
-    first : First (is_of n) old.core.sessions place
-    first = first_at (is_of n) old.core.sessions place is
+  module _ (index : ℕ) (list : List Dispatch) (is : position (is_of n) old.core.sessions ≡ Some index)
+      (made : option_map_or (kept_answer old ask) (slice_get old.core.sessions index) [] ≡ list) where
+    first : First (is_of n) old.core.sessions index
+    first = first_at (is_of n) old.core.sessions index is
 
     here : list ≡ kept_answer old ask first.item
-    here = sym made ∙ ap (λ o. option_map_or (kept_answer old ask) o []) (found_at place first.front first.item first.back old.core (first.whole, first.place))
+    here = sym made ∙ ap (λ o. option_map_or (kept_answer old ask) o []) (found_at index first.front first.item first.back old.core (first.whole, first.index))
 
     spent_here : wanted_spends old n (Members ask) ≡ chunks_spend old.chunks first.item.sent.last (length list)
     spent_here =
@@ -329,10 +329,10 @@ module _ (old : KeptWorker) (n : ℕ) (ask : Ask) where
     uncounted past = spent_here ∙ ap (λ b. b || is_past first.item.sent.last (length list)) past
 
     pub answer_made : (k1 new : KeptWorker) (before out : List Written) → k1 ≡ record old { chunks = old.chunks + length list } → is_past old.chunks (length list) ≡ false
-        → new ≡ record k1 { core = new.core } → TellsAt place (λ x. list) k1.core new.core before out → Gives old n (Members ask) new before out
+        → new ≡ record k1 { core = new.core } → TellsAt index (λ x. list) k1.core new.core before out → Gives old n (Members ask) new before out
     answer_made k1 new before out counted_as few kept_else told =
         let core : k1.core ≡ old.core = ap (λ (k : KeptWorker). k.core) counted_as in
-        let all = told first.front first.back first.item (ap (λ (s : State Replay). s.sessions) core ∙ first.whole, first.place) in
+        let all = told first.front first.back first.item (ap (λ (s : State Replay). s.sessions) core ∙ first.whole, first.index) in
         let item : Session Replay = first.item in
         let changes : change_first (is_of n) (kept_after_answer old ask) old.core.sessions ≡ first.front ++ further list item ∷ first.back =
         first.changes (kept_after_answer old ask) ∙ ap (λ ds. first.front ++ further ds item ∷ first.back) (sym here) in
@@ -346,22 +346,22 @@ module _ (old : KeptWorker) (n : ℕ) (ask : Ask) where
               ∙ ap (λ m. record old { chunks = old.chunks + m; core = kept_with (change_first (is_of n) (kept_after_answer old ask) old.core.sessions) old.core }) (sym more))),
           (
             all.1.0
-                ∙ (ap (λ ds. before ++ all_written (sends item.place item.sent.last ds)) here
+                ∙ (ap (λ ds. before ++ all_written (sends item.condition item.sent.last ds)) here
                 ∙ ap (λ o. before ++ all_written (option_map_or (kept_want_sends old (Members ask)) o [])) (sym first.found)),
             spent_here ∙ (or_is (is_past old.chunks (length list)) (is_past item.sent.last (length list)) few ∙ all.1.1),
           ),
         )
 
     pub answer_fails : (k1 : KeptWorker) (fault : StepFault) → k1 ≡ record old { chunks = old.chunks + length list } → is_past old.chunks (length list) ≡ false
-        → FailsAt place (λ x. list) k1.core fault → GivesNot old n (Members ask) fault
+        → FailsAt index (λ x. list) k1.core fault → GivesNot old n (Members ask) fault
     answer_fails k1 fault counted_as few fails =
         let core : k1.core ≡ old.core = ap (λ (k : KeptWorker). k.core) counted_as in
-        let past = fails first.front first.back first.item (ap (λ (s : State Replay). s.sessions) core ∙ first.whole, first.place) in
+        let past = fails first.front first.back first.item (ap (λ (s : State Replay). s.sessions) core ∙ first.whole, first.index) in
         subst (λ b. FaultBy b fault) (sym (spent_here ∙ or_is (is_past old.chunks (length list)) (is_past first.item.sent.last (length list)) few)) past
 
     pub answer_ends : {V : Type 0} (result : Result V StepFault) (k1 new : KeptWorker) (before out : List Written) → k1 ≡ record old { chunks = old.chunks + length list } → is_past old.chunks (length list) ≡ false
         → OnOk result (new ≡ record k1 { core = new.core })
-        → MatchResult result (λ v. TellsAt place (λ x. list) k1.core new.core before out) (FailsAt place (λ x. list) k1.core)
+        → MatchResult result (λ v. TellsAt index (λ x. list) k1.core new.core before out) (FailsAt index (λ x. list) k1.core)
         → MatchResult result (λ v. Gives old n (Members ask) new before out) (GivesNot old n (Members ask))
     answer_ends (Ok v) k1 new before out counted_as few kept_else told = answer_made k1 new before out counted_as few kept_else told
     answer_ends (Err fault) k1 new before out counted_as few kept_else told = answer_fails k1 fault counted_as few told

@@ -20,10 +20,10 @@ use Rattle.edit_events.specs.Law.{Agrees}
 use Rattle.session_core.specs.declared.bot.Bot.{Bot}
 use Rattle.session_core.specs.declared.reply.Mark.{Mark}
 use Rattle.session_core.specs.declared.reply.Mark.TheVariants.{Start, Entry}
-use Rattle.session_core.specs.State.{State, Session, Place, Attached, Detached, Ended, is_live, has_link, released, opened, gone, begun}
+use Rattle.session_core.specs.State.{State, Session, Condition, Attached, Detached, Ended, is_live, has_connection, released, opened, gone, begun}
 use Rattle.session_core.specs.Resume.{joined, attached_to, resumed}
 use Rattle.session_core.specs.Ends.{is_final, lost, all_gone, left_of, left, client_closed, kept_for, silent_of}
-use Rattle.worker_core.specs.World.{Seen, Cursors, cursors, seen_with, Told, told, Sent, Worker, after_entry, entered, looked, greeting_of, ready, first_dispatches, begins_with, ended_at, passed}
+use Rattle.worker_core.specs.World.{Seen, Cursors, cursors, seen_with, SentDispatch, told, Sent, Worker, after_entry, entered, looked, greeting_of, ready, first_dispatches, begins_with, ended_at, passed}
 use Rattle.worker_core.specs.Law.{held, last_cursors}
 use Rattle.worker_core.specs.Entries.{first_cursors}
 use Rattle.worker_core.proofs.Folds.{held_join, state_join}
@@ -57,7 +57,7 @@ module _ (seen : Seen) (g : ℕ) (e : Edit) where
       by_id false le = inl le
 
   -- a client that held the projection holds that of the longer log
-  module _ (v : Viewer) (sent : List Told) (mark : Mark) (old : Meets seen (cursors seen) v sent) where
+  module _ (v : Viewer) (sent : List SentDispatch) (mark : Mark) (old : Meets seen (cursors seen) v sent) where
     abbrev pub ds : List Dispatch
     ds = owed (state g (seen g)) e v
 
@@ -92,34 +92,34 @@ module _ (seen : Seen) (g : ℕ) (e : Edit) where
     after_more = more_sent seen is v sent mark ds prefix_kept longer by_one old.folds old.rises old.past held_after
 
 -- only of a session that has ended the last cursors are kept
-abbrev pub IsMarked : Place → Option Cursors → Type 0
+abbrev pub IsMarked : Condition → Option Cursors → Type 0
 IsMarked (Attached conn) end = end ≡ None
 IsMarked (Detached since) end = end ≡ None
 IsMarked Ended end = (last : Cursors) × (end ≡ Some last)
 
 pub record SessionMeets (seen : Seen) (x : Session Sent) : Type 0 where
   pub meets : Meets seen (last_cursors (cursors seen) x) x.viewer x.sent.told
-  pub marked : IsMarked x.place x.sent.end
+  pub marked : IsMarked x.condition x.sent.end
   pub entries : Entries seen (last_cursors (cursors seen) x) x.viewer x.sent.told
 
-abbrev pub at : Session Sent → Place → Option Cursors → Session Sent
-at x place end = record x { place = place; sent = record { told = x.sent.told; end = end } }
+abbrev pub at : Session Sent → Condition → Option Cursors → Session Sent
+at x condition end = record x { condition = condition; sent = record { told = x.sent.told; end = end } }
 
 session_entered : (seen : Seen) (g : ℕ) (e : Edit) → (x : Session Sent) → SessionMeets seen x → SessionMeets (seen_with seen g e) (after_entry seen g e x)
-session_entered seen g e x = by_place x.place x.sent.end
+session_entered seen g e x = by_condition x.condition x.sent.end
   where
-    live_on : (place : Place) → is_live place ≡ true → IsMarked place None → Meets seen (cursors seen) x.viewer x.sent.told → Entries seen (cursors seen) x.viewer x.sent.told → SessionMeets (seen_with seen g e) (after_entry seen g e (at x place None))
+    live_on : (condition : Condition) → is_live condition ≡ true → IsMarked condition None → Meets seen (cursors seen) x.viewer x.sent.told → Entries seen (cursors seen) x.viewer x.sent.told → SessionMeets (seen_with seen g e) (after_entry seen g e (at x condition None))
     live_on (Attached conn) live marked old entries = record { meets = after_more seen g e x.viewer x.sent.told (Entry g (length (seen g) + 1)) old; marked = refl; entries = entries_after seen g e x.viewer x.sent.told entries }
     live_on (Detached since) live marked old entries = record { meets = after_more seen g e x.viewer x.sent.told (Entry g (length (seen g) + 1)) old; marked = refl; entries = entries_after seen g e x.viewer x.sent.told entries }
     live_on Ended live marked old entries = absurd (cc live)
 
-    by_place : (place : Place) (end : Option Cursors) → SessionMeets seen (at x place end) → SessionMeets (seen_with seen g e) (after_entry seen g e (at x place end))
-    by_place (Attached conn) None old = live_on (Attached conn) refl refl old.meets old.entries
-    by_place (Attached conn) (Some last) old = absurd (cc (old.marked))
-    by_place (Detached since) None old = live_on (Detached since) refl refl old.meets old.entries
-    by_place (Detached since) (Some last) old = absurd (cc (old.marked))
-    by_place Ended None old = absurd (cc (old.marked.1))
-    by_place Ended (Some last) old = record {
+    by_condition : (condition : Condition) (end : Option Cursors) → SessionMeets seen (at x condition end) → SessionMeets (seen_with seen g e) (after_entry seen g e (at x condition end))
+    by_condition (Attached conn) None old = live_on (Attached conn) refl refl old.meets old.entries
+    by_condition (Attached conn) (Some last) old = absurd (cc (old.marked))
+    by_condition (Detached since) None old = live_on (Detached since) refl refl old.meets old.entries
+    by_condition (Detached since) (Some last) old = absurd (cc (old.marked))
+    by_condition Ended None old = absurd (cc (old.marked.1))
+    by_condition Ended (Some last) old = record {
       meets = grown seen (seen_with seen g e) last x.viewer x.sent.told
           (λ h p le. prefix_kept seen g e h p (omega (arith, old.meets.within h, le)))
           (λ h. omega (arith, old.meets.within h, longer seen g e h)) old.meets;
@@ -150,18 +150,18 @@ pub looked_follows : (es : List Edit) (w : Worker) (g : ℕ) → contains g w.gu
 looked_follows [] w g there old = old
 looked_follows (e ∷ es) w g there old = looked_follows es (entered w g e) g there (entered_follows w g e there old)
 
--- a session whose connection is gone goes on detached
+-- a session whose connection is gone stays detached
 released_meets : (seen : Seen) (conn now : ℕ) (x : Session Sent) → SessionMeets seen x → SessionMeets seen (released conn (Detached now) x)
-released_meets seen conn now x = by_place x.place
+released_meets seen conn now x = by_condition x.condition
   where
-    choose : (b : Bool) (c : ℕ) → SessionMeets seen (record x { place = Attached c }) → SessionMeets seen (if b then record x { place = Detached now } else record x { place = Attached c })
+    choose : (b : Bool) (c : ℕ) → SessionMeets seen (record x { condition = Attached c }) → SessionMeets seen (if b then record x { condition = Detached now } else record x { condition = Attached c })
     choose true c old = record { meets = old.meets; marked = old.marked; entries = old.entries }
     choose false c old = old
 
-    by_place : (place : Place) → SessionMeets seen (record x { place = place }) → SessionMeets seen (released conn (Detached now) (record x { place = place }))
-    by_place (Attached c) old = choose (c == conn) c old
-    by_place (Detached since) old = old
-    by_place Ended old = old
+    by_condition : (condition : Condition) → SessionMeets seen (record x { condition = condition }) → SessionMeets seen (released conn (Detached now) (record x { condition = condition }))
+    by_condition (Attached c) old = choose (c == conn) c old
+    by_condition (Detached since) old = old
+    by_condition Ended old = old
 
 pub gone_follows : (w : Worker) (conn : ℕ) → Follows w → Follows (record w { core = gone conn (Detached w.now) w.core })
 gone_follows w conn old = record {
@@ -183,24 +183,24 @@ begun_follows w conn bot v old = record {
   strangers = old.strangers;
 }
   where
-    none : (earlier : List Told) (t : Told) (later : List Told) → [] ≡ earlier ++ t ∷ later → ⊥
+    none : (earlier : List SentDispatch) (t : SentDispatch) (later : List SentDispatch) → [] ≡ earlier ++ t ∷ later → ⊥
     none [] t later e = cc
     none (x ∷ earlier) t later e = cc
 
--- a session that goes on
+-- a session that resumes
 joined_meets : (seen : Seen) (conn number : ℕ) (x : Session Sent) → SessionMeets seen x → SessionMeets seen (joined conn number x)
-joined_meets seen conn number x = by_place x.place
+joined_meets seen conn number x = by_condition x.condition
   where
-    choose : (b : Bool) (place : Place) → is_live place ≡ true → SessionMeets seen (record x { place = place }) → SessionMeets seen (if b then record x { place = Attached conn } else record x { place = place })
+    choose : (b : Bool) (condition : Condition) → is_live condition ≡ true → SessionMeets seen (record x { condition = condition }) → SessionMeets seen (if b then record x { condition = Attached conn } else record x { condition = condition })
     choose true (Attached c) live old = record { meets = old.meets; marked = old.marked; entries = old.entries }
     choose true (Detached since) live old = record { meets = old.meets; marked = old.marked; entries = old.entries }
     choose true Ended live old = absurd (cc live)
-    choose false place live old = old
+    choose false condition live old = old
 
-    by_place : (place : Place) → SessionMeets seen (record x { place = place }) → SessionMeets seen (joined conn number (record x { place = place }))
-    by_place (Attached c) old = choose (x.number == number) (Attached c) refl old
-    by_place (Detached since) old = choose (x.number == number) (Detached since) refl old
-    by_place Ended old = old
+    by_condition : (condition : Condition) → SessionMeets seen (record x { condition = condition }) → SessionMeets seen (joined conn number (record x { condition = condition }))
+    by_condition (Attached c) old = choose (x.number == number) (Attached c) refl old
+    by_condition (Detached since) old = choose (x.number == number) (Detached since) refl old
+    by_condition Ended old = old
 
 joined_follows : (w : Worker) (conn number : ℕ) → Follows w → Follows (record w { core = attached_to conn number w.core })
 joined_follows w conn number old = record {
@@ -214,12 +214,12 @@ resumed_follows w conn number None old = joined_follows w conn number old
 resumed_follows w conn number (Some c) old = joined_follows (record w { core = gone c (Detached w.now) w.core }) conn number (gone_follows w c old)
 
 pub opened_follows : (w : Worker) (conn : ℕ) → Follows w → Follows (record w { core = opened conn w.now w.core })
-opened_follows w conn old = by_link (has_link conn w.core) (nat_lt (length w.core.links) 64)
+opened_follows w conn old = by_connection (has_connection conn w.core) (nat_lt (length w.core.connections) 64)
   where
-    by_link : (b c : Bool) → Follows (record w { core = if b then w.core else (if c then record w.core { links = w.core.links ++ record { number = conn; heard = w.now; times = [] } ∷ [] } else w.core) })
-    by_link true c = old
-    by_link false true = record { sessions = old.sessions; strangers = old.strangers }
-    by_link false false = old
+    by_connection : (b c : Bool) → Follows (record w { core = if b then w.core else (if c then record w.core { connections = w.core.connections ++ record { number = conn; last_heartbeat_ms = w.now; times = [] } ∷ [] } else w.core) })
+    by_connection true c = old
+    by_connection false true = record { sessions = old.sessions; strangers = old.strangers }
+    by_connection false false = old
 
 -- what ends, or is lost
 
@@ -231,34 +231,34 @@ single : (seen : Seen) (x : Session Sent) → SessionMeets seen x → All (Sessi
 single seen x old = All-cons (SessionMeets seen) x [] old (All-nil (SessionMeets seen))
 
 -- a session that has not ended, as it ends
-ended_meets : (seen : Seen) (x : Session Sent) (place : Place) → Meets seen (cursors seen) x.viewer x.sent.told → Entries seen (cursors seen) x.viewer x.sent.told → All (SessionMeets seen) (ended_at (cursors seen) (at x place None))
-ended_meets seen x place old entries = All-cons (SessionMeets seen) _ [] (record { meets = old; marked = (cursors seen, refl); entries = entries }) (All-nil (SessionMeets seen))
+ended_meets : (seen : Seen) (x : Session Sent) (condition : Condition) → Meets seen (cursors seen) x.viewer x.sent.told → Entries seen (cursors seen) x.viewer x.sent.told → All (SessionMeets seen) (ended_at (cursors seen) (at x condition None))
+ended_meets seen x condition old entries = All-cons (SessionMeets seen) _ [] (record { meets = old; marked = (cursors seen, refl); entries = entries }) (All-nil (SessionMeets seen))
 
 left_meets : (seen : Seen) (conn : ℕ) (x : Session Sent) → SessionMeets seen x → All (SessionMeets seen) (left_of (ended_at (cursors seen)) conn x)
-left_meets seen conn x = by_place x.place x.sent.end
+left_meets seen conn x = by_condition x.condition x.sent.end
   where
     choose : (b : Bool) (c : ℕ) → SessionMeets seen (at x (Attached c) None) → All (SessionMeets seen) (if b then ended_at (cursors seen) (at x (Attached c) None) else at x (Attached c) None ∷ [])
     choose true c old = ended_meets seen x (Attached c) old.meets old.entries
     choose false c old = single seen (at x (Attached c) None) old
 
-    by_place : (place : Place) (end : Option Cursors) → SessionMeets seen (at x place end) → All (SessionMeets seen) (left_of (ended_at (cursors seen)) conn (at x place end))
-    by_place (Attached c) None old = choose (c == conn) c old
-    by_place (Attached c) (Some last) old = absurd (cc (old.marked))
-    by_place (Detached since) end old = single seen (at x (Detached since) end) old
-    by_place Ended end old = single seen (at x Ended end) old
+    by_condition : (condition : Condition) (end : Option Cursors) → SessionMeets seen (at x condition end) → All (SessionMeets seen) (left_of (ended_at (cursors seen)) conn (at x condition end))
+    by_condition (Attached c) None old = choose (c == conn) c old
+    by_condition (Attached c) (Some last) old = absurd (cc (old.marked))
+    by_condition (Detached since) end old = single seen (at x (Detached since) end) old
+    by_condition Ended end old = single seen (at x Ended end) old
 
 kept_meets : (seen : Seen) (now : ℕ) (x : Session Sent) → SessionMeets seen x → All (SessionMeets seen) (kept_for (ended_at (cursors seen)) now x)
-kept_meets seen now x = by_place x.place x.sent.end
+kept_meets seen now x = by_condition x.condition x.sent.end
   where
     choose : (b : Bool) (since : ℕ) → SessionMeets seen (at x (Detached since) None) → All (SessionMeets seen) (if b then ended_at (cursors seen) (at x (Detached since) None) else at x (Detached since) None ∷ [])
     choose true since old = ended_meets seen x (Detached since) old.meets old.entries
     choose false since old = single seen (at x (Detached since) None) old
 
-    by_place : (place : Place) (end : Option Cursors) → SessionMeets seen (at x place end) → All (SessionMeets seen) (kept_for (ended_at (cursors seen)) now (at x place end))
-    by_place (Attached c) end old = single seen (at x (Attached c) end) old
-    by_place (Detached since) None old = choose (nat_le (since + 180000) now) since old
-    by_place (Detached since) (Some last) old = absurd (cc (old.marked))
-    by_place Ended end old = single seen (at x Ended end) old
+    by_condition : (condition : Condition) (end : Option Cursors) → SessionMeets seen (at x condition end) → All (SessionMeets seen) (kept_for (ended_at (cursors seen)) now (at x condition end))
+    by_condition (Attached c) end old = single seen (at x (Attached c) end) old
+    by_condition (Detached since) None old = choose (nat_le (since + 180000) now) since old
+    by_condition (Detached since) (Some last) old = absurd (cc (old.marked))
+    by_condition Ended end old = single seen (at x Ended end) old
 
 abbrev with_core : Worker → State Sent → Worker
 with_core w s = record w { core = s }
@@ -271,14 +271,14 @@ gone_at w conn now old = record {
 }
 
 pub lost_follows : (w : Worker) (conn : ℕ) → Follows w → Follows (with_core w (lost conn w.now w.core))
-lost_follows w conn old = by_link (has_link conn w.core)
+lost_follows w conn old = by_connection (has_connection conn w.core)
   where
-    by_link : (b : Bool) → Follows (with_core w (if b then gone conn (Detached w.now) w.core else w.core))
-    by_link true = gone_at w conn w.now old
-    by_link false = record { sessions = old.sessions; strangers = old.strangers }
+    by_connection : (b : Bool) → Follows (with_core w (if b then gone conn (Detached w.now) w.core else w.core))
+    by_connection true = gone_at w conn w.now old
+    by_connection false = record { sessions = old.sessions; strangers = old.strangers }
 
 pub closed_follows : (w : Worker) (conn code : ℕ) → Follows w → Follows (with_core w (client_closed (ended_at (cursors w.seen)) conn code w.now w.core))
-closed_follows w conn code old = by_code (is_final code) (has_link conn w.core)
+closed_follows w conn code old = by_code (is_final code) (has_connection conn w.core)
   where
     by_code : (final there : Bool) → Follows (with_core w (if final then (if there then left (ended_at (cursors w.seen)) conn w.core else w.core) else lost conn w.now w.core))
     by_code false there = lost_follows w conn old
@@ -294,8 +294,8 @@ all_gone_follows (conn ∷ conns) now w old = all_gone_follows conns now (with_c
 
 pub ticked_follows : (w : Worker) (now : ℕ) → Follows w → Follows (passed w now)
 ticked_follows w now old =
-    let before : Follows (with_core w (all_gone (silent_of now w.core.links) now w.core)) = all_gone_follows (silent_of now w.core.links) now w old in
+    let before : Follows (with_core w (all_gone (silent_of now w.core.connections) now w.core)) = all_gone_follows (silent_of now w.core.connections) now w old in
     record {
-      sessions = each_all (SessionMeets w.seen) (kept_for (ended_at (cursors w.seen)) now) (kept_meets w.seen now) (all_gone (silent_of now w.core.links) now w.core).sessions before.sessions;
+      sessions = each_all (SessionMeets w.seen) (kept_for (ended_at (cursors w.seen)) now) (kept_meets w.seen now) (all_gone (silent_of now w.core.connections) now w.core).sessions before.sessions;
       strangers = old.strangers;
     }

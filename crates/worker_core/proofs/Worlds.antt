@@ -12,7 +12,7 @@ use Rattle.edit_apply.specs.Edits.{state}
 use Rattle.edit_events.proofs.Messages.{messages-shown}
 use Rattle.session_core.specs.declared.bot.Bot.{Bot}
 use Rattle.session_core.specs.State.{Session}
-use Rattle.session_core.specs.Frames.{Members, Presence, Voice, Move, Nothing, Answers, Shuts, Begins, Denies, Resumes, Wants, move_of}
+use Rattle.session_core.specs.Frames.{Members, Presence, Voice, Move, Nothing, Answers, ClosesWith, Begins, Denies, Resumes, Wants, move_of}
 use Rattle.worker_core.specs.World.{Seen, Cursors, cursors, seen_with, Sent, replay, Worker, entered, looked, Look, Open, Frame, Lost, Closed, Tick, framed, taken, World, Step, Edits, Looks, Opens, Frames, Loses, Leaves, Ticks, at_worker, stepped, run}
 use Rattle.worker_core.specs.Law.{SessionHolds, WorkerHolds, EachRunHolds, last_cursors, first_of, first_world}
 use Rattle.worker_core.specs.Entries.{first_cursors, SessionEntriesHold, EachEntryHolds, MessagesHold, EachMessageHolds}
@@ -69,7 +69,7 @@ look_front logs g w front h = by_there (contains g w.guilds)
 framed_seen : (w : Worker) (conn : ℕ) (move : Move) → (framed w conn move).seen ≡ w.seen
 framed_seen w conn Nothing = refl
 framed_seen w conn Answers = refl
-framed_seen w conn (Shuts code) = refl
+framed_seen w conn (ClosesWith code) = refl
 framed_seen w conn (Begins bot viewer) = refl
 framed_seen w conn Denies = refl
 framed_seen w conn (Resumes number older seq held) = refl

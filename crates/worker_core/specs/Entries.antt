@@ -13,7 +13,7 @@ use Rattle.session_core.specs.declared.bot.Bot.{Bot}
 use Rattle.session_core.specs.declared.reply.Mark.{Mark}
 use Rattle.session_core.specs.declared.reply.Mark.TheVariants.{Entry}
 use Rattle.session_core.specs.State.{Session}
-use Rattle.worker_core.specs.World.{Cursors, cursors, Told, dispatch_of, Sent, Worker, Step, run}
+use Rattle.worker_core.specs.World.{Cursors, cursors, SentDispatch, dispatch_of, Sent, Worker, Step, run}
 use Rattle.worker_core.specs.Law.{last_cursors, first_world}
 
 abbrev pub is_for : ℕ → ℕ → Mark → Bool
@@ -21,17 +21,17 @@ is_for g p (Entry h q) = (h == g) && (q == p)
 is_for g p _ = false
 
 -- the dispatches that were made for entry p of guild g
-abbrev pub made_for : ℕ → ℕ → List Told → List Dispatch
-made_for g p ts = map dispatch_of (filter (λ (t : Told). is_for g p t.mark) ts)
+abbrev pub made_for : ℕ → ℕ → List SentDispatch → List Dispatch
+made_for g p ts = map dispatch_of (filter (λ (t : SentDispatch). is_for g p t.mark) ts)
 
 -- the cursors as a session began
-abbrev pub first_cursors : List Told → Cursors
+abbrev pub first_cursors : List SentDispatch → Cursors
 first_cursors [] = λ g. 0
 first_cursors (t ∷ ts) = t.before
 
 -- for each entry that was handled while the session was there, exactly what it owed by the record before
 -- it, and nothing for any other
-pub record EntriesHold (logs : ℕ → List Edit) (start last : Cursors) (v : Viewer) (sent : List Told) : Type 0 where
+pub record EntriesHold (logs : ℕ → List Edit) (start last : Cursors) (v : Viewer) (sent : List SentDispatch) : Type 0 where
   pub handled : (g : ℕ) (front : List Edit) (e : Edit) → take (length front + 1) (logs g) ≡ front ++ e ∷ [] → start g ≤ length front → length front + 1 ≤ last g
       → made_for g (length front + 1) sent ≡ owed (state g front) e v
   pub before : (g p : ℕ) → p ≤ start g → made_for g p sent ≡ []
@@ -47,7 +47,7 @@ EachEntryHolds = (bots : List Bot) (guilds : List ℕ) (places : List (ℕ × Li
     → let world = run (first_world bots guilds places) steps in All (λ (w : Worker). All (SessionEntriesHold world.logs (cursors w.seen)) w.core.sessions) world.workers
 
 -- an accepted edit of messages that was handled while the session was there: its dispatch stands under its
--- mark, once, exactly where it is shown by the record after that very entry
+-- mark, once, exactly if it is shown by the record after that very entry
 abbrev pub MessagesHold : (ℕ → List Edit) → Cursors → Session Sent → Type 0
 MessagesHold logs now x = (g : ℕ) (front : List Edit) (e : MessageEdit) → take (length front + 1) (logs g) ≡ front ++ edit.Message e ∷ []
     → first_cursors x.sent.told g ≤ length front → length front + 1 ≤ last_cursors now x g → accepts (state g front) (edit.Message e) ≡ true

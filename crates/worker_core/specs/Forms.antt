@@ -9,21 +9,21 @@ use Rattle.edit_apply.specs.declared.Edit.{Edit}
 use Rattle.edit_apply.specs.Edits.{applied}
 use Rattle.edit_events.specs.Due.{owed}
 use Rattle.edit_events.specs.Forms.{form_after}
-use Rattle.worker_core.specs.declared.form_places.FormPlaces.{FormPlaces}
+use Rattle.worker_core.specs.declared.form_index.FormIndex.{FormIndex}
 
-abbrev pub place_of_form : FormPlaces → Option MessageForm → Option ℕ
-place_of_form places None = None
-place_of_form places (Some Hidden) = places.hidden
-place_of_form places (Some Emptied) = places.emptied
-place_of_form places (Some Whole) = places.whole
+abbrev pub index_of_form : FormIndex → Option MessageForm → Option ℕ
+index_of_form indexes None = None
+index_of_form indexes (Some Hidden) = indexes.hidden
+index_of_form indexes (Some Emptied) = indexes.emptied
+index_of_form indexes (Some Whole) = indexes.whole
 
-abbrev pub with_place : FormPlaces → Option MessageForm → ℕ → FormPlaces
-with_place places None place = places
-with_place places (Some Hidden) place = record places { hidden = Some place }
-with_place places (Some Emptied) place = record places { emptied = Some place }
-with_place places (Some Whole) place = record places { whole = Some place }
+abbrev pub with_index : FormIndex → Option MessageForm → ℕ → FormIndex
+with_index indexes None index = indexes
+with_index indexes (Some Hidden) index = record indexes { hidden = Some index }
+with_index indexes (Some Emptied) index = record indexes { emptied = Some index }
+with_index indexes (Some Whole) index = record indexes { whole = Some index }
 
--- what stands at the place of a form is owed to every viewer of that form
-abbrev pub AreOwed : Record → Edit → List (List Dispatch) → FormPlaces → Type 0
-AreOwed s e told places = (f : MessageForm) (place : ℕ) (v : Viewer)
-    → place_of_form places (Some f) ≡ Some place → form_after s (applied s e) e v ≡ Some f → slice_get told place ≡ Some (owed s e v)
+-- what stands at the index of a form is owed to every viewer of that form
+abbrev pub AreOwed : Record → Edit → List (List Dispatch) → FormIndex → Type 0
+AreOwed s e told indexes = (f : MessageForm) (index : ℕ) (v : Viewer)
+    → index_of_form indexes (Some f) ≡ Some index → form_after s (applied s e) e v ≡ Some f → slice_get told index ≡ Some (owed s e v)

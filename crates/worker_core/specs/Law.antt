@@ -8,30 +8,30 @@ use Rattle.edit_apply.specs.declared.Edit.{Edit}
 use Rattle.edit_events.specs.Law.{Agrees}
 use Rattle.session_core.specs.declared.bot.Bot.{Bot}
 use Rattle.session_core.specs.State.{Session, is_on}
-use Rattle.worker_core.specs.World.{Cursors, cursors, Told, dispatch_of, Sent, Worker, World, Step, Output, Says, Tells, Closes, Wishes, Input, taken, outputs, run, first_worker}
+use Rattle.worker_core.specs.World.{Cursors, cursors, SentDispatch, dispatch_of, Sent, Worker, World, Step, Output, Says, Tells, Closes, Wishes, Input, taken, outputs, run, first_worker}
 
 -- what a client holds of a guild after all of these
-abbrev pub held : Viewer → ℕ → List Told → Held
+abbrev pub held : Viewer → ℕ → List SentDispatch → Held
 held v g ts = fold v.intents g (map dispatch_of ts)
 
 -- the next dispatch is not there, or has another mark
-abbrev pub IsSettled : Told → List Told → Type 0
+abbrev pub IsSettled : SentDispatch → List SentDispatch → Type 0
 IsSettled t [] = Unit {0}
 IsSettled t (next ∷ later) = ¬ (t.mark ≡ next.mark)
 
--- the cursors just before the entry or frame that made the next dispatch, or the last ones where there is none
-abbrev pub until_next : Cursors → List Told → Cursors
+-- the cursors just before the entry or frame that made the next dispatch, or the last ones if there is none
+abbrev pub until_next : Cursors → List SentDispatch → Cursors
 until_next last [] = last
 until_next last (next ∷ later) = next.before
 
 -- after each settled dispatch a client holds the projection of each prefix in its span
-abbrev pub Holds : (ℕ → List Edit) → Cursors → Viewer → List Told → Type 0
-Holds logs last v told = (earlier : List Told) (t : Told) (later : List Told) → told ≡ earlier ++ t ∷ later → IsSettled t later
+abbrev pub Holds : (ℕ → List Edit) → Cursors → Viewer → List SentDispatch → Type 0
+Holds logs last v told = (earlier : List SentDispatch) (t : SentDispatch) (later : List SentDispatch) → told ≡ earlier ++ t ∷ later → IsSettled t later
     → (g p : ℕ) → t.after g ≤ p → p ≤ until_next last later g
     → Agrees (state g (take p (logs g))) v (held v g (earlier ++ t ∷ []))
 
 -- the cursors do not fall from dispatch to dispatch, up to the last ones
-abbrev pub Rises : Cursors → List Told → Type 0
+abbrev pub Rises : Cursors → List SentDispatch → Type 0
 Rises last [] = Unit {0}
 Rises last (t ∷ []) = (g : ℕ) → t.after g ≤ last g
 Rises last (t ∷ next ∷ later) = ((g : ℕ) → t.after g ≤ next.after g) × Rises last (next ∷ later)
@@ -67,7 +67,7 @@ IsNumber n d ds = (front : List Dispatch) × ((back : List Dispatch) × ((ds ≡
 -- a session of the connection has this dispatch as its number n
 abbrev pub HasSent : ℕ → ℕ → Dispatch → List (Session Sent) → Type 0
 HasSent conn n d [] = ⊥
-HasSent conn n d (x ∷ xs) = ((is_on conn x.place ≡ true) × IsNumber n d (map dispatch_of x.sent.told)) ⊎ HasSent conn n d xs
+HasSent conn n d (x ∷ xs) = ((is_on conn x.condition ≡ true) × IsNumber n d (map dispatch_of x.sent.told)) ⊎ HasSent conn n d xs
 
 abbrev pub OutputHolds : List (Session Sent) → Output → Type 0
 OutputHolds xs (Tells conn number dispatch) = HasSent conn number dispatch xs

@@ -1,4 +1,4 @@
-pub mod Audience
+pub mod Recipients
 pub mod Forms
 pub mod World
 pub mod Law

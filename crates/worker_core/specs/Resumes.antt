@@ -4,14 +4,14 @@ use Rattle.gateway_frames.specs.declared.frame.Resume.{Resume}
 use Rattle.gateway_frames.specs.declared.frame.Frame.TheVariants as frame
 use Rattle.gateway_frames.specs.declared.out.Out.TheVariants.{Invalid, Resumed}
 use Rattle.gateway_frames.specs.Read.{frame_of}
-use Rattle.session_core.specs.State.{Session, Attached, attached, has_link, has_session}
+use Rattle.session_core.specs.State.{Session, Attached, attached, has_connection, has_session}
 use Rattle.session_core.specs.Rate.{is_rated}
 use Rattle.session_core.specs.Resume.{session_named}
 use Rattle.worker_core.specs.World.{Sent, dispatches, replay, Worker, Output, Says, Closes, sends, older_sends, numbered, Frame, taken, outputs}
 
 -- a resume that is judged by what it says: its connection is open, has no session, and has not sent too many frames
 pub record Reaches (w : Worker) (conn : ℕ) (text : List ℕ) (r : Resume) : Type 0 where
-  pub linked : has_link conn w.core ≡ true
+  pub connected : has_connection conn w.core ≡ true
   pub few : is_rated conn w.now w.core ≡ false
   pub reads : frame_of text ≡ Ok (frame.Resume r)
   pub free : has_session conn w.core ≡ false
@@ -31,11 +31,11 @@ IsBeyond old conn new out = (out ≡ Closes conn 4007 ∷ []) × (new.core.sessi
 abbrev pub sent_of : Session Sent → Sent
 sent_of x = x.sent
 
--- a session goes on from a number, on this connection
+-- a session resumes from a number, on this connection
 pub record GoesOn (old : Worker) (conn seq : ℕ) (x : Session Sent) (new : Worker) (out : List Output) : Type 0 where
   -- its older connection is closed, the dispatches after the number go out with the numbers that they had, then RESUMED with the last
-  pub outputs : out ≡ older_sends (attached x.place) ++ (sends (Attached conn) seq (drop seq (dispatches x.sent)) ++ Says conn (Resumed (length (dispatches x.sent))) ∷ [])
-  pub here : numbered x.number new.core.sessions ≡ Some (record x { place = Attached conn })
+  pub outputs : out ≡ older_sends (attached x.condition) ++ (sends (Attached conn) seq (drop seq (dispatches x.sent)) ++ Says conn (Resumed (length (dispatches x.sent))) ∷ [])
+  pub here : numbered x.number new.core.sessions ≡ Some (record x { condition = Attached conn })
   -- no session was sent a dispatch: RESUMED is none
   pub sent : map sent_of new.core.sessions ≡ map sent_of old.core.sessions
 
@@ -50,7 +50,7 @@ pub record ResumeHolds (old : Worker) (conn : ℕ) (r : Resume) (new : Worker) (
   pub covered : (x : Session Sent) → session_named r.session old.core ≡ Some x → x.token ≡ r.token
       → Covers x.sent r.seq → GoesOn old conn r.seq x new out
 
--- a resume that is judged by what it says goes on exactly where a live session has its id and token and covers its number
+-- a resume that is judged by its content is granted exactly if a live session has its id and token and covers its number
 unfoldable pub EachResumeHolds : Type 0
 EachResumeHolds = (w : Worker) (conn : ℕ) (text : List ℕ) (r : Resume) → Reaches w conn text r
     → ResumeHolds w conn r (taken w (Frame conn text)) (outputs w (Frame conn text))

@@ -10,7 +10,7 @@ use Rattle.edit_apply.specs.declared.Edit.{Edit}
 use Rattle.edit_events.specs.Due.{owed}
 use Rattle.session_core.specs.State.{Session, is_live}
 use Rattle.gateway_frames.specs.declared.frame.Ask.{Ask}
-use Rattle.session_core.specs.Frames.{Want, Members, Presence, Voice, Move, Nothing, Answers, Shuts, Begins, Denies, Resumes, Wants, move_of, is_spent}
+use Rattle.session_core.specs.Frames.{Want, Members, Presence, Voice, Move, Nothing, Answers, ClosesWith, Begins, Denies, Resumes, Wants, move_of, is_spent}
 use Rattle.replay_ring.specs.Replay.{Replay}
 use Rattle.worker_core.specs.World.{replay, Seen, Sent, Worker, Input, Look, Open, Frame, Lost, Closed, Tick, entry_owed, entered, first_dispatches, numbered, answer_to}
 use Rattle.worker_core.specs.Kept.{told_more}
@@ -20,7 +20,7 @@ abbrev pub is_past : ℕ → ℕ → Bool
 is_past count more = nat_lt 0 more && nat_lt (2 ^ 64 - 1) (count + more)
 
 abbrev pub entry_spends : Seen → ℕ → Edit → Session Sent → Bool
-entry_spends seen g e x = is_live x.place && is_past (length x.sent.told) (length (entry_owed seen g e x))
+entry_spends seen g e x = is_live x.condition && is_past (length x.sent.told) (length (entry_owed seen g e x))
 
 abbrev pub look_spends : Worker → ℕ → List Edit → Bool
 look_spends w g [] = false
@@ -41,7 +41,7 @@ want_spends w (Voice ask) x = false
 abbrev pub frame_spends : Worker → Move → Bool
 frame_spends w Nothing = false
 frame_spends w Answers = false
-frame_spends w (Shuts code) = false
+frame_spends w (ClosesWith code) = false
 frame_spends w (Begins bot v) = is_spent (Begins bot v) w.core || is_past 0 (length (first_dispatches w v bot (w.core.made + 1)))
 frame_spends w Denies = false
 frame_spends w (Resumes number older seq held) = false

@@ -1,4 +1,4 @@
--- Which workers of the model a worker's value stands for.
+-- Which workers of the model a worker's value represents.
 use Rattle.std.specs.Prelude.{◌≡◌, ℕ, ◌+◌, ◌==◌, List, [], ◌∷◌, ◌++◌, length, map, filter, flat_map, Bool, true, false, ◌||◌, Option, Some, None, if◌then◌else◌, max}
 use Rattle.std.specs.List.{find}
 use Rattle.std.specs.Option.{option_map_or}
@@ -11,7 +11,7 @@ use Rattle.session_core.specs.declared.bot.Bot.{Bot}
 use Rattle.session_core.specs.declared.reply.Reply.{Reply}
 use Rattle.session_core.specs.declared.reply.Reply.TheVariants as reply
 use Rattle.session_core.specs.State.{State, Session, Attached, opened}
-use Rattle.session_core.specs.Frames.{Want, Members, Presence, Voice, Move, Nothing, Answers, Shuts, Begins, Denies, Resumes, Wants, move_of, framed, as_kept, is_spent}
+use Rattle.session_core.specs.Frames.{Want, Members, Presence, Voice, Move, Nothing, Answers, ClosesWith, Begins, Denies, Resumes, Wants, move_of, framed, as_kept, is_spent}
 use Rattle.session_core.specs.Resume.{session_id, resume_replies}
 use Rattle.replay_ring.specs.Replay.{Replay, fresh, pushed_all}
 use Rattle.session_core.specs.Ends.{lost, client_closed, ticked}
@@ -22,7 +22,7 @@ use Rattle.intent_set.specs.Intents.{guilds}
 use Rattle.dispatch_types.specs.Serves.{served, serves}
 use Rattle.dispatch_types.specs.declared.dispatch.Dispatch.{Dispatch}
 use Rattle.dispatch_types.specs.declared.dispatch.Dispatch.TheVariants.{Ready}
-use Rattle.dispatch_types.specs.declared.dispatch.Ready.{Ready as Greeted}
+use Rattle.dispatch_types.specs.declared.ready.Ready.{Ready as Greeted}
 use Rattle.guild_model.specs.declared.presence.Status.{Status}
 use Rattle.gateway_frames.specs.declared.frame.Ask.{Ask}
 use Rattle.gateway_frames.specs.declared.frame.VoiceAsk.{VoiceAsk}
@@ -141,7 +141,7 @@ kept_after_want number (Voice ask) k = k
 abbrev pub kept_after_move : Move → KeptWorker → KeptWorker
 kept_after_move Nothing k = k
 kept_after_move Answers k = k
-kept_after_move (Shuts code) k = k
+kept_after_move (ClosesWith code) k = k
 kept_after_move (Begins bot v) k = k
 kept_after_move Denies k = k
 kept_after_move (Resumes number older seq held) k = k
@@ -150,7 +150,7 @@ kept_after_move (Wants number want) k = kept_after_want number want k
 abbrev pub kept_presence_wishes : KeptWorker → Status → Session Replay → List Output
 kept_presence_wishes k status x = flat_map (λ (r : Replica). wished (replica_id r) (presence_wish r.guild x.viewer status)) k.replicas
 
--- a voice channel is wished of the guild that is named, if it is there
+-- a voice channel is wished of the guild that is named, if it exists
 abbrev pub wished_by : Viewer → VoiceAsk → Option Replica → List Output
 wished_by v ask None = []
 wished_by v ask (Some r) = wished (replica_id r) (voice_wish r.guild v ask)
@@ -159,7 +159,7 @@ abbrev pub kept_voice_wishes : KeptWorker → VoiceAsk → Session Replay → Li
 kept_voice_wishes k ask x = wished_by x.viewer ask (find_id replica_id ask.guild k.replicas)
 
 abbrev pub kept_want_sends : KeptWorker → Want → Session Replay → List Output
-kept_want_sends k (Members ask) x = sends x.place x.sent.last (kept_answer k ask x)
+kept_want_sends k (Members ask) x = sends x.condition x.sent.last (kept_answer k ask x)
 kept_want_sends k (Presence status) x = kept_presence_wishes k status x
 kept_want_sends k (Voice ask) x = kept_voice_wishes k ask x
 
@@ -178,7 +178,7 @@ wanted_spends k number want = option_map_or (kept_want_spends k want) (kept_numb
 abbrev pub kept_frame_spends : KeptWorker → Move → Bool
 kept_frame_spends k Nothing = false
 kept_frame_spends k Answers = false
-kept_frame_spends k (Shuts code) = false
+kept_frame_spends k (ClosesWith code) = false
 kept_frame_spends k (Begins bot v) = is_spent (Begins bot v) k.core || is_past 0 (length (kept_first k v bot.name (k.core.made + 1)))
 kept_frame_spends k Denies = false
 kept_frame_spends k (Resumes number older seq held) = false
@@ -207,13 +207,13 @@ plain (reply.Voice n ask) = []
 abbrev pub kept_frame_sends : KeptWorker → ℕ → Move → List Written
 kept_frame_sends k conn Nothing = []
 kept_frame_sends k conn Answers = written (Says conn Ack) ∷ []
-kept_frame_sends k conn (Shuts code) = written (Closes conn code) ∷ []
+kept_frame_sends k conn (ClosesWith code) = written (Closes conn code) ∷ []
 kept_frame_sends k conn (Begins bot v) = all_written (sends (Attached conn) 0 (kept_first k v bot.name (k.core.made + 1)))
 kept_frame_sends k conn Denies = written (Says conn (Invalid false)) ∷ []
 kept_frame_sends k conn (Resumes number older seq held) = flat_map plain (resume_replies conn older seq held)
 kept_frame_sends k conn (Wants number want) = wanted_sends k number want
 
--- a step on what is kept is that of every worker that it stands for: what it becomes, what goes out, and
+-- a step on what is kept is that of every worker that it represents: what it becomes, what goes out, and
 -- whether a count would go past what its type holds
 abbrev pub IsStep : Worker → Input → KeptWorker → List Written → Bool → Type 0
 IsStep w i new sent spent = Stands new (taken w i) × ((all_written (outputs w i) ≡ sent) × (spends w i ≡ spent))
@@ -259,7 +259,7 @@ greeted k n x = kept_first k x.viewer x.name n
 abbrev pub Greets : KeptWorker → ℕ → KeptWorker → List Written → List Written → Type 0
 Greets old n new before out = (front : List (Session Replay)) (x : Session Replay) → old.core.sessions ≡ front ++ x ∷ []
     → (new ≡ record old { core = kept_with (front ++ further (greeted old n x) x ∷ []) old.core })
-    × ((out ≡ before ++ all_written (sends x.place x.sent.last (greeted old n x))) × (is_past x.sent.last (length (greeted old n x)) ≡ false))
+    × ((out ≡ before ++ all_written (sends x.condition x.sent.last (greeted old n x))) × (is_past x.sent.last (length (greeted old n x)) ≡ false))
 
 abbrev pub GreetsNot : KeptWorker → ℕ → StepFault → Type 0
 GreetsNot old n fault = (front : List (Session Replay)) (x : Session Replay) → old.core.sessions ≡ front ++ x ∷ [] → FaultBy (is_past x.sent.last (length (greeted old n x))) fault

@@ -1,4 +1,4 @@
--- What is left by a call that sends dispatches to sessions by their places.
+-- What is left by a call that sends dispatches to sessions by their indexes.
 use Rattle.std.specs.Prelude.{◌≡◌, ℕ, List, [], ◌∷◌, ◌++◌, Option, Some, None, Bool, true, false, length, map, flat_map}
 use Rattle.std.specs.List.{list_any}
 use Rattle.guild_model.specs.Record.{Record}
@@ -20,7 +20,7 @@ abbrev pub FaultBy : Bool → StepFault → Type 0
 FaultBy spent Spent = spent ≡ true
 FaultBy spent Memory = Unit {0}
 
--- a text on its way to a connection, where there is one
+-- a text on its way to a connection, if there is one
 abbrev pub sent_to : Option ℕ → List ℕ → List Written
 sent_to None text = []
 sent_to (Some conn) text = Send conn text ∷ []
@@ -32,19 +32,19 @@ further ds x = record x { sent = pushed_all x.sent (texts_from x.sent.last ds) }
 abbrev pub kept_with : List (Session Replay) → State Replay → State Replay
 kept_with xs s = record s { sessions = xs }
 
--- the session at this place stands between these
+-- the session at this index stands between these
 abbrev pub IsAt : ℕ → List (Session Replay) → Session Replay → List (Session Replay) → State Replay → Type 0
-IsAt place front x back s = (s.sessions ≡ front ++ x ∷ back) × (place ≡ length front)
+IsAt index front x back s = (s.sessions ≡ front ++ x ∷ back) × (index ≡ length front)
 
-module _ (place : ℕ) (due : Session Replay → List Dispatch) (old : State Replay) where
-  -- the session at the place is sent what is due to it
+module _ (index : ℕ) (due : Session Replay → List Dispatch) (old : State Replay) where
+  -- the session at the index is sent what is due to it
   abbrev pub TellsAt : State Replay → List Written → List Written → Type 0
-  TellsAt new before out = (front back : List (Session Replay)) (x : Session Replay) → IsAt place front x back old
+  TellsAt new before out = (front back : List (Session Replay)) (x : Session Replay) → IsAt index front x back old
       → (new ≡ kept_with (front ++ further (due x) x ∷ back) old)
-      × ((out ≡ before ++ all_written (sends x.place x.sent.last (due x))) × (is_past x.sent.last (length (due x)) ≡ false))
+      × ((out ≡ before ++ all_written (sends x.condition x.sent.last (due x))) × (is_past x.sent.last (length (due x)) ≡ false))
 
   abbrev pub FailsAt : StepFault → Type 0
-  FailsAt fault = (front back : List (Session Replay)) (x : Session Replay) → IsAt place front x back old → FaultBy (is_past x.sent.last (length (due x))) fault
+  FailsAt fault = (front back : List (Session Replay)) (x : Session Replay) → IsAt index front x back old → FaultBy (is_past x.sent.last (length (due x))) fault
 
 -- each session is sent what an entry owes to it
 module _ (s : Record) (e : Edit) (old : State Replay) where

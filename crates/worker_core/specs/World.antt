@@ -13,7 +13,7 @@ use Rattle.guild_model.specs.Record.{Record, own_id}
 use Rattle.guild_model.specs.declared.member.Member.{Member}
 use Rattle.guild_model.specs.declared.presence.Status.{Status}
 use Rattle.dispatch_types.specs.declared.viewer.Viewer.{Viewer}
-use Rattle.dispatch_types.specs.declared.dispatch.Ready.{Ready as Greeted}
+use Rattle.dispatch_types.specs.declared.ready.Ready.{Ready as Greeted}
 use Rattle.dispatch_types.specs.declared.dispatch.Dispatch.{Dispatch}
 use Rattle.dispatch_types.specs.declared.dispatch.Dispatch.TheVariants.{Ready, GuildCreate}
 use Rattle.dispatch_types.specs.Serves.{served, serves}
@@ -31,8 +31,8 @@ use Rattle.gateway_frames.specs.declared.out.Out.TheVariants.{Hello, Ack, Invali
 use Rattle.session_core.specs.declared.bot.Bot.{Bot}
 use Rattle.session_core.specs.declared.reply.Mark.{Mark}
 use Rattle.session_core.specs.declared.reply.Mark.TheVariants.{Start, Entry, Chunk}
-use Rattle.session_core.specs.State.{State, Session, Place, Attached, Detached, Ended, is_live, has_link, opened, no_sessions}
-use Rattle.session_core.specs.Frames.{Want, Members, Presence, Voice, Move, Nothing, Answers, Shuts, Begins, Denies, Resumes, Wants, move_of, framed as with_frame}
+use Rattle.session_core.specs.State.{State, Session, Condition, Attached, Detached, Ended, is_live, has_connection, opened, no_sessions}
+use Rattle.session_core.specs.Frames.{Want, Members, Presence, Voice, Move, Nothing, Answers, ClosesWith, Begins, Denies, Resumes, Wants, move_of, framed as with_frame}
 use Rattle.session_core.specs.Resume.{session_id}
 use Rattle.session_core.specs.Ends.{lost, client_closed, ticked, silent_of}
 
@@ -50,21 +50,21 @@ abbrev pub seen_with : Seen → ℕ → Edit → Seen
 seen_with seen g e h = if g == h then seen h ++ e ∷ [] else seen h
 
 -- a dispatch as it was made, with the cursors before the entry or frame that made it, and just after
-pub record Told : Type 0 where
+pub record SentDispatch : Type 0 where
   pub mark : Mark
   pub dispatch : Dispatch
   pub before : Cursors
   pub after : Cursors
 
-abbrev pub told : Mark → Cursors → Cursors → List Dispatch → List Told
+abbrev pub told : Mark → Cursors → Cursors → List Dispatch → List SentDispatch
 told mark before after ds = map (λ d. record { mark = mark; dispatch = d; before = before; after = after }) ds
 
-abbrev pub dispatch_of : Told → Dispatch
+abbrev pub dispatch_of : SentDispatch → Dispatch
 dispatch_of t = t.dispatch
 
 -- all dispatches of a session, and the cursors of its worker as it ended
 pub record Sent : Type 0 where
-  pub told : List Told
+  pub told : List SentDispatch
   pub end : Option Cursors
 
 abbrev pub dispatches : Sent → List Dispatch
@@ -97,14 +97,14 @@ pub data Output : Type 0 where
   Wishes : (guild : ℕ) (edit : Edit) → Output
 
 -- the dispatches of a session after its number n, on their way to its connection
-abbrev pub sends : Place → ℕ → List Dispatch → List Output
+abbrev pub sends : Condition → ℕ → List Dispatch → List Output
 sends (Attached conn) n [] = []
 sends (Attached conn) n (d ∷ ds) = Tells conn (n + 1) d ∷ sends (Attached conn) (n + 1) ds
 sends (Detached since) n ds = []
 sends Ended n ds = []
 
-abbrev pub with_sent : List Told → Session Sent → Session Sent
-with_sent ts x = if is_live x.place then record x { sent = record x.sent { told = x.sent.told ++ ts } } else x
+abbrev pub with_sent : List SentDispatch → Session Sent → Session Sent
+with_sent ts x = if is_live x.condition then record x { sent = record x.sent { told = x.sent.told ++ ts } } else x
 
 -- one entry handled, by each session that has not ended
 module _ (seen : Seen) (g : ℕ) (e : Edit) where
@@ -115,7 +115,7 @@ module _ (seen : Seen) (g : ℕ) (e : Edit) where
   after_entry x = with_sent (told (Entry g (length (seen g) + 1)) (cursors seen) (cursors (seen_with seen g e)) (entry_owed x)) x
 
   abbrev pub entry_sends : Session Sent → List Output
-  entry_sends x = sends x.place (length x.sent.told) (entry_owed x)
+  entry_sends x = sends x.condition (length x.sent.told) (entry_owed x)
 
 abbrev pub with_sessions : List (Session Sent) → State Sent → State Sent
 with_sessions xs s = record s { sessions = xs }
@@ -163,7 +163,7 @@ begins_with w bot viewer n = record { told = told Start (cursors w.seen) (cursor
 
 -- a session as it ends, with the cursors of its worker then
 abbrev pub ended_at : Cursors → Session Sent → List (Session Sent)
-ended_at now x = record x { place = Ended; sent = record x.sent { end = Some now } } ∷ []
+ended_at now x = record x { condition = Ended; sent = record x.sent { end = Some now } } ∷ []
 
 -- what comes to a worker
 pub data Input : Type 0 where
@@ -176,7 +176,7 @@ pub data Input : Type 0 where
 
 -- the live session of a number
 abbrev pub is_numbered : {A : Type 0} → ℕ → Session A → Bool
-is_numbered number x = is_live x.place && (x.number == number)
+is_numbered number x = is_live x.condition && (x.number == number)
 
 abbrev pub numbered : {A : Type 0} → ℕ → List (Session A) → Option (Session A)
 numbered number xs = find (is_numbered number) xs
@@ -187,7 +187,7 @@ change_first p f [] = []
 change_first p f (x ∷ xs) = if p x then f x ∷ xs else x ∷ change_first p f xs
 
 -- chunks of members, each under a mark of its own (Gateway Events, Guild Members Chunk)
-abbrev pub chunks_told : ℕ → Cursors → List Dispatch → List Told
+abbrev pub chunks_told : ℕ → Cursors → List Dispatch → List SentDispatch
 chunks_told made now [] = []
 chunks_told made now (d ∷ ds) = record { mark = Chunk (made + 1); dispatch = d; before = now; after = now } ∷ chunks_told (made + 1) now ds
 
@@ -200,7 +200,7 @@ module _ (w : Worker) (ask : Ask) where
   after_answer x = record x { sent = record x.sent { told = x.sent.told ++ chunks_told w.chunks (cursors w.seen) (answer_to x) } }
 
   abbrev pub answer_sends : Session Sent → List Output
-  answer_sends x = sends x.place (length x.sent.told) (answer_to x)
+  answer_sends x = sends x.condition (length x.sent.told) (answer_to x)
 
   -- the session of a number is told the answer
   abbrev pub asked : ℕ → Worker
@@ -236,7 +236,7 @@ after_want number (Voice ask) w = w
 abbrev pub after_move : Move → Worker → Worker
 after_move Nothing w = w
 after_move Answers w = w
-after_move (Shuts code) w = w
+after_move (ClosesWith code) w = w
 after_move (Begins bot viewer) w = w
 after_move Denies w = w
 after_move (Resumes number older seq held) w = w
@@ -258,21 +258,21 @@ resent conn seq (Some x) = sends (Attached conn) seq (drop seq (dispatches x.sen
 abbrev pub frame_sends : Worker → ℕ → Move → List Output
 frame_sends w conn Nothing = []
 frame_sends w conn Answers = Says conn Ack ∷ []
-frame_sends w conn (Shuts code) = Closes conn code ∷ []
+frame_sends w conn (ClosesWith code) = Closes conn code ∷ []
 frame_sends w conn (Begins bot viewer) = sends (Attached conn) 0 (first_dispatches w viewer bot (w.core.made + 1))
 frame_sends w conn Denies = Says conn (Invalid false) ∷ []
 frame_sends w conn (Resumes number older seq held) = older_sends older ++ (resent conn seq (numbered number w.core.sessions) ++ Says conn (Resumed held.last) ∷ [])
 frame_sends w conn (Wants number want) = option_map_or (want_sends w want) (numbered number w.core.sessions) []
 
 abbrev pub open_sends : {A : Type 0} → ℕ → State A → List Output
-open_sends conn s = if has_link conn s then [] else (if nat_lt (length s.links) 64 then Says conn (Hello 41250) ∷ [] else Closes conn 4000 ∷ [])
+open_sends conn s = if has_connection conn s then [] else (if nat_lt (length s.connections) 64 then Says conn (Hello 41250) ∷ [] else Closes conn 4000 ∷ [])
 
 -- time has passed, and does not run back
 abbrev pub passed : Worker → ℕ → Worker
 passed w now = record w { now = now; core = ticked (ended_at (cursors w.seen)) now w.core }
 
 abbrev pub tick_sends : {A : Type 0} → ℕ → State A → List Output
-tick_sends now s = map (λ conn. Closes conn 4000) (silent_of now s.links)
+tick_sends now s = map (λ conn. Closes conn 4000) (silent_of now s.connections)
 
 abbrev pub taken : Worker → Input → Worker
 taken w (Look g es) = if contains g w.guilds then looked w g es else w

@@ -1,3 +1,5 @@
+//! What a worker is given, what it sends, and why it stops.
+
 ghost use Rattle.std.specs.Prelude.{◌≡◌, [], ◌∷◌, ◌++◌, OnOk};
 
 use collections::{Seq, Text};
@@ -12,7 +14,7 @@ use std::alloc::AllocError;
 pub enum Input {
     /// The entries of a guild's log that follow those that the worker has looked at, in order.
     Look(Snowflake, Seq<Edit>),
-    /// A client has connected, under a number of its connection.
+    /// A client has connected; its connection has this number.
     Open(u32),
     /// A text has come on a connection.
     Frame(u32, Text),
@@ -20,19 +22,19 @@ pub enum Input {
     Lost(u32),
     /// A client has closed its connection with a code (Gateway, Disconnecting).
     Closed(u32, u16),
-    /// This moment has come, in milliseconds. One before the worker's own is that moment again.
+    /// The time, in milliseconds. A time before the worker's own counts as the worker's.
     Tick(u64),
 }
 
-/// What goes out.
+/// What a worker sends.
 #[derive(Drop)]
 pub enum Output {
-    /// A text goes to a connection.
+    /// Send a text to a connection.
     Send(u32, Payload),
-    /// A connection is closed with a code (Gateway, Close Event Codes).
+    /// Close a connection with a code (Gateway, Close Event Codes).
     Close(u32, u16),
-    /// A client wishes this edit of a guild, which is for whoever orders the guild's edits (Gateway
-    /// Events, Update Presence and Update Voice State).
+    /// The edit that a client asks for when it updates its presence or voice state (Gateway Events,
+    /// Update Presence and Update Voice State). The caller may add it to the guild's log.
     Wish(Snowflake, Edit),
 }
 
@@ -41,10 +43,11 @@ pub enum Output {
 pub enum StepFault {
     /// A count of sessions, of chunks or of a session's dispatches is at its type's last value.
     Spent,
+    /// Memory ran out.
     Memory,
 }
 
-/// Adds one to what goes out.
+/// Adds one output.
 pub(crate) fn put(out: &mut Vec<Output>, output: Output) -> Result<(), AllocError>
     ensures { OnOk result (out.new.items ≡ out.old.items ++ output ∷ []) }
 {

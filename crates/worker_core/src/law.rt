@@ -9,13 +9,13 @@ pub fn projection_of_a_prefix()
     ensures { EachRunHolds }
 {}
 
-/// What a session was sent for an entry that was handled while it was there is exactly what that entry
+/// What a session was sent for an entry that was handled while it existed is exactly what that entry
 /// owed, and nothing was sent for any other.
 pub fn entries_are_told()
     ensures { EachEntryHolds }
 {}
 
-/// The dispatch of an edit of messages was sent, once, exactly where it is shown after that very entry.
+/// The dispatch of an edit of messages was sent, once, exactly if it is shown after that very entry.
 pub fn messages_are_told()
     ensures { EachMessageHolds }
 {}
@@ -25,18 +25,18 @@ pub fn sends_are_of_sessions()
     ensures { EachSendHolds }
 {}
 
-/// A resume goes on exactly where a live session of the worker has its id and token and covers its
-/// number, and then brings what the session was sent after it (Gateway, Resuming).
+/// A session resumes exactly if it is live, has the id and the token and covers the number. The client is
+/// then sent what the session was sent after it (Gateway, Resuming).
 pub fn resumes_go_on()
     ensures { EachResumeHolds }
 {}
 
-/// A look, on what a worker keeps, is that of every worker that it stands for.
+/// A look, on what a worker keeps, is that of every worker that it represents.
 pub fn looks_stand()
     ensures { LooksStand }
 {}
 
-/// The same of a look at a guild that is not there.
+/// The same of a look at a guild that does not exist.
 pub fn looks_past()
     ensures { LooksPast }
 {}

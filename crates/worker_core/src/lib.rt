@@ -2,12 +2,12 @@
 //! every run, and the worker itself.
 #![tactic(auto)]
 
-mod audience;
-mod form_places;
-mod greet;
+mod form_index;
 pub mod io;
 pub mod law;
 mod look;
+mod ready;
+mod recipients;
 pub mod replica;
 mod tell;
 mod told;

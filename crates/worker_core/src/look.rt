@@ -4,23 +4,23 @@ ghost use Rattle.std.specs.Prelude.{◌≡◌, ◌++◌, true, false, length, ma
 ghost use Rattle.guild_model.specs.Record.{Record};
 ghost use Rattle.edit_apply.specs.Edits.{accepts, applied, after, state_from};
 ghost use Rattle.edit_events.specs.Was.{was_of};
-ghost use Rattle.worker_core.specs.Audience.{Picks, viewer_of};
+ghost use Rattle.worker_core.specs.Recipients.{Picks, viewer_of};
 ghost use Rattle.worker_core.specs.Kept.{kept_looked, kept_sends};
 ghost use Rattle.worker_core.specs.Outputs.{all_written};
 ghost use Rattle.worker_core.specs.Spent.{kept_spends};
 ghost use Rattle.worker_core.specs.Telling.{TellsEach, FailsEach, FaultBy, kept_with};
 
-use crate::audience::Audience;
 use crate::io::{Output, StepFault};
+use crate::recipients::Recipients;
 use crate::told::Owed;
 use dispatch_types::Viewer;
-use edit_apply::{Edit, apply, judge};
+use edit_apply::{Edit, judge, make};
 use edit_events::{Was, note};
 use guild_model::Guild;
 use session_core::Sessions;
 use std::alloc::{AllocError, Global};
 
-/// What has to be known of the record before an entry, for each viewer by its place.
+/// What has to be known of the record before an entry, for each viewer by its index.
 fn notes(
     alloc: Global,
     guild: &Guild,
@@ -42,19 +42,19 @@ fn tell_each(
     guild: &Guild,
     entry: &Edit,
     notes: &[Was],
-    audience: &Audience,
+    recipients: &Recipients,
     sessions: &mut Sessions,
     out: &mut Vec<Output>,
 ) -> Result<(), StepFault>
-    requires notes { length notes.now ≡ length audience.now.viewers.items }
-    requires audience { Picks audience.now.viewers.items audience.now.whose.items (map viewer_of sessions.old.sessions) }
-    ensures { (s : Record) → notes.now ≡ map (λ v. was_of s v entry.now) audience.now.viewers.items → guild.now ≡ applied s entry.now → accepts s entry.now ≡ true
+    requires notes { length notes.now ≡ length recipients.now.viewers.items }
+    requires recipients { Picks recipients.now.viewers.items recipients.now.whose.items (map viewer_of sessions.old.sessions) }
+    ensures { (s : Record) → notes.now ≡ map (λ v. was_of s v entry.now) recipients.now.viewers.items → guild.now ≡ applied s entry.now → accepts s entry.now ≡ true
         → MatchResult result (λ _. TellsEach s entry.now sessions.old sessions.new out.old.items out.new.items) (FailsEach s entry.now sessions.old) }
 {
-    let owed = Owed::of(alloc, guild, entry, notes, audience.viewers.as_slice())?;
-    let whose = audience.whose.as_slice();
-    for place in 0..whose.len() {
-        owed.tell(whose[place], sessions, place, out)?;
+    let owed = Owed::of(alloc, guild, entry, notes, recipients.viewers.as_slice())?;
+    let whose = recipients.whose.as_slice();
+    for index in 0..whose.len() {
+        owed.tell(whose[index], sessions, index, out)?;
     }
     Ok(())
 }
@@ -65,25 +65,25 @@ fn enter(
     alloc: Global,
     guild: &mut Guild,
     entry: &Edit,
-    audience: &Audience,
+    recipients: &Recipients,
     sessions: &mut Sessions,
     out: &mut Vec<Output>,
 ) -> Result<(), StepFault>
-    requires { Picks audience.now.viewers.items audience.now.whose.items (map viewer_of sessions.old.sessions) }
+    requires { Picks recipients.now.viewers.items recipients.now.whose.items (map viewer_of sessions.old.sessions) }
     ensures guild { OnOk result (guild.new ≡ after guild.old entry.now) }
     ensures told { MatchResult result (λ _. TellsEach guild.old entry.now sessions.old sessions.new out.old.items out.new.items) (FailsEach guild.old entry.now sessions.old) }
 {
     if judge(guild, entry).is_err() {
         return Ok(());
     }
-    let notes = notes(alloc, guild, entry, audience.viewers.as_slice())?;
-    let _ = apply(alloc, guild, entry.copy(alloc)?)?;
+    let notes = notes(alloc, guild, entry, recipients.viewers.as_slice())?;
+    make(alloc, guild, entry.copy(alloc)?)?;
     tell_each(
         alloc,
         guild,
         entry,
         notes.as_slice(),
-        audience,
+        recipients,
         sessions,
         out,
     )
@@ -102,9 +102,9 @@ pub fn look(
     ensures out { OnOk result (out.new.items ≡ out.old.items ++ all_written (kept_sends guild.old entries.now sessions.old.sessions)) }
     ensures spent { MatchResult result (λ _. kept_spends guild.old entries.now sessions.old.sessions ≡ false) (FaultBy (kept_spends guild.old entries.now sessions.old.sessions)) }
 {
-    let audience = Audience::of(alloc, sessions)?;
+    let recipients = Recipients::of(alloc, sessions)?;
     for entry in entries {
-        enter(alloc, guild, entry, &audience, sessions, out)?;
+        enter(alloc, guild, entry, &recipients, sessions, out)?;
     }
     Ok(())
 }

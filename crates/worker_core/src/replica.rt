@@ -1,9 +1,12 @@
+//! A worker's copy of a guild.
+
 use collections::Keyed;
 use guild_model::Guild;
 
 /// What a worker keeps of a guild: the record after the entries of its log that it has handled.
 #[derive(Drop)]
 pub struct Replica {
+    /// The record.
     pub guild: Guild,
 }
 

@@ -1,4 +1,4 @@
-//! Dispatches on their way to a session.
+//! Sends dispatches to a session.
 
 ghost use Rattle.std.specs.Prelude.{◌≡◌, ◌∷◌, [], ◌++◌, ◌<◌, length, map, IfOk, MatchResult, OnOk};
 ghost use Rattle.worker_core.specs.Telling.{TellsAt, FailsAt, sent_to};
@@ -11,7 +11,7 @@ use payload_text::{Envelope, Payload};
 use session_core::Sessions;
 use std::alloc::{AllocError, Global};
 
-/// Sends a text to a connection, where there is one.
+/// Sends a text to a connection, if there is one.
 fn send_to(conn: Option<u32>, text: &Payload, out: &mut Vec<Output>) -> Result<(), AllocError>
     ensures { OnOk result (out.new.items ≡ out.old.items ++ sent_to conn text.now) }
 {
@@ -22,44 +22,44 @@ fn send_to(conn: Option<u32>, text: &Payload, out: &mut Vec<Output>) -> Result<(
     Ok(())
 }
 
-/// Keeps the next dispatch of the session at a place, and sends it where the session is attached.
+/// Keeps the next dispatch of the session at an index, and sends it if the session is attached.
 fn tell_one(
     sessions: &mut Sessions,
-    place: usize,
+    index: usize,
     dispatch: &Dispatch,
     envelope: &Envelope,
     out: &mut Vec<Output>,
 ) -> Result<(), StepFault>
-    requires place { place < length sessions.old.sessions }
+    requires index { index < length sessions.old.sessions }
     requires envelope { envelope.now ≡ envelope_of dispatch.now }
-    ensures { MatchResult result (λ _. TellsAt place (λ x. dispatch.now ∷ []) sessions.old sessions.new out.old.items out.new.items) (FailsAt place (λ x. dispatch.now ∷ []) sessions.old) }
+    ensures { MatchResult result (λ _. TellsAt index (λ x. dispatch.now ∷ []) sessions.old sessions.new out.old.items out.new.items) (FailsAt index (λ x. dispatch.now ∷ []) sessions.old) }
 {
-    let number = sessions.next_at(place)?;
+    let number = sessions.next_at(index)?;
     let text = Payload::numbered(envelope, number)?;
-    send_to(sessions.conn_at(place), &text, out)?;
-    sessions.push_at(place, text);
+    send_to(sessions.conn_at(index), &text, out)?;
+    sessions.push_at(index, text);
     Ok(())
 }
 
-/// The same of dispatches in their order, whose texts are written.
+/// The same of dispatches in order, whose texts were written.
 pub fn tell_written(
     sessions: &mut Sessions,
-    place: usize,
+    index: usize,
     dispatches: &[Dispatch],
     envelopes: &[Envelope],
     out: &mut Vec<Output>,
 ) -> Result<(), StepFault>
-    requires place { place < length sessions.old.sessions }
+    requires index { index < length sessions.old.sessions }
     requires envelopes { envelopes.now ≡ map envelope_of dispatches.now }
-    ensures { MatchResult result (λ _. TellsAt place (λ x. dispatches.now) sessions.old sessions.new out.old.items out.new.items) (FailsAt place (λ x. dispatches.now) sessions.old) }
+    ensures { MatchResult result (λ _. TellsAt index (λ x. dispatches.now) sessions.old sessions.new out.old.items out.new.items) (FailsAt index (λ x. dispatches.now) sessions.old) }
 {
-    for index in 0..dispatches.len() {
-        tell_one(sessions, place, &dispatches[index], &envelopes[index], out)?;
+    for next in 0..dispatches.len() {
+        tell_one(sessions, index, &dispatches[next], &envelopes[next], out)?;
     }
     Ok(())
 }
 
-/// The texts of dispatches, but for their numbers.
+/// The texts of dispatches without their numbers.
 pub fn envelopes_of(alloc: Global, dispatches: &[Dispatch]) -> Result<Vec<Envelope>, AllocError>
     ensures { IfOk result (λ envelopes. envelopes.items ≡ map envelope_of dispatches.now) }
 {
@@ -70,17 +70,17 @@ pub fn envelopes_of(alloc: Global, dispatches: &[Dispatch]) -> Result<Vec<Envelo
     Ok(envelopes)
 }
 
-/// The same of dispatches in their order.
+/// The same of dispatches in order.
 pub fn tell(
     alloc: Global,
     sessions: &mut Sessions,
-    place: usize,
+    index: usize,
     dispatches: &[Dispatch],
     out: &mut Vec<Output>,
 ) -> Result<(), StepFault>
-    requires { place < length sessions.old.sessions }
-    ensures { MatchResult result (λ _. TellsAt place (λ x. dispatches.now) sessions.old sessions.new out.old.items out.new.items) (FailsAt place (λ x. dispatches.now) sessions.old) }
+    requires { index < length sessions.old.sessions }
+    ensures { MatchResult result (λ _. TellsAt index (λ x. dispatches.now) sessions.old sessions.new out.old.items out.new.items) (FailsAt index (λ x. dispatches.now) sessions.old) }
 {
     let envelopes = envelopes_of(alloc, dispatches)?;
-    tell_written(sessions, place, dispatches, envelopes.as_slice(), out)
+    tell_written(sessions, index, dispatches, envelopes.as_slice(), out)
 }

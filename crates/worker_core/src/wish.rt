@@ -1,4 +1,4 @@
-//! What clients wish of their bots.
+//! What clients ask for when they update their presence or voice state (Gateway Events).
 
 ghost use Rattle.std.specs.Prelude.{◌≡◌, ◌++◌, flat_map, OnOk};
 ghost use Rattle.wishes.specs.Wishes.{presence_wish, voice_wish};
@@ -16,7 +16,7 @@ use snowflake_id::Snowflake;
 use std::alloc::AllocError;
 use wishes::{presence_wish, voice_wish};
 
-// A wish goes out, where there is one.
+// Adds a wish, if there is one.
 fn put_wish(out: &mut Vec<Output>, guild: Snowflake, wish: Option<Edit>) -> Result<(), AllocError>
     ensures { OnOk result (out.new.items ≡ out.old.items ++ all_written (wished guild wish)) }
 {
@@ -26,7 +26,7 @@ fn put_wish(out: &mut Vec<Output>, guild: Snowflake, wish: Option<Edit>) -> Resu
     }
 }
 
-/// The status that a viewer wishes of its bot, in each guild.
+/// Adds a wish for each guild in which a client sets the status of its bot.
 pub fn wish_presence(
     replicas: &[Replica],
     viewer: &Viewer,
@@ -42,7 +42,7 @@ pub fn wish_presence(
     Ok(())
 }
 
-/// The voice channel that a viewer wishes for its bot, in the guild that it names.
+/// Adds the wish of a client that moves its bot to a voice channel, or out of it.
 pub fn wish_voice(
     replica: &Replica,
     viewer: &Viewer,

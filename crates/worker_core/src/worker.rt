@@ -1,4 +1,4 @@
-//! A worker: what it keeps, and its step.
+//! A worker: its state and its step.
 
 ghost use Rattle.std.specs.Prelude.{◌≡◌, ◌+◌, ◌<◌, ℕ, [], ◌∷◌, false, true, max, flat_map, position, option_map, length, Some, None, Err, IfOk, OnOk, OnErr, IsSome, MatchResult, slice_get};
 ghost use Rattle.std.specs.List.{list_all};
@@ -18,9 +18,9 @@ ghost use Rattle.worker_core.specs.Spent.{is_past, kept_spends};
 ghost use Rattle.worker_core.specs.Telling.{FaultBy, TellsAt, FailsAt, kept_with};
 ghost use Rattle.worker_core.specs.Stands.{Stands, Steps, Fails, Greets, GreetsNot, Replies, RepliesNot, greeted, kept_ready, replica_id, after_open, after_frame, after_lost, after_closed, after_tick, is_of, kept_numbered, kept_answer, Gives, GivesNot, is_plain, plain};
 
-use crate::greet::{greetings, listed};
 use crate::io::{Input, Output, StepFault, put};
 use crate::look::look;
+use crate::ready::{guild_creates, ready_guilds};
 use crate::replica::Replica;
 use crate::tell::tell;
 use crate::wish::{wish_presence, wish_voice};
@@ -86,10 +86,11 @@ impl Worker {
         })
     }
 
-    /// What goes out after an input, in order. The entries of a look are those of the guild's log that
-    /// follow the ones that this worker has been given; a guild that is not the worker's is passed over.
+    /// Handles an input, and gives its outputs in order. The entries of a look are those of the guild's log
+    /// that follow the ones that this worker has been given. It does nothing for a guild that is not the
+    /// worker's.
     ///
-    /// `Spent` comes exactly where memory serves and a count of sessions, of chunks or of a session's
+    /// `Spent` exactly if there is memory and a count of sessions, of chunks or of a session's
     /// dispatches would pass its last value. After an `Err` the worker is finished: each later step answers the same.
     pub fn step(&mut self, input: Input) -> Result<Vec<Output>, StepFault>
         ensures steps { (w : ModelWorker) → Stands self.old w → MatchResult result (λ out. Steps w (input_of input) self.new out.items) (Fails w (input_of input)) }
@@ -130,7 +131,7 @@ impl Worker {
         Ok(out)
     }
 
-    /// The replica of a guild, out of the worker, which has an empty one in its place.
+    /// Takes the replica of a guild out of the worker, which has an empty one instead.
     fn take_replica(&mut self, guild: Snowflake) -> Option<Replica>
         ensures found { result ≡ find_id replica_id guild self.old.replicas }
         ensures none { result ≡ None → self.new ≡ self.old }
@@ -152,7 +153,7 @@ impl Worker {
         self.replicas.replace(replica);
     }
 
-    /// The entries of a guild, for its record and for each session.
+    /// Handles the entries of a guild, for its record and for each session.
     fn follow(&mut self, guild: &mut Guild, entries: &[Edit]) -> Result<Vec<Output>, StepFault>
         ensures guild { OnOk result (guild.new ≡ state_from guild.old entries.now) }
         ensures core { OnOk result (self.new ≡ record self.old { core = kept_with (kept_looked guild.old entries.now self.old.core.sessions) self.old.core }) }
@@ -235,7 +236,7 @@ impl Worker {
         self.sessions.tick(self.clock)
     }
 
-    /// What goes out for the replies of a call, in order.
+    /// The outputs for the replies of a call, in order.
     fn reply_each(&mut self, replies: Vec<Reply>) -> Result<Vec<Output>, StepFault>
         ensures plain { list_all is_plain replies.items ≡ true → MatchResult result (λ out. (self.new ≡ self.old) × (out.items ≡ flat_map plain replies.items)) (FaultBy false) }
         ensures one { (r : ModelReply) → replies.items ≡ r ∷ [] → MatchResult result (λ out. Replies r self.old self.new [] out.items) (RepliesNot r self.old) }
@@ -254,7 +255,7 @@ impl Worker {
             Reply::Send(conn, payload) => put(out, said(self.alloc, conn, payload)?)?,
             Reply::Text(conn, text) => put(out, Output::Send(conn, text))?,
             Reply::Close(conn, code) => put(out, Output::Close(conn, code))?,
-            Reply::Begin(session) => self.greet(session, out)?,
+            Reply::Begin(session) => self.send_ready(session, out)?,
             Reply::Ask(session, ask) => self.answer(session, &ask, out)?,
             Reply::Presence(session, status) => self.wish_presence(session, status, out)?,
             Reply::Voice(session, ask) => self.wish_voice(session, &ask, out)?,
@@ -262,29 +263,30 @@ impl Worker {
         Ok(())
     }
 
-    /// The first dispatches of the session that has begun last.
-    fn greet(&mut self, session: u32, out: &mut Vec<Output>) -> Result<(), StepFault>
+    /// Sends READY and the guilds to the session that has begun last.
+    fn send_ready(&mut self, session: u32, out: &mut Vec<Output>) -> Result<(), StepFault>
         ensures { MatchResult result (λ _. Greets self.old session self.new out.old.items out.new.items) (GreetsNot self.old session) }
     {
-        let Some(place) = self.sessions.len().checked_sub(1) else {
+        let Some(index) = self.sessions.len().checked_sub(1) else {
             return Ok(());
         };
-        let first = self.first_dispatches(session, place)?;
-        tell(self.alloc, &mut self.sessions, place, first.as_slice(), out)
+        let first = self.first_dispatches(session, index)?;
+        tell(self.alloc, &mut self.sessions, index, first.as_slice(), out)
     }
 
-    fn first_dispatches(&self, session: u32, place: usize) -> Result<Vec<Dispatch>, AllocError>
-        ensures { IfOk result (λ list. option_map_or (greeted self.now session) (slice_get self.now.core.sessions place) [] ≡ list.items) }
+    /// READY and the guilds of the session at an index.
+    fn first_dispatches(&self, session: u32, index: usize) -> Result<Vec<Dispatch>, AllocError>
+        ensures { IfOk result (λ list. option_map_or (greeted self.now session) (slice_get self.now.core.sessions index) [] ≡ list.items) }
     {
         let mut list = Vec::new(self.alloc);
         let (Some(viewer), Some(name)) = (
-            self.sessions.viewer_at(place),
-            self.sessions.name_at(place),
+            self.sessions.viewer_at(index),
+            self.sessions.name_at(index),
         ) else {
             return Ok(list);
         };
         list.push(Dispatch::Ready(self.ready(viewer, name, session)?))?;
-        greetings(self.alloc, self.replicas.as_slice(), viewer, &mut list)?;
+        guild_creates(self.alloc, self.replicas.as_slice(), viewer, &mut list)?;
         Ok(list)
     }
 
@@ -297,7 +299,7 @@ impl Worker {
                 name: Text::new(self.alloc, name)?,
                 bot: true,
             },
-            guilds: listed(self.alloc, self.replicas.as_slice(), viewer)?,
+            guilds: ready_guilds(self.alloc, self.replicas.as_slice(), viewer)?,
             session: session_id(self.alloc, self.sessions.worker(), session)?,
             url: self.url.copy(self.alloc)?,
             shard: viewer.shard,
@@ -306,24 +308,24 @@ impl Worker {
 }
 
 impl Worker {
-    fn place_of(&self, session: u32) -> Option<usize>
+    fn index_of(&self, session: u32) -> Option<usize>
         ensures { result ≡ position (is_of session) self.now.core.sessions }
     {
-        self.sessions.place_of(session)
+        self.sessions.index_of(session)
     }
 
-    fn viewer_at(&self, place: usize) -> Option<&Viewer>
-        ensures { option_copied result ≡ option_map (λ x. x.viewer) (slice_get self.now.core.sessions place) }
+    fn viewer_at(&self, index: usize) -> Option<&Viewer>
+        ensures { option_copied result ≡ option_map (λ x. x.viewer) (slice_get self.now.core.sessions index) }
     {
-        self.sessions.viewer_at(place)
+        self.sessions.viewer_at(index)
     }
 
-    /// Whom the dispatches of a session are for.
+    /// The viewer of a session.
     fn viewer_of(&self, session: u32) -> Option<&Viewer>
         ensures { option_copied result ≡ option_map (λ x. x.viewer) (kept_numbered self.now session) }
     {
-        match self.place_of(session) {
-            Some(place) => self.viewer_at(place),
+        match self.index_of(session) {
+            Some(index) => self.viewer_at(index),
             None => None,
         }
     }
@@ -340,7 +342,7 @@ impl Worker {
         self.replicas.get(guild.0)
     }
 
-    /// The wishes of a session's client for its bot's status.
+    /// Handles Update Presence (op 3) of a session's client.
     fn wish_presence(
         &self,
         session: u32,
@@ -355,7 +357,7 @@ impl Worker {
         }
     }
 
-    /// The wish of a session's client for its bot's voice channel.
+    /// Handles Update Voice State (op 4) of a session's client.
     fn wish_voice(
         &self,
         session: u32,
@@ -370,37 +372,38 @@ impl Worker {
         }
     }
 
-    /// The chunks that answer a question of a session's client (Gateway Events, Request Guild Members).
+    /// Answers Request Guild Members (op 8) of a session's client.
     fn answer(&mut self, session: u32, ask: &Ask, out: &mut Vec<Output>) -> Result<(), StepFault>
         ensures { MatchResult result (λ _. Gives self.old session (Members ask.now) self.new out.old.items out.new.items) (GivesNot self.old session (Members ask.now)) }
     {
-        match self.place_of(session) {
-            Some(place) => self.answer_at(session, place, ask, out),
+        match self.index_of(session) {
+            Some(index) => self.answer_at(session, index, ask, out),
             None => Ok(()),
         }
     }
 
-    /// The same for the session of a number at a place.
+    /// The same for the session of this number, at this index.
     fn answer_at(
         &mut self,
         session: u32,
-        place: usize,
+        index: usize,
         ask: &Ask,
         out: &mut Vec<Output>,
     ) -> Result<(), StepFault>
-        requires { position (is_of session) self.old.core.sessions ≡ Some place }
+        requires { position (is_of session) self.old.core.sessions ≡ Some index }
         ensures { MatchResult result (λ _. Gives self.old session (Members ask.now) self.new out.old.items out.new.items) (GivesNot self.old session (Members ask.now)) }
     {
-        let chunks = self.chunks_at(place, ask)?;
+        let chunks = self.chunks_at(index, ask)?;
         self.count_chunks(chunks.len())?;
-        self.tell_at(place, chunks.as_slice(), out)
+        self.tell_at(index, chunks.as_slice(), out)
     }
 
-    fn chunks_at(&self, place: usize, ask: &Ask) -> Result<Vec<Dispatch>, AllocError>
-        ensures { IfOk result (λ list. option_map_or (kept_answer self.now ask.now) (slice_get self.now.core.sessions place) [] ≡ list.items) }
+    /// The chunks that answer the session at an index.
+    fn chunks_at(&self, index: usize, ask: &Ask) -> Result<Vec<Dispatch>, AllocError>
+        ensures { IfOk result (λ list. option_map_or (kept_answer self.now ask.now) (slice_get self.now.core.sessions index) [] ≡ list.items) }
     {
         let (Some(viewer), Some(replica)) = (
-            self.sessions.viewer_at(place),
+            self.sessions.viewer_at(index),
             self.replicas.get(ask.guild.0),
         ) else {
             return Ok(Vec::new(self.alloc));
@@ -408,7 +411,7 @@ impl Worker {
         answer(self.alloc, &replica.guild, viewer, ask)
     }
 
-    /// Counts chunks that are made.
+    /// Counts chunks that were made.
     fn count_chunks(&mut self, more: usize) -> Result<(), Spent>
         ensures ok { OnOk result (self.new ≡ record self.old { chunks = self.old.chunks + more }) }
         ensures counted { OnOk result (is_past self.old.chunks more ≡ false) }
@@ -421,18 +424,18 @@ impl Worker {
         Ok(())
     }
 
-    /// Dispatches for the session at a place.
+    /// Sends dispatches to the session at an index.
     fn tell_at(
         &mut self,
-        place: usize,
+        index: usize,
         dispatches: &[Dispatch],
         out: &mut Vec<Output>,
     ) -> Result<(), StepFault>
-        requires { place < length self.old.core.sessions }
+        requires { index < length self.old.core.sessions }
         ensures core { OnOk result (self.new ≡ record self.old { core = self.new.core }) }
-        ensures told { MatchResult result (λ _. TellsAt place (λ x. dispatches.now) self.old.core self.new.core out.old.items out.new.items) (FailsAt place (λ x. dispatches.now) self.old.core) }
+        ensures told { MatchResult result (λ _. TellsAt index (λ x. dispatches.now) self.old.core self.new.core out.old.items out.new.items) (FailsAt index (λ x. dispatches.now) self.old.core) }
     {
-        tell(self.alloc, &mut self.sessions, place, dispatches, out)
+        tell(self.alloc, &mut self.sessions, index, dispatches, out)
     }
 }
 

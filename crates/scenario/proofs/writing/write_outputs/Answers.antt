@@ -1,6 +1,6 @@
 use Rattle.std.proofs.Common.{take, ◌∙◌}
 use Rattle.std.proofs.lemmas.Result.{err_from_is_err_and}
-use Rattle.scenario.specs.Player.{followed}
+use Rattle.scenario.specs.Server.{followed}
 use Rattle.scenario.proofs.Follows.{follow_next, carries_next, front_next}
 use Rattle.scenario.proofs.writing.write_outputs.Goals as goal
 

@@ -1,5 +1,5 @@
 use Rattle.std.proofs.Common.{◌≡◌, ◌++◌, take}
-use Rattle.scenario.specs.Player.{Player, followed}
+use Rattle.scenario.specs.Server.{Server, followed}
 use Rattle.scenario.specs.Transcript.{outputs_text}
 use Rattle.scenario.specs.Stands.{Stands}
 use Rattle.scenario.specs.Played.{Carries}
@@ -7,8 +7,8 @@ use Rattle.scenario.proofs.writing.write_outputs.Given as goal
 
 abbrev pub invariant-loop-output : goal.invariant-loop-output
 invariant-loop-output g l = record {
-  follows : (p : Player) → Stands l.fn.stage p
-      → Stands l.stage (followed p (take l.output-index l.outputs))
+  follows : (p : Server) → Stands l.fn.server p
+      → Stands l.server (followed p (take l.output-index l.outputs))
       × Carries (g.K.Sink.got l.fn.sink) (g.K.Sink.got l.sink) l.waits.items (l.fn.waits.items ++ outputs_text p l.line (take l.output-index l.outputs));
   faults : g.K.Sink.faults l.sink ≡ g.K.Sink.faults l.fn.sink;
 }

@@ -29,5 +29,5 @@ returns-clause-told c =
     let g = c.args.guild.now in
     let e = c.args.entry.now in
     let accepted : accepts g e ≡ true = accepted_by (verdict g e) (ap is_err (sym c.judge.ensures) ∙ (sym c.is_err.ensures.value ∙ c.if-is_err.false)) in
-    let made : c.apply.new.guild ≡ applied g e = c.in_ok-apply.ensures.record ∙ (ap (after g) c.in_ok-copy.ensures ∙ after_accepted g e accepted) in
+    let made : c.make.new.guild ≡ applied g e = c.in_ok-make.ensures.ok ∙ ap (applied g) c.in_ok-copy.ensures in
     c.tell_each.ensures g (c.as_slice-2.ensures.value ∙ (c.in_ok-notes.ensures ∙ ap (map (λ (v : Viewer). was_of g v e)) c.as_slice.ensures.value)) made accepted

@@ -4,7 +4,7 @@ use Rattle.std.proofs.lemmas.Result.{err_from_is_err_and}
 use Rattle.dispatch_types.specs.declared.viewer.Viewer.{Viewer}
 use Rattle.replay_ring.specs.Replay.{Replay}
 use Rattle.session_core.specs.State.{State}
-use Rattle.worker_core.specs.Audience.{Picks, viewer_of}
+use Rattle.worker_core.specs.Recipients.{Picks, viewer_of}
 use Rattle.edit_apply.specs.Edits.{state_from}
 use Rattle.edit_apply.specs.declared.Edit.{Edit}
 use Rattle.worker_core.specs.declared.io.StepFault.{StepFault}
@@ -44,8 +44,8 @@ loop-entry-preserved c =
     let told = c.in_ok-enter.ensures.told in
     let now = c.in_ok-enter.ensures.guild in
     record {
-      audience = subst (λ (vs : List Viewer). Picks c.in_ok-audience.audience.viewers.items c.in_ok-audience.audience.whose.items vs)
-          (sym (ap (λ (n : State Replay). map viewer_of n.sessions) told.0 ∙ viewers_stay g e s.sessions)) c.loop-entry.invariant.audience;
+      recipients = subst (λ (vs : List Viewer). Picks c.in_ok-recipients.recipients.viewers.items c.in_ok-recipients.recipients.whose.items vs)
+          (sym (ap (λ (n : State Replay). map viewer_of n.sessions) told.0 ∙ viewers_stay g e s.sessions)) c.loop-entry.invariant.recipients;
       guild = ap (λ h. state_from h later) now ∙ (ap (state_from g) (sym rest) ∙ c.loop-entry.invariant.guild);
       sessions = ap (λ h. kept_with (kept_looked h later c.enter.new.sessions.sessions) c.enter.new.sessions) now
           ∙ (looked_more g e later s c.enter.new.sessions c.loop-entry.out.items c.enter.new.out.items told
@@ -59,4 +59,4 @@ loop-entry-preserved c =
     }
 
 pub enter-requires : goal.enter-requires
-enter-requires c = c.loop-entry.invariant.audience
+enter-requires c = c.loop-entry.invariant.recipients

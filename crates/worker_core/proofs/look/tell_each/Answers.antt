@@ -8,7 +8,7 @@ use Rattle.dispatch_types.specs.declared.viewer.Viewer.{Viewer}
 use Rattle.edit_events.specs.Due.{owed}
 use Rattle.edit_events.specs.Was.{was_of}
 use Rattle.worker_core.specs.declared.io.StepFault.{StepFault}
-use Rattle.worker_core.specs.Audience.{Picks, viewer_of}
+use Rattle.worker_core.specs.Recipients.{Picks, viewer_of}
 use Rattle.worker_core.specs.Telling.{FailsEach}
 use Rattle.worker_core.proofs.look.tell_each.Goals as goal
 use Rattle.worker_core.proofs.Picking.{item_at, as_many_picked}
@@ -17,49 +17,49 @@ use Rattle.worker_core.proofs.Looking.{owed_at, each_more, each_fails}
 pub tell-requires : goal.tell-requires
 tell-requires c =
     let xs : List (Session Replay) = c.args.sessions.now.sessions in
-    let many : length c.args.audience.now.whose.items ≡ length xs = as_many_picked c.args.audience.now.viewers.items c.args.audience.now.whose.items _ c.requires.audience ∙ length-map xs viewer_of in
-    omega (arith, many, c.loop-place.invariant.as_many)
+    let many : length c.args.recipients.now.whose.items ≡ length xs = as_many_picked c.args.recipients.now.viewers.items c.args.recipients.now.whose.items _ c.requires.recipients ∙ length-map xs viewer_of in
+    omega (arith, many, c.loop-index.invariant.as_many)
 
 pub returns-in_err-tell : goal.returns-in_err-tell
 returns-in_err-tell c s noted is accepted =
     let xs : List (Session Replay) = c.args.sessions.now.sessions in
-    let i = c.loop-place.place in
+    let i = c.loop-index.index in
     let e = c.args.entry.now in
-    let a = c.args.audience.now in
+    let a = c.args.recipients.now in
     let o = c.in_ok-owed.owed in
-    let many : length a.whose.items ≡ length xs = as_many_picked a.viewers.items a.whose.items _ c.requires.audience ∙ length-map xs viewer_of in
+    let many : length a.whose.items ≡ length xs = as_many_picked a.viewers.items a.whose.items _ c.requires.recipients ∙ length-map xs viewer_of in
     let lt : i < length xs = omega (arith, many) in
     let here = item_at xs i lt in
-    let told = c.loop-place.invariant.told s noted is accepted in
+    let told = c.loop-index.invariant.told s noted is accepted in
     let picks : Picks o.told.items o.whose.items (map (owed s e) a.viewers.items) =
     subst (λ (vs : List Viewer). Picks o.told.items o.whose.items (map (owed s e) vs)) c.as_slice.ensures.value
     (c.in_ok-owed.ensures s (noted ∙ ap (map (λ (v : Viewer). was_of s v e)) (sym c.as_slice.ensures.value)) is accepted) in
-    let due = owed_at s e a.viewers.items a.whose.items o.told.items o.whose.items xs i _ 0 lt here c.requires.audience picks (ap (λ ws. get_or ws i 0) c.as_slice-whose.ensures.value) in
+    let due = owed_at s e a.viewers.items a.whose.items o.told.items o.whose.items xs i _ 0 lt here c.requires.recipients picks (ap (λ ws. get_or ws i 0) c.as_slice-whose.ensures.value) in
     let ds = owed s e here.item.viewer in
     let p = err_from_is_err_and c.from_residual-in_err-tell.result c.from_residual-in_err-tell.ensures.1 in
     rw p.1 (subst (λ (f : StepFault). FailsEach s e c.args.sessions.now f) (sym p.2)
-    (each_fails s e c.args.sessions.now ds c.loop-place.sessions c.args.out.now.items c.loop-place.out.items i lt here
+    (each_fails s e c.args.sessions.now ds c.loop-index.sessions c.args.out.now.items c.loop-index.out.items i lt here
     (record { sessions = told.0; out = told.1.0; counted = told.1.1 }) refl c.in_err-tell.field-0.0 (c.in_err-tell.ensures.told ds due)))
 
-pub loop-place-preserved : goal.loop-place-preserved
-loop-place-preserved c = record {
+pub loop-index-preserved : goal.loop-index-preserved
+loop-index-preserved c = record {
   told = λ s noted is accepted.
       let xs : List (Session Replay) = c.args.sessions.now.sessions in
-      let i = c.loop-place.place in
+      let i = c.loop-index.index in
       let e = c.args.entry.now in
-      let a = c.args.audience.now in
+      let a = c.args.recipients.now in
       let o = c.in_ok-owed.owed in
-      let many : length a.whose.items ≡ length xs = as_many_picked a.viewers.items a.whose.items _ c.requires.audience ∙ length-map xs viewer_of in
+      let many : length a.whose.items ≡ length xs = as_many_picked a.viewers.items a.whose.items _ c.requires.recipients ∙ length-map xs viewer_of in
       let lt : i < length xs = omega (arith, many) in
       let here = item_at xs i lt in
-      let told = c.loop-place.invariant.told s noted is accepted in
+      let told = c.loop-index.invariant.told s noted is accepted in
       let picks : Picks o.told.items o.whose.items (map (owed s e) a.viewers.items) =
       subst (λ (vs : List Viewer). Picks o.told.items o.whose.items (map (owed s e) vs)) c.as_slice.ensures.value
       (c.in_ok-owed.ensures s (noted ∙ ap (map (λ (v : Viewer). was_of s v e)) (sym c.as_slice.ensures.value)) is accepted) in
-      let due = owed_at s e a.viewers.items a.whose.items o.told.items o.whose.items xs i _ 0 lt here c.requires.audience picks (ap (λ ws. get_or ws i 0) c.as_slice-whose.ensures.value) in
+      let due = owed_at s e a.viewers.items a.whose.items o.told.items o.whose.items xs i _ 0 lt here c.requires.recipients picks (ap (λ ws. get_or ws i 0) c.as_slice-whose.ensures.value) in
       let ds = owed s e here.item.viewer in
-      let step = each_more s e c.args.sessions.now ds c.loop-place.sessions c.args.out.now.items c.loop-place.out.items i lt here
+      let step = each_more s e c.args.sessions.now ds c.loop-index.sessions c.args.out.now.items c.loop-index.out.items i lt here
       (record { sessions = told.0; out = told.1.0; counted = told.1.1 }) refl c.tell.new.sessions c.tell.new.out.items (c.in_ok-tell.ensures.told ds due) in
       (step.sessions, (step.out, step.counted));
-  as_many = c.in_ok-tell.ensures.as_many ∙ c.loop-place.invariant.as_many;
+  as_many = c.in_ok-tell.ensures.as_many ∙ c.loop-index.invariant.as_many;
 }

@@ -11,11 +11,11 @@ use Rattle.worker_core.specs.Spent.{told_spends}
 use Rattle.worker_core.specs.Telling.{kept_with}
 use Rattle.worker_core.proofs.look.tell_each.Given as goal
 
-abbrev pub invariant-loop-place : goal.invariant-loop-place
-invariant-loop-place l = record {
-  told : (s : Record) → l.notes ≡ map (λ (v : Viewer). was_of s v l.entry) l.audience.viewers.items → l.guild ≡ applied s l.entry → accepts s l.entry ≡ true
-      → (l.sessions ≡ kept_with (map (told_more s l.entry) (take l.place l.fn.sessions.sessions) ++ drop l.place l.fn.sessions.sessions) l.fn.sessions)
-      × ((l.out.items ≡ l.fn.out.items ++ all_written (flat_map (told_sends s l.entry) (take l.place l.fn.sessions.sessions)))
-      × (list_any (told_spends s l.entry) (take l.place l.fn.sessions.sessions) ≡ false));
+abbrev pub invariant-loop-index : goal.invariant-loop-index
+invariant-loop-index l = record {
+  told : (s : Record) → l.notes ≡ map (λ (v : Viewer). was_of s v l.entry) l.recipients.viewers.items → l.guild ≡ applied s l.entry → accepts s l.entry ≡ true
+      → (l.sessions ≡ kept_with (map (told_more s l.entry) (take l.index l.fn.sessions.sessions) ++ drop l.index l.fn.sessions.sessions) l.fn.sessions)
+      × ((l.out.items ≡ l.fn.out.items ++ all_written (flat_map (told_sends s l.entry) (take l.index l.fn.sessions.sessions)))
+      × (list_any (told_spends s l.entry) (take l.index l.fn.sessions.sessions) ≡ false));
   as_many : length l.sessions.sessions ≡ length l.fn.sessions.sessions;
 }

@@ -1,4 +1,4 @@
--- The session at the place is one dispatch further, and is sent it where it is attached.
+-- The session at the index is one dispatch further, and is sent it if it is attached.
 use Rattle.std.proofs.Common.{Some, ap, ◌∙◌}
 use Rattle.payload_text.specs.Around.{text_around}
 use Rattle.event_json.proofs.Frames.{numbered_is}
@@ -10,5 +10,5 @@ returns c =
     let number = c.in_ok-number.number in
     let d = c.args.dispatch.now in
     let text = c.in_ok-text.ensures ∙ (ap (λ parts. text_around parts (Some number)) c.requires.envelope ∙ numbered_is d number) in
-    tells_one c.args.place d c.args.sessions.now c.push_at.new.self number c.conn_at.result c.in_ok-text.text c.args.out.now.items c.send_to.new.out.items
+    tells_one c.args.index d c.args.sessions.now c.push_at.new.self number c.conn_at.result c.in_ok-text.text c.args.out.now.items c.send_to.new.out.items
     c.in_ok-number.ensures.number c.in_ok-number.ensures.fits c.conn_at.ensures text c.push_at.ensures c.in_ok-send_to.ensures

@@ -10,29 +10,29 @@ use Rattle.worker_core.proofs.Telling.{tells_more, fails_more, as_many_at, last_
 
 pub returns-in_err-tell_one : goal.returns-in_err-tell_one
 returns-in_err-tell_one c =
-    let i = c.loop-index.index in
+    let i = c.loop-next.next in
     let ds : List Dispatch = c.args.dispatches.now in
-    let d : Dispatch = c.index-dispatches-index.result in
+    let d : Dispatch = c.index-dispatches-next.result in
     let fault : StepFault = c.in_err-tell_one.field-0.0 in
     let lt : i < length ds = omega arith in
-    let whole : take i ds ++ d ∷ drop (i + 1) ds ≡ ds = ap (λ es. take i ds ++ es) (sym (rest_dropped ds i d lt (sym c.index-dispatches-index.is))) ∙ take-append-drop i ds in
-    let fails = fails_more c.args.place (take i ds) d c.args.sessions.now c.loop-index.sessions c.args.out.now.items c.loop-index.out.items c.loop-index.invariant.told (drop (i + 1) ds) fault c.in_err-tell_one.ensures in
+    let whole : take i ds ++ d ∷ drop (i + 1) ds ≡ ds = ap (λ es. take i ds ++ es) (sym (rest_dropped ds i d lt (sym c.index-dispatches-next.is))) ∙ take-append-drop i ds in
+    let fails = fails_more c.args.index (take i ds) d c.args.sessions.now c.loop-next.sessions c.args.out.now.items c.loop-next.out.items c.loop-next.invariant.told (drop (i + 1) ds) fault c.in_err-tell_one.ensures in
     let p = err_from_is_err_and c.from_residual.result c.from_residual.ensures.1 in
-    rw p.1 (subst (λ (f : StepFault). FailsAt c.args.place (λ x. ds) c.args.sessions.now f) (sym p.2)
-    (subst (λ (es : List Dispatch). FailsAt c.args.place (λ x. es) c.args.sessions.now fault) whole fails))
+    rw p.1 (subst (λ (f : StepFault). FailsAt c.args.index (λ x. ds) c.args.sessions.now f) (sym p.2)
+    (subst (λ (es : List Dispatch). FailsAt c.args.index (λ x. es) c.args.sessions.now fault) whole fails))
 
-pub loop-index-preserved : goal.loop-index-preserved
-loop-index-preserved c =
-    let i = c.loop-index.index in
+pub loop-next-preserved : goal.loop-next-preserved
+loop-next-preserved c =
+    let i = c.loop-next.next in
     let ds : List Dispatch = c.args.dispatches.now in
-    let d : Dispatch = c.index-dispatches-index.result in
+    let d : Dispatch = c.index-dispatches-next.result in
     let lt : i < length ds = omega arith in
-    let mid = c.loop-index.sessions in
-    let outm = c.loop-index.out.items in
-    let there : c.args.place < length mid.sessions = subst (λ n. c.args.place < n) (sym c.loop-index.invariant.as_many) c.requires.place in
+    let mid = c.loop-next.sessions in
+    let outm = c.loop-next.out.items in
+    let there : c.args.index < length mid.sessions = subst (λ n. c.args.index < n) (sym c.loop-next.invariant.as_many) c.requires.index in
     record {
-      told = subst (λ (es : List Dispatch). TellsAt c.args.place (λ x. es) c.args.sessions.now c.tell_one.new.sessions c.args.out.now.items c.tell_one.new.out.items)
-          (sym (last_taken ds i d lt (sym c.index-dispatches-index.is)))
-          (tells_more c.args.place (take i ds) d c.args.sessions.now mid c.args.out.now.items outm c.loop-index.invariant.told c.tell_one.new.sessions c.tell_one.new.out.items c.in_ok-tell_one.ensures);
-      as_many = as_many_at c.args.place (λ x. d ∷ []) mid c.tell_one.new.sessions outm c.tell_one.new.out.items there c.in_ok-tell_one.ensures ∙ c.loop-index.invariant.as_many;
+      told = subst (λ (es : List Dispatch). TellsAt c.args.index (λ x. es) c.args.sessions.now c.tell_one.new.sessions c.args.out.now.items c.tell_one.new.out.items)
+          (sym (last_taken ds i d lt (sym c.index-dispatches-next.is)))
+          (tells_more c.args.index (take i ds) d c.args.sessions.now mid c.args.out.now.items outm c.loop-next.invariant.told c.tell_one.new.sessions c.tell_one.new.out.items c.in_ok-tell_one.ensures);
+      as_many = as_many_at c.args.index (λ x. d ∷ []) mid c.tell_one.new.sessions outm c.tell_one.new.out.items there c.in_ok-tell_one.ensures ∙ c.loop-next.invariant.as_many;
     }

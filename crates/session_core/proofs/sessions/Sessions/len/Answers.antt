@@ -6,4 +6,4 @@ use Rattle.session_core.proofs.sessions.Sessions.len.Goals as goal
 
 pub returns-clause-live : goal.returns-clause-live
 returns-clause-live c =
-    rw (← c.self.view_is, live-kept c.self.inside.live.entries) (c.len.ensures.len ∙ sym (length-map c.self.inside.live.entries session_of))
+    rw (← c.self.view_is, live-kept c.self.inside.sessions.entries) (c.len.ensures.len ∙ sym (length-map c.self.inside.sessions.entries session_of))

@@ -9,26 +9,26 @@ use Rattle.edit_events.specs.declared.due.Was.{Was}
 use Rattle.worker_core.proofs.Picking.{item_at, picks_next}
 use Rattle.worker_core.proofs.told.Owed.of.Goals as goal
 
-pub loop-place-init : goal.loop-place-init
-loop-place-init c s noted is accepted =
-    (ap (map (slice_get c.new-told.result.items)) c.in_ok-whose.ensures.items, λ f place v at formed. absurd (cc (c.new-forms.ensures (Some f), at)))
+pub loop-index-init : goal.loop-index-init
+loop-index-init c s noted is accepted =
+    (ap (map (slice_get c.new-told.result.items)) c.in_ok-whose.ensures.items, λ f index v at formed. absurd (cc (c.new-forms.ensures (Some f), at)))
 
-pub loop-place-preserved : goal.loop-place-preserved
-loop-place-preserved c s noted is accepted =
+pub loop-index-preserved : goal.loop-index-preserved
+loop-index-preserved c s noted is accepted =
     let vs : List Viewer = c.args.viewers.now in
-    let i = c.loop-place.place in
+    let i = c.loop-index.index in
     let e = c.args.entry.now in
     let lt : i < length vs = omega arith in
     let here = item_at vs i lt in
-    let v : Viewer = c.index-viewers-place.result in
-    let was : Was = c.index-notes-place.result in
-    let viewed : v ≡ here.item = c.index-viewers-place.is ∙ get_or_from_slice_get vs i here.item v here.found in
+    let v : Viewer = c.index-viewers-index.result in
+    let was : Was = c.index-notes-index.result in
+    let viewed : v ≡ here.item = c.index-viewers-index.is ∙ get_or_from_slice_get vs i here.item v here.found in
     let kept : was ≡ was_of s here.item e =
-    c.index-notes-place.is ∙ get_or_from_slice_get c.args.notes.now i (was_of s here.item e) was
+    c.index-notes-index.is ∙ get_or_from_slice_get c.args.notes.now i (was_of s here.item e) was
     (ap (λ ns. slice_get ns i) noted ∙ (slice_get-map (λ (w : Viewer). was_of s w e) vs i ∙ ap (option_map (λ (w : Viewer). was_of s w e)) here.found)) in
     let noted_here : was ≡ was_of s v e = kept ∙ ap (λ (w : Viewer). was_of s w e) (sym viewed) in
-    let both = c.in_ok-owed.ensures.owed s noted_here is accepted (c.loop-place.invariant s noted is accepted).1 in
+    let both = c.in_ok-owed.ensures.owed s noted_here is accepted (c.loop-index.invariant s noted is accepted).1 in
     let picks =
-    picks_next (owed s e) vs i here c.loop-place.told.items c.owed_place.new.told.items c.loop-place.whose.items c.push.new.self.items c.in_ok-owed.owed lt
-    (c.loop-place.invariant s noted is accepted).0 c.in_ok-owed.ensures.longer c.in_ok-push.ensures.items (both.0 ∙ ap (λ (w : Viewer). Some (owed s e w)) viewed) in
+    picks_next (owed s e) vs i here c.loop-index.told.items c.owed_index.new.told.items c.loop-index.whose.items c.push.new.self.items c.in_ok-owed.owed lt
+    (c.loop-index.invariant s noted is accepted).0 c.in_ok-owed.ensures.longer c.in_ok-push.ensures.items (both.0 ∙ ap (λ (w : Viewer). Some (owed s e w)) viewed) in
     (picks, both.1)

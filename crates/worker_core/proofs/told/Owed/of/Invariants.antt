@@ -5,10 +5,10 @@ use Rattle.dispatch_types.specs.declared.viewer.Viewer.{Viewer}
 use Rattle.edit_apply.specs.Edits.{accepts, applied}
 use Rattle.edit_events.specs.Due.{owed}
 use Rattle.edit_events.specs.Was.{was_of}
-use Rattle.worker_core.specs.Audience.{Picks}
+use Rattle.worker_core.specs.Recipients.{Picks}
 use Rattle.worker_core.specs.Forms.{AreOwed}
 use Rattle.worker_core.proofs.told.Owed.of.Given as goal
 
-abbrev pub invariant-loop-place : goal.invariant-loop-place
-invariant-loop-place l = (s : Record) → l.notes ≡ map (λ (v : Viewer). was_of s v l.entry) l.viewers → l.guild ≡ applied s l.entry → accepts s l.entry ≡ true
-    → Picks l.told.items l.whose.items (map (owed s l.entry) (take l.place l.viewers)) × AreOwed s l.entry l.told.items l.forms
+abbrev pub invariant-loop-index : goal.invariant-loop-index
+invariant-loop-index l = (s : Record) → l.notes ≡ map (λ (v : Viewer). was_of s v l.entry) l.viewers → l.guild ≡ applied s l.entry → accepts s l.entry ≡ true
+    → Picks l.told.items l.whose.items (map (owed s l.entry) (take l.index l.viewers)) × AreOwed s l.entry l.told.items l.forms

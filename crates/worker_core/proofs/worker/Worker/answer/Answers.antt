@@ -4,4 +4,4 @@ use Rattle.worker_core.proofs.Wanting.{nobody_asks}
 use Rattle.worker_core.proofs.worker.Worker.answer.Goals as goal
 
 pub returns-in-None : goal.returns-in-None
-returns-in-None c = nobody_asks c.args.self.now c.args.session c.args.ask.now c.args.out.now.items (sym c.place_of.ensures ∙ c.in-None.is)
+returns-in-None c = nobody_asks c.args.self.now c.args.session c.args.ask.now c.args.out.now.items (sym c.index_of.ensures ∙ c.in-None.is)

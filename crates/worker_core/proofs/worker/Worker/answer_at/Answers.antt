@@ -14,12 +14,12 @@ returns-in_err-count_chunks c =
     let past : is_past c.args.self.now.chunks (length c.in_ok-chunks.chunks.items) ≡ true = ap (is_past c.args.self.now.chunks) (sym count) ∙ c.in_err-count_chunks.ensures.spent in
     let p = err_from_is_err_and c.from_residual-in_err-count_chunks.result c.from_residual-in_err-count_chunks.ensures.1 in
     rw p.1 (subst (λ (f : StepFault). GivesNot c.args.self.now c.args.session (Members c.args.ask.now) f) (sym p.2)
-    (uncounted c.args.self.now c.args.session c.args.ask.now c.args.place c.in_ok-chunks.chunks.items c.requires c.in_ok-chunks.ensures past))
+    (uncounted c.args.self.now c.args.session c.args.ask.now c.args.index c.in_ok-chunks.chunks.items c.requires c.in_ok-chunks.ensures past))
 
 pub returns : goal.returns
 returns c =
     let count : c.len.result ≡ length c.in_ok-chunks.chunks.items = search rules in
-    answer_ends c.args.self.now c.args.session c.args.ask.now c.args.place c.in_ok-chunks.chunks.items c.requires c.in_ok-chunks.ensures
+    answer_ends c.args.self.now c.args.session c.args.ask.now c.args.index c.in_ok-chunks.chunks.items c.requires c.in_ok-chunks.ensures
     c.tell_at.result c.count_chunks.new.self c.tell_at.new.self c.args.out.now.items c.tell_at.new.out.items
     (c.in_ok-count_chunks.ensures.ok ∙ ap (λ n. record c.args.self.now { chunks = c.args.self.now.chunks + n }) count)
     (ap (is_past c.args.self.now.chunks) (sym count) ∙ c.in_ok-count_chunks.ensures.counted)

@@ -1,0 +1,293 @@
+-- Seats and the workers that they stand for.
+use Rattle.std.proofs.Common.{◌≡◌, ℕ, zero, suc, ◌+◌, ◌<◌, ◌≤◌, List, [], ◌∷◌, ◌++◌, Bool, true, false, Option, Some, None, Result, Ok, Err, MatchResult, if◌then◌else◌, length, get_or, set, refl, sym, ap, ◌∙◌, subst, append-nil, arith}
+use Rattle.std.specs.Prelude.{◌==◌, ◌||◌, drop, nat_lt, max}
+use Rattle.std.proofs.lemmas.Bool.Decides.{nat_tests}
+use Rattle.std.proofs.lemmas.List.{length-append, length-drop}
+use Rattle.std.proofs.lemmas.Bool.{eqb-true}
+use Rattle.collections.specs.ById.{find_id, put_id}
+use Rattle.collections.proofs.Finds.{find-put}
+use Rattle.dispatch_types.specs.Fold.{contains}
+use Rattle.edit_apply.specs.declared.Edit.{Edit}
+use Rattle.dispatch_types.specs.declared.viewer.Viewer.{Viewer}
+use Rattle.session_core.specs.declared.bot.Bot.{Bot}
+use Rattle.session_core.specs.State.{State, Session, Detached, opened, has_connection, with_connection, gone}
+use Rattle.session_core.specs.Ends.{is_final, silent_of, lost, all_gone, left, client_closed}
+use Rattle.session_core.specs.Frames.{Want, Members, Presence, Voice, Move, Nothing, Answers, ClosesWith, Begins, Denies, Resumes, Wants, framed as with_frame, move_of}
+use Rattle.worker_core.specs.World.{Worker, Input, Look, Open, Frame, Lost, Closed, Tick, cursors, ended_at, taken, outputs, looked, entered, Sent, replay, begins_with, after_want, after_move}
+use Rattle.worker_core.specs.Spent.{spends}
+use Rattle.worker_core.specs.Outputs.{all_written}
+use Rattle.worker_core.specs.Telling.{FaultBy}
+use Rattle.worker_core.specs.Stands.{Stands as StandsFor, Steps, Fails}
+use Rattle.worker_core.specs.declared.io.StepFault.{StepFault}
+use Rattle.worker_core.specs.declared.io.Output.{Output as Written}
+use Rattle.worker_core.proofs.Worlds.{looked_seen}
+use Rattle.scenario.specs.declared.worker_slot.WorkerSlot.{WorkerSlot}
+use Rattle.scenario.specs.Server.{for_worker, given_sends, given_spends}
+use Rattle.scenario.specs.Stands.{SlotSteps, SlotFails, SlotsStep, SlotsFail, SlotStands, SlotsStand, moved, all_moved, all_sends, any_spends, cursor_id, cursor_value, cursor_at, is_look}
+
+differ : (a b : ℕ) → a < b → (a == b) ≡ false
+differ a b h = grind (arith, nat_tests)
+
+differ_below : (a b : ℕ) → b < a → (a == b) ≡ false
+differ_below a b h = grind (arith, nat_tests)
+
+same : (a : ℕ) → (a == a) ≡ true
+same a = grind (arith, nat_tests)
+
+-- ---- one worker among them
+
+module _ (gs : List ℕ) (m : ℕ) (f : Worker → Input) where
+  -- what is given to the worker of this number
+  abbrev pub one_given : Worker → Option Input
+  one_given w = for_worker m (f w) w
+
+  not_given : (w : Worker) → (w.core.worker == m) ≡ false → one_given w ≡ None
+  not_given w e = ap (λ b. if b then Some (f w) else None) e
+
+  is_given : (w : Worker) → (w.core.worker == m) ≡ true → one_given w ≡ Some (f w)
+  is_given w e = ap (λ b. if b then Some (f w) else None) e
+
+  -- nothing comes to workers of other numbers
+  pub record Stay (ws : List Worker) : Type 0 where
+    pub moves : all_moved one_given ws ≡ ws
+    pub sends : all_sends one_given ws ≡ []
+    pub spends : any_spends one_given ws ≡ false
+
+  stay_more : (w : Worker) (ws : List Worker) → (w.core.worker == m) ≡ false → Stay ws → Stay (w ∷ ws)
+  stay_more w ws e rest =
+      let none : one_given w ≡ None = not_given w e in
+      record {
+        moves = ap (λ o. moved w o ∷ all_moved one_given ws) none ∙ ap (λ vs. w ∷ vs) rest.moves;
+        sends = ap (λ o. given_sends w o ++ all_sends one_given ws) none ∙ rest.sends;
+        spends = ap (λ o. given_spends w o || any_spends one_given ws) none ∙ rest.spends;
+      }
+
+  pub others_stay : (ks : List WorkerSlot) (ws : List Worker) (j : ℕ) → SlotsStand gs j ks ws → m < j → Stay ws
+  others_stay [] [] j sit h = record { moves = refl; sends = refl; spends = refl }
+  others_stay [] (w ∷ ws) j sit h = absurd sit
+  others_stay (k ∷ ks) [] j sit h = absurd sit
+  others_stay (k ∷ ks) (w ∷ ws) j sit h =
+      stay_more w ws (ap (λ n. n == m) sit.0.number ∙ differ_below j m h) (others_stay ks ws (j + 1) sit.1 (omega arith))
+
+  pub none_there : (ks : List WorkerSlot) (ws : List Worker) (j : ℕ) → SlotsStand gs j ks ws → j + length ks ≤ m → Stay ws
+  none_there [] [] j sit h = record { moves = refl; sends = refl; spends = refl }
+  none_there [] (w ∷ ws) j sit h = absurd sit
+  none_there (k ∷ ks) [] j sit h = absurd sit
+  none_there (k ∷ ks) (w ∷ ws) j sit h =
+      stay_more w ws (ap (λ n. n == m) sit.0.number ∙ differ j m (omega arith)) (none_there ks ws (j + 1) sit.1 (omega arith))
+
+  -- the worker of this number
+  pub record Found (i n : ℕ) (ks : List WorkerSlot) (ws : List Worker) (d : WorkerSlot) : Type 0 where
+    pub one : Worker
+    pub sits : SlotStands gs m (get_or ks n d) one
+    pub sends : all_sends one_given ws ≡ outputs one (f one)
+    pub spends : any_spends one_given ws ≡ spends one (f one)
+    pub moves : (k : WorkerSlot) → SlotStands gs m k (taken one (f one)) → SlotsStand gs i (set ks n k) (all_moved one_given ws)
+
+  false_or : (b : Bool) → (b || false) ≡ b
+  false_or true = refl
+  false_or false = refl
+
+  pub found : (ks : List WorkerSlot) (ws : List Worker) (i n : ℕ) (d : WorkerSlot) → m ≡ i + n → n < length ks → SlotsStand gs i ks ws → Found i n ks ws d
+  found [] ws i n d is h sit = absurd (omega arith)
+  found (k ∷ ks) [] i n d is h sit = absurd sit
+  found (k ∷ ks) (w ∷ ws) i zero d is h sit =
+      let here : m ≡ i = omega arith in
+      let some : one_given w ≡ Some (f w) = is_given w (ap (λ n. n == m) (sit.0.number ∙ sym here) ∙ same m) in
+      let rest : Stay ws = others_stay ks ws (i + 1) sit.1 (omega arith) in
+      record {
+        one = w;
+        sits = subst (λ n. SlotStands gs n k w) (sym here) sit.0;
+        sends = ap (λ o. given_sends w o ++ all_sends one_given ws) some ∙ (ap (λ l. outputs w (f w) ++ l) rest.sends ∙ append-nil (outputs w (f w)));
+        spends = ap (λ o. given_spends w o || any_spends one_given ws) some ∙ (ap (λ b. spends w (f w) || b) rest.spends ∙ false_or (spends w (f w)));
+        moves = λ k' sits. (
+          subst (λ o. SlotStands gs i k' (moved w o)) (sym some) (subst (λ n. SlotStands gs n k' (taken w (f w))) here sits),
+          subst (λ vs. SlotsStand gs (i + 1) ks vs) (sym rest.moves) sit.1,
+        );
+      }
+  found (k ∷ ks) (w ∷ ws) i (suc n) d is h sit =
+      let none : one_given w ≡ None = not_given w (ap (λ n. n == m) sit.0.number ∙ differ i m (omega arith)) in
+      let rest : Found (i + 1) n ks ws d = found ks ws (i + 1) n d (omega arith) (omega arith) sit.1 in
+      record {
+        one = rest.one;
+        sits = rest.sits;
+        sends = ap (λ o. given_sends w o ++ all_sends one_given ws) none ∙ rest.sends;
+        spends = ap (λ o. given_spends w o || any_spends one_given ws) none ∙ rest.spends;
+        moves = λ k' sits. (subst (λ o. SlotStands gs i k (moved w o)) (sym none) sit.0, rest.moves k' sits);
+      }
+
+-- ---- a worker keeps its number and its guilds
+
+looked_number : (es : List Edit) (w : Worker) (g : ℕ) → (looked w g es).core.worker ≡ w.core.worker
+looked_number [] w g = refl
+looked_number (e ∷ es) w g = looked_number es (entered w g e) g
+
+looked_guilds : (es : List Edit) (w : Worker) (g : ℕ) → (looked w g es).guilds ≡ w.guilds
+looked_guilds [] w g = refl
+looked_guilds (e ∷ es) w g = looked_guilds es (entered w g e) g
+
+opened_number : (conn now : ℕ) (s : State Sent) → (opened conn now s).worker ≡ s.worker
+opened_number conn now s = by_tests (has_connection conn s) (nat_lt (length s.connections) 64)
+  where
+    by_tests : (a b : Bool) → (if a then s else (if b then with_connection conn now s else s)).worker ≡ s.worker
+    by_tests true b = refl
+    by_tests false true = refl
+    by_tests false false = refl
+
+moved_number : (conn now : ℕ) (sent : Bot → Viewer → ℕ → Sent) (move : Move) (s : State Sent) → (with_frame conn now sent move s).worker ≡ s.worker
+moved_number conn now sent Nothing s = refl
+moved_number conn now sent Answers s = refl
+moved_number conn now sent (ClosesWith code) s = refl
+moved_number conn now sent (Begins bot viewer) s = refl
+moved_number conn now sent Denies s = refl
+moved_number conn now sent (Resumes number None seq held) s = refl
+moved_number conn now sent (Resumes number (Some older) seq held) s = refl
+moved_number conn now sent (Wants number want) s = refl
+
+-- a worker that differs in no more than its chunks and what its sessions were sent
+record Alike (w v : Worker) : Type 0 where
+  pub number : v.core.worker ≡ w.core.worker
+  pub guilds : v.guilds ≡ w.guilds
+  pub seen : (g : ℕ) → v.seen g ≡ w.seen g
+
+itself : (w : Worker) → Alike w w
+itself w = record { number = refl; guilds = refl; seen = λ g. refl }
+
+after_want_alike : (want : Want) (number : ℕ) (w : Worker) → Alike w (after_want number want w)
+after_want_alike (Members ask) number w = record { number = refl; guilds = refl; seen = λ g. refl }
+after_want_alike (Presence status) number w = itself w
+after_want_alike (Voice ask) number w = itself w
+
+after_move_alike : (move : Move) (w : Worker) → Alike w (after_move move w)
+after_move_alike Nothing w = itself w
+after_move_alike Answers w = itself w
+after_move_alike (ClosesWith code) w = itself w
+after_move_alike (Begins bot viewer) w = itself w
+after_move_alike Denies w = itself w
+after_move_alike (Resumes number older seq held) w = itself w
+after_move_alike (Wants number want) w = after_want_alike want number w
+
+-- what a frame does, and what its session's client wants
+framed_alike : (conn : ℕ) (text : List ℕ) (w : Worker) → Alike (record w { core = with_frame conn w.now (begins_with w) (move_of replay w.core w.now conn text) w.core }) (taken w (Frame conn text))
+framed_alike conn text w =
+    let move : Move = move_of replay w.core w.now conn text in
+    after_move_alike move (record w { core = with_frame conn w.now (begins_with w) move w.core })
+
+all_gone_number : (conns : List ℕ) (now : ℕ) (s : State Sent) → (all_gone conns now s).worker ≡ s.worker
+all_gone_number [] now s = refl
+all_gone_number (conn ∷ conns) now s = all_gone_number conns now (gone conn (Detached now) s)
+
+lost_number : (conn now : ℕ) (s : State Sent) → (lost conn now s).worker ≡ s.worker
+lost_number conn now s = by_connection (has_connection conn s)
+  where
+    by_connection : (b : Bool) → (if b then gone conn (Detached now) s else s).worker ≡ s.worker
+    by_connection true = refl
+    by_connection false = refl
+
+closed_number : (ended : Session Sent → List (Session Sent)) (conn code now : ℕ) (s : State Sent) → (client_closed ended conn code now s).worker ≡ s.worker
+closed_number ended conn code now s = by_code (is_final code) (has_connection conn s)
+  where
+    by_code : (final there : Bool) → (if final then (if there then left ended conn s else s) else lost conn now s).worker ≡ s.worker
+    by_code false there = lost_number conn now s
+    by_code true true = refl
+    by_code true false = refl
+
+taken_number : (i : Input) (w : Worker) → is_look i ≡ false → (taken w i).core.worker ≡ w.core.worker
+taken_number (Look g es) w calm = absurd (cc calm)
+taken_number (Open conn) w calm = opened_number conn w.now w.core
+taken_number (Frame conn text) w calm = (framed_alike conn text w).number ∙ moved_number conn w.now (begins_with w) (move_of replay w.core w.now conn text) w.core
+taken_number (Lost conn) w calm = lost_number conn w.now w.core
+taken_number (Closed conn code) w calm = closed_number (ended_at (cursors w.seen)) conn code w.now w.core
+taken_number (Tick now) w calm = all_gone_number (silent_of (max w.now now) w.core.connections) (max w.now now) w.core
+
+taken_guilds : (i : Input) (w : Worker) → is_look i ≡ false → (taken w i).guilds ≡ w.guilds
+taken_guilds (Look g es) w calm = absurd (cc calm)
+taken_guilds (Open conn) w calm = refl
+taken_guilds (Frame conn text) w calm = (framed_alike conn text w).guilds
+taken_guilds (Lost conn) w calm = refl
+taken_guilds (Closed conn code) w calm = refl
+taken_guilds (Tick now) w calm = refl
+
+taken_seen : (i : Input) (w : Worker) → is_look i ≡ false → (g : ℕ) → (taken w i).seen g ≡ w.seen g
+taken_seen (Look g es) w calm h = absurd (cc calm)
+taken_seen (Open conn) w calm h = refl
+taken_seen (Frame conn text) w calm h = (framed_alike conn text w).seen h
+taken_seen (Lost conn) w calm h = refl
+taken_seen (Closed conn code) w calm h = refl
+taken_seen (Tick now) w calm h = refl
+
+-- ---- one slot
+
+module _ (gs : List ℕ) (n : ℕ) (old new : WorkerSlot) (w : Worker) (sits : SlotStands gs n old w) where
+  -- a worker was given something that is no look
+  pub give_sits : (i : Input) → is_look i ≡ false → StandsFor new.worker (taken w i) → new.cursors ≡ old.cursors → SlotStands gs n new (taken w i)
+  give_sits i calm stands cursors = record {
+    number = taken_number i w calm ∙ sits.number;
+    guilds = taken_guilds i w calm ∙ sits.guilds;
+    worker = stands;
+    cursors = λ g. ap (cursor_at g) cursors ∙ (sits.cursors g ∙ ap (λ es. length es) (sym (taken_seen i w calm g)));
+  }
+
+  -- a worker was given the entries after its cursor
+  pub look_sits : (g at : ℕ) (entries : List Edit) → contains g gs ≡ true → at ≡ cursor_at g old.cursors
+      → StandsFor new.worker (taken w (Look g (drop at entries)))
+      → new.cursors ≡ put_id cursor_id (record { guild = g; at = max at (length entries) }) old.cursors → SlotStands gs n new (taken w (Look g (drop at entries)))
+  look_sits g at entries there is stands cursors =
+      let es : List Edit = drop at entries in
+      let here : contains g w.guilds ≡ true = ap (contains g) sits.guilds ∙ there in
+      let looks : taken w (Look g es) ≡ looked w g es = ap (λ b. if b then looked w g es else w) here in
+      subst (λ (v : Worker). SlotStands gs n new v) (sym looks) (record {
+        number = looked_number es w g ∙ sits.number;
+        guilds = looked_guilds es w g ∙ sits.guilds;
+        worker = subst (λ (v : Worker). StandsFor new.worker v) looks stands;
+        cursors = λ h. ap (cursor_at h) cursors ∙ (ap cursor_value (find-put cursor_id (record { guild = g; at = max at (length entries) }) h old.cursors)
+            ∙ (by_guild h (g == h) refl ∙ sym (ap length (looked_seen es w g h))));
+      })
+    where
+      count : length (w.seen g) ≡ at → max at (length entries) ≡ length (w.seen g ++ drop at entries)
+      count e = simp (length-append, length-drop) (omega (arith, e))
+
+      by_guild : (h : ℕ) (b : Bool) → (g == h) ≡ b
+          → cursor_value (if b then Some (record { guild = g; at = max at (length entries) }) else find_id cursor_id h old.cursors)
+          ≡ length (if b then w.seen h ++ drop at entries else w.seen h)
+      by_guild h true e =
+          let one : g ≡ h = eqb-true g h e in
+          count (sym (sits.cursors g) ∙ sym is) ∙ ap (λ k. length (w.seen k ++ drop at entries)) one
+      by_guild h false e = sits.cursors h
+
+  pub look_steps : (g at : ℕ) (entries next : List Edit) (out : List Written) → contains g gs ≡ true → at ≡ cursor_at g old.cursors → next ≡ drop at entries
+      → Steps w (Look g next) new.worker out → new.cursors ≡ put_id cursor_id (record { guild = g; at = max at (length entries) }) old.cursors
+      → SlotSteps gs n w (Look g (drop (length (w.seen g)) entries)) new out
+  look_steps g at entries next out there is given steps cursors =
+      let here : Steps w (Look g (drop at entries)) new.worker out = subst (λ (es : List Edit). Steps w (Look g es) new.worker out) given steps in
+      let all : SlotSteps gs n w (Look g (drop at entries)) new out = (look_sits g at entries there is here.0 cursors, (here.1.0, here.1.1)) in
+      subst (λ (k : ℕ). SlotSteps gs n w (Look g (drop k entries)) new out) (is ∙ sits.cursors g) all
+
+-- a fault of a look that was given the entries after the cursor
+pub look_fails : (gs : List ℕ) (n : ℕ) (old : WorkerSlot) (w : Worker) → SlotStands gs n old w → (g at : ℕ) (entries next : List Edit) (fault : StepFault)
+    → at ≡ cursor_at g old.cursors → next ≡ drop at entries → Fails w (Look g next) fault → SlotFails w (Look g (drop (length (w.seen g)) entries)) fault
+look_fails gs n old w sits g at entries next fault is given fails =
+    subst (λ (k : ℕ). SlotFails w (Look g (drop k entries)) fault) (is ∙ sits.cursors g) (subst (λ (es : List Edit). SlotFails w (Look g es) fault) given fails)
+
+-- ---- all slots
+
+pub by_result : {V E : Type 0} (r : Result V E) (P P' : V → Type 0) (Q Q' : E → Type 0) → ((x : V) → P x → P' x) → ((e : E) → Q e → Q' e) → MatchResult r P Q → MatchResult r P' Q'
+by_result (Ok x) P P' Q Q' f g h = f x h
+by_result (Err e) P P' Q Q' f g h = g e h
+
+module _ (gs : List ℕ) (m : ℕ) (f : Worker → Input) (ks : List WorkerSlot) (ws : List Worker) (sit : SlotsStand gs 0 ks ws) where
+  pub stay_step : (out : List Written) → out ≡ [] → length ks ≤ m → SlotsStep gs (one_given gs m f) ws ks out
+  stay_step out none h =
+      let stay : Stay gs m f ws = none_there gs m f ks ws 0 sit (omega arith) in
+      (subst (λ vs. SlotsStand gs 0 ks vs) (sym stay.moves) sit, (none ∙ ap all_written (sym stay.sends), stay.spends))
+
+  pub found_step : {V : Type 0} (items : V → List Written) (r : Result V StepFault) (d new : WorkerSlot) → m < length ks → d ≡ get_or ks m d
+      → ((w : Worker) → SlotStands gs m d w → MatchResult r (λ out. SlotSteps gs m w (f w) new (items out)) (SlotFails w (f w)))
+      → MatchResult r (λ out. SlotsStep gs (one_given gs m f) ws (set ks m new) (items out)) (SlotsFail (one_given gs m f) ws)
+  found_step items r d new h is steps =
+      let it : Found gs m f 0 m ks ws d = found gs m f ks ws 0 m d (omega arith) h sit in
+      by_result r (λ out. SlotSteps gs m it.one (f it.one) new (items out)) (λ out. SlotsStep gs (one_given gs m f) ws (set ks m new) (items out))
+      (SlotFails it.one (f it.one)) (SlotsFail (one_given gs m f) ws)
+      (λ out step. (it.moves new step.0, (step.1.0 ∙ ap all_written (sym it.sends), it.spends ∙ step.1.1)))
+      (λ fault fails. subst (λ b. FaultBy b fault) (sym it.spends) fails)
+      (steps it.one (subst (λ k. SlotStands gs m k it.one) (sym is) it.sits))

@@ -1,8 +1,0 @@
-use Rattle.std.proofs.Common.{sym}
-use Rattle.scenario.proofs.Seats.{look_steps}
-use Rattle.scenario.proofs.seat.Seat.look.Goals as goal
-
-pub returns : goal.returns
-returns c guilds number w there sits =
-    look_steps guilds number c.args.self.now _ w sits c.args.guild c.cursor-at.result c.args.entries.now c.in_ok-next.next _ there c.cursor-at.ensures c.in_ok-next.ensures
-    (c.in_ok-out.ensures.steps w sits.worker) (rw (sym c.max.ensures) c.in_ok-put.ensures.ok)

@@ -1,6 +1,0 @@
-use Rattle.edit_text.specs.declared.line.Line.TheVariants as line
-use Rattle.scenario.proofs.Stages.{tick_gives}
-use Rattle.scenario.proofs.stage.Stage.tick.Goals as goal
-
-pub returns : goal.returns
-returns c p stands = c.give.ensures p (line.Tick c.args.worker c.args.now) stands (tick_gives p c.args.worker c.args.now)

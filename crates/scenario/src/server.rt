@@ -1,0 +1,310 @@
+//! The server that a step file drives: bots, guilds, logs and workers.
+ghost use Rattle.std.specs.Prelude.{◌≡◌, false, option_map, OnOk, IfOk, MatchResult, []};
+ghost use Rattle.edit_text.specs.declared.line.Line.{Line};
+ghost use Rattle.worker_core.specs.Outputs.{input_of};
+ghost use Rattle.collections.specs.ById.{find_id};
+ghost use Rattle.edit_text.specs.declared.line.Line.TheVariants as line;
+ghost use Rattle.scenario.specs.Server.{Server as ModelServer, follow, has_token, refusal, first_server, opened_id};
+ghost use Rattle.scenario.specs.Stands.{Stands, Plays, PlaysNot, Gives, is_look, log_id, away};
+ghost use Rattle.scenario.specs.Transcript.{line_refusal, wish_refusal};
+
+use crate::guild_log::GuildLog;
+use crate::opened::Opened;
+use crate::worker_slot;
+use crate::worker_slot::{WorkerSlot, start};
+use collections::{ById, Seq, Text};
+use edit_apply::Edit;
+use edit_text::Line;
+use guild_model::Verdict;
+use session_core::Bot;
+use snowflake_id::Snowflake;
+use std::alloc::{AllocError, Global};
+use worker_core::{Input, Output, StepFault};
+
+/// The most entries of a guild's log.
+const LOG_ENTRIES: usize = 16_384;
+
+/// The bots and guilds of the head lines, the logs, the connection numbers that were used, and the
+/// workers, which exist from the first step on.
+#[derive(Drop)]
+pub struct Server {
+    alloc: Global,
+    bots: Seq<Bot>,
+    guilds: Seq<Snowflake>,
+    logs: ById<GuildLog>,
+    used: ById<Opened>,
+    slots: Vec<WorkerSlot>,
+}
+
+/// The result of a line: why its edit is refused, if it is, and what the worker sends.
+#[derive(Drop)]
+pub struct Answer {
+    pub refusal: Option<Verdict>,
+    pub outputs: Vec<Output>,
+}
+
+fn knows(bots: &[Bot], token: &str) -> bool
+    ensures { result ≡ has_token token.now bots.now }
+{
+    bots.iter().any(|bot| bot.token.is(token))
+}
+
+impl Server {
+    /// Before the first line.
+    pub fn new(alloc: Global) -> Server
+        ensures { Stands result first_server }
+    {
+        Server {
+            alloc,
+            bots: Seq::new(alloc),
+            guilds: Seq::new(alloc),
+            logs: ById::new(alloc),
+            used: ById::new(alloc),
+            slots: Vec::new(alloc),
+        }
+    }
+
+    fn add_bot(&mut self, bot: Bot) -> Result<(), AllocError>
+        ensures { OnOk result ((p : ModelServer) → Stands self.old p → Plays p (line.Bot bot.token bot.user bot.name bot.privileged) self.new []) }
+    {
+        if !self.slots.is_empty() || knows(self.bots.as_slice(), bot.token.as_str()) {
+            return Ok(());
+        }
+        self.bots.push(bot)
+    }
+
+    fn add_guild(&mut self, id: Snowflake) -> Result<(), AllocError>
+        ensures { OnOk result ((p : ModelServer) → Stands self.old p → Plays p (line.Guild id) self.new []) }
+    {
+        if !self.slots.is_empty() || self.logs.contains(id.0) {
+            return Ok(());
+        }
+        self.logs.insert(GuildLog::new(self.alloc, id))?;
+        self.guilds.push(id)
+    }
+
+    // Why an edit of a guild is not added to a log. `None` if it is added.
+    fn turned_away(&self, guild: Snowflake) -> Option<Verdict>
+        ensures { result ≡ away (find_id log_id guild self.now.logs) }
+    {
+        match self.logs.get(guild.0) {
+            None => Some(Verdict::NotOpen),
+            Some(log) => {
+                if log.entries.len() < LOG_ENTRIES {
+                    None
+                } else {
+                    Some(Verdict::TooMany { limit: 16_384 })
+                }
+            }
+        }
+    }
+
+    // Adds an edit to the guild's log, and says why it is refused, if it is. An edit of a guild without a
+    // head line, and one that finds the log full, is not added.
+    fn edit(&mut self, guild: Snowflake, edit: Edit) -> Result<Option<Verdict>, AllocError>
+        ensures answer { IfOk result (λ answer. (p : ModelServer) → Stands self.old p → answer ≡ refusal p guild edit) }
+        ensures plays { OnOk result ((p : ModelServer) → Stands self.old p → Plays p (line.Edit guild edit) self.new []) }
+    {
+        if let Some(verdict) = self.turned_away(guild) {
+            drop(edit);
+            return Ok(Some(verdict));
+        }
+        let Ok(()) = start(
+            self.alloc,
+            &mut self.slots,
+            self.bots.as_slice(),
+            self.guilds.as_slice(),
+        ) else {
+            drop(edit);
+            return Err(AllocError);
+        };
+        let mut log = self.logs.exchange(GuildLog::new(self.alloc, guild));
+        let Ok(answer) = log.add(self.alloc, edit) else {
+            drop(log);
+            return Err(AllocError);
+        };
+        self.logs.put(log)?;
+        Ok(answer)
+    }
+
+    /// Adds a wish to the log of its guild at once, and says why it is refused, if it is.
+    pub fn follow(&mut self, output: &Output) -> Result<Option<Verdict>, AllocError>
+        ensures answer { IfOk result (λ answer. (p : ModelServer) → Stands self.old p → answer ≡ wish_refusal p output.now) }
+        ensures follows { OnOk result ((p : ModelServer) → Stands self.old p → Stands self.new (follow p output.now)) }
+    {
+        match output {
+            Output::Wish(guild, edit) => {
+                let edit = edit.copy(self.alloc)?;
+                self.edit(*guild, edit)
+            }
+            Output::Send(..) | Output::Close(..) => Ok(None),
+        }
+    }
+
+    fn look(&mut self, worker: u8, guild: Snowflake) -> Result<Vec<Output>, StepFault>
+        ensures { (p : ModelServer) → Stands self.old p → MatchResult result (λ out. Plays p (line.Look worker guild) self.new out.items) (PlaysNot p (line.Look worker guild)) }
+    {
+        let Some(log) = self.logs.get(guild.0) else {
+            return Ok(Vec::new(self.alloc));
+        };
+        start(
+            self.alloc,
+            &mut self.slots,
+            self.bots.as_slice(),
+            self.guilds.as_slice(),
+        )?;
+        worker_slot::look(
+            self.alloc,
+            &mut self.slots,
+            worker,
+            guild,
+            log.entries.as_slice(),
+        )
+    }
+
+    fn open(&mut self, worker: u8, conn: u32) -> Result<Vec<Output>, StepFault>
+        ensures { (p : ModelServer) → Stands self.old p → MatchResult result (λ out. Plays p (line.Open worker conn) self.new out.items) (PlaysNot p (line.Open worker conn)) }
+    {
+        if self.used.contains(conn as u64) {
+            return Ok(Vec::new(self.alloc));
+        }
+        start(
+            self.alloc,
+            &mut self.slots,
+            self.bots.as_slice(),
+            self.guilds.as_slice(),
+        )?;
+        self.used.insert(Opened {
+            number: conn,
+            worker,
+        })?;
+        worker_slot::give(self.alloc, &mut self.slots, worker, Input::Open(conn))
+    }
+
+    // Passes a worker any input but a look.
+    fn give(&mut self, worker: u8, input: Input) -> Result<Vec<Output>, StepFault>
+        requires { is_look (input_of input) ≡ false }
+        ensures { (p : ModelServer) (line : Line) → Stands self.old p → Gives p line worker (input_of input)
+            → MatchResult result (λ out. Plays p line self.new out.items) (PlaysNot p line) }
+    {
+        start(
+            self.alloc,
+            &mut self.slots,
+            self.bots.as_slice(),
+            self.guilds.as_slice(),
+        )?;
+        worker_slot::give(self.alloc, &mut self.slots, worker, input)
+    }
+
+    // The worker on which a connection was opened.
+    fn worker_of(&self, conn: u32) -> Option<u8>
+        ensures { result ≡ option_map (λ o. o.worker) (find_id opened_id conn self.now.used) }
+    {
+        let opened = self.used.get(conn as u64)?;
+        Some(opened.worker)
+    }
+
+    fn frame(&mut self, conn: u32, text: Text) -> Result<Vec<Output>, StepFault>
+        ensures { (p : ModelServer) → Stands self.old p → MatchResult result (λ out. Plays p (line.Frame conn text) self.new out.items) (PlaysNot p (line.Frame conn text)) }
+    {
+        let Some(worker) = self.worker_of(conn) else {
+            return Ok(Vec::new(self.alloc));
+        };
+        self.give(worker, Input::Frame(conn, text))
+    }
+
+    fn lost(&mut self, conn: u32) -> Result<Vec<Output>, StepFault>
+        ensures { (p : ModelServer) → Stands self.old p → MatchResult result (λ out. Plays p (line.Lost conn) self.new out.items) (PlaysNot p (line.Lost conn)) }
+    {
+        let Some(worker) = self.worker_of(conn) else {
+            return Ok(Vec::new(self.alloc));
+        };
+        self.give(worker, Input::Lost(conn))
+    }
+
+    fn closed(&mut self, conn: u32, code: u16) -> Result<Vec<Output>, StepFault>
+        ensures { (p : ModelServer) → Stands self.old p → MatchResult result (λ out. Plays p (line.Closed conn code) self.new out.items) (PlaysNot p (line.Closed conn code)) }
+    {
+        let Some(worker) = self.worker_of(conn) else {
+            return Ok(Vec::new(self.alloc));
+        };
+        self.give(worker, Input::Closed(conn, code))
+    }
+
+    fn tick(&mut self, worker: u8, now: u64) -> Result<Vec<Output>, StepFault>
+        ensures { (p : ModelServer) → Stands self.old p → MatchResult result (λ out. Plays p (line.Tick worker now) self.new out.items) (PlaysNot p (line.Tick worker now)) }
+    {
+        self.give(worker, Input::Tick(now))
+    }
+
+    fn nothing(&self) -> Answer
+        ensures refusal { result.refusal ≡ None }
+        ensures outputs { result.outputs.items ≡ [] }
+    {
+        self.sends(Vec::new(self.alloc))
+    }
+
+    fn sends(&self, outputs: Vec<Output>) -> Answer
+        ensures refusal { result.refusal ≡ None }
+        ensures outputs { result.outputs ≡ outputs }
+    {
+        Answer {
+            refusal: None,
+            outputs,
+        }
+    }
+
+    /// Runs a line that was read.
+    pub fn play(&mut self, line: Line) -> Result<Answer, StepFault>
+        ensures { (p : ModelServer) → Stands self.old p → MatchResult result (λ a. (a.refusal ≡ line_refusal p line) × Plays p line self.new a.outputs.items) (PlaysNot p line) }
+    {
+        match line {
+            Line::Bot {
+                token,
+                user,
+                name,
+                privileged,
+            } => {
+                self.add_bot(Bot {
+                    token,
+                    user,
+                    name,
+                    privileged,
+                })?;
+                Ok(self.nothing())
+            }
+            Line::Guild { id } => {
+                self.add_guild(id)?;
+                Ok(self.nothing())
+            }
+            Line::Edit { guild, edit } => Ok(Answer {
+                refusal: self.edit(guild, edit)?,
+                outputs: Vec::new(self.alloc),
+            }),
+            Line::Look { worker, guild } => {
+                let outputs = self.look(worker, guild)?;
+                Ok(self.sends(outputs))
+            }
+            Line::Open { worker, conn } => {
+                let outputs = self.open(worker, conn)?;
+                Ok(self.sends(outputs))
+            }
+            Line::Frame { conn, text } => {
+                let outputs = self.frame(conn, text)?;
+                Ok(self.sends(outputs))
+            }
+            Line::Lost { conn } => {
+                let outputs = self.lost(conn)?;
+                Ok(self.sends(outputs))
+            }
+            Line::Closed { conn, code } => {
+                let outputs = self.closed(conn, code)?;
+                Ok(self.sends(outputs))
+            }
+            Line::Tick { worker, now } => {
+                let outputs = self.tick(worker, now)?;
+                Ok(self.sends(outputs))
+            }
+        }
+    }
+}

@@ -1,0 +1,193 @@
+//! The four workers, each with how far it has looked at each log.
+ghost use Rattle.std.specs.Prelude.{◌≡◌, ℕ, List, [], length, true, false, drop, IfOk, OnOk, MatchResult};
+ghost use Rattle.collections.specs.ById.{put_all};
+ghost use Rattle.guild_model.specs.Record.{own_id};
+ghost use Rattle.dispatch_types.specs.Fold.{contains};
+ghost use Rattle.worker_core.specs.World.{Worker as ModelWorker, Look as Looks, first_worker};
+ghost use Rattle.worker_core.specs.Law.{first_world};
+ghost use Rattle.worker_core.specs.Outputs.{input_of};
+ghost use Rattle.scenario.specs.Server.{Server, url, first_workers, for_worker};
+ghost use Rattle.scenario.specs.Stands.{SlotStands, SlotsStand, SlotSteps, SlotFails, SlotsStep, SlotsFail, HasSlotsOnceStepped, HasSlots, IsFull, cursor_at, is_look};
+
+use crate::guild_log::entries_after;
+use collections::{ById, Keyed, Text};
+use edit_apply::Edit;
+use session_core::Bot;
+use snowflake_id::Snowflake;
+use std::alloc::{AllocError, Global};
+use worker_core::{Input, Output, StepFault, Worker};
+
+/// The number of entries of a guild's log that a worker was given.
+#[derive(Clone, Copy, PartialEq, Eq, Debug)]
+pub struct Cursor {
+    pub guild: Snowflake,
+    pub at: usize,
+}
+
+impl Keyed for Cursor {
+    ghost key = { λ c. c.guild };
+
+    fn key(&self) -> u64 {
+        self.guild.0
+    }
+}
+
+/// A worker and its cursors.
+#[derive(Drop)]
+pub struct WorkerSlot {
+    pub worker: Worker,
+    pub cursors: ById<Cursor>,
+}
+
+impl WorkerSlot {
+    fn new(
+        alloc: Global,
+        number: u8,
+        bots: &[Bot],
+        guilds: &[Snowflake],
+    ) -> Result<WorkerSlot, AllocError>
+        ensures { IfOk result (λ slot. SlotStands (put_all own_id [] guilds.now) number slot (first_worker bots.now guilds.now number (url number))) }
+    {
+        let url = url_of(alloc, number)?;
+        let bots = copies_of(alloc, bots)?;
+        Ok(WorkerSlot {
+            worker: Worker::new(alloc, number, url, bots, guilds)?,
+            cursors: ById::new(alloc),
+        })
+    }
+
+    fn cursor(&self, guild: Snowflake) -> usize
+        ensures { result ≡ cursor_at guild self.now.cursors }
+    {
+        match self.cursors.get(guild.0) {
+            Some(cursor) => cursor.at,
+            None => 0,
+        }
+    }
+
+    // Passes the worker the entries of a guild's log that it has not been given.
+    fn look(
+        &mut self,
+        alloc: Global,
+        guild: Snowflake,
+        entries: &[Edit],
+    ) -> Result<Vec<Output>, StepFault>
+        ensures { (guilds : List ℕ) (number : ℕ) (w : ModelWorker) → contains guild guilds ≡ true → SlotStands guilds number self.old w
+            → let input = Looks guild (drop (length (w.seen guild)) entries.now) in MatchResult result (λ out. SlotSteps guilds number w input self.new out.items) (SlotFails w input) }
+    {
+        let at = self.cursor(guild);
+        let next = entries_after(alloc, entries, at)?;
+        let out = self.worker.step(Input::Look(guild, next))?;
+        self.cursors.put(Cursor {
+            guild,
+            at: at.max(entries.len()),
+        })?;
+        Ok(out)
+    }
+
+    // Passes the worker any input but a look.
+    fn give(&mut self, input: Input) -> Result<Vec<Output>, StepFault>
+        requires { is_look (input_of input) ≡ false }
+        ensures { (guilds : List ℕ) (number : ℕ) (w : ModelWorker) → SlotStands guilds number self.old w
+            → MatchResult result (λ out. SlotSteps guilds number w (input_of input) self.new out.items) (SlotFails w (input_of input)) }
+    {
+        self.worker.step(input)
+    }
+}
+
+fn url_of(alloc: Global, number: u8) -> Result<Text, AllocError>
+    ensures { IfOk result (λ text. text ≡ url number) }
+{
+    let url = format!(in alloc; "ws://w{number}.gate.invalid")?;
+    Ok(Text::from_string(url))
+}
+
+fn copy_of(alloc: Global, bot: &Bot) -> Result<Bot, AllocError>
+    ensures { IfOk result (λ copy. copy ≡ bot.now) }
+{
+    Ok(Bot {
+        token: bot.token.copy(alloc)?,
+        user: bot.user,
+        name: bot.name.copy(alloc)?,
+        privileged: bot.privileged,
+    })
+}
+
+fn copies_of(alloc: Global, bots: &[Bot]) -> Result<Vec<Bot>, AllocError>
+    ensures { IfOk result (λ copies. copies.items ≡ bots.now) }
+{
+    let mut copies = Vec::new(alloc);
+    for bot in bots {
+        copies.push(copy_of(alloc, bot)?)?;
+    }
+    Ok(copies)
+}
+
+// Four workers of these bots and guilds, before their first input.
+fn first_slots(
+    alloc: Global,
+    bots: &[Bot],
+    guilds: &[Snowflake],
+) -> Result<Vec<WorkerSlot>, AllocError>
+    ensures sit { IfOk result (λ slots. SlotsStand (put_all own_id [] guilds.now) 0 slots.items (first_world bots.now guilds.now first_workers).workers) }
+    ensures full { IfOk result (λ slots. IsFull slots.items) }
+{
+    let mut slots = Vec::new(alloc);
+    slots.push(WorkerSlot::new(alloc, 0, bots, guilds)?)?;
+    slots.push(WorkerSlot::new(alloc, 1, bots, guilds)?)?;
+    slots.push(WorkerSlot::new(alloc, 2, bots, guilds)?)?;
+    slots.push(WorkerSlot::new(alloc, 3, bots, guilds)?)?;
+    Ok(slots)
+}
+
+/// Makes the workers, if no step was made yet.
+pub fn start(
+    alloc: Global,
+    slots: &mut Vec<WorkerSlot>,
+    bots: &[Bot],
+    guilds: &[Snowflake],
+) -> Result<(), AllocError>
+    ensures { OnOk result ((p : Server) → bots.now ≡ p.bots → guilds.now ≡ p.guilds → HasSlotsOnceStepped slots.old.items p → IsFull slots.new.items × HasSlots slots.new.items p) }
+{
+    if slots.is_empty() {
+        *slots = first_slots(alloc, bots, guilds)?;
+    }
+    Ok(())
+}
+
+/// Has the worker of this number look at a guild's log.
+pub fn look(
+    alloc: Global,
+    slots: &mut Vec<WorkerSlot>,
+    number: u8,
+    guild: Snowflake,
+    entries: &[Edit],
+) -> Result<Vec<Output>, StepFault>
+    ensures { (guilds : List ℕ) (ws : List ModelWorker) → contains guild guilds ≡ true → SlotsStand guilds 0 slots.old.items ws
+        → let given = λ (w : ModelWorker). for_worker number (Looks guild (drop (length (w.seen guild)) entries.now)) w in
+        MatchResult result (λ out. SlotsStep guilds given ws slots.new.items out.items) (SlotsFail given ws) }
+{
+    let index = number as usize;
+    if index >= slots.len() {
+        return Ok(Vec::new(alloc));
+    }
+    slots[index].look(alloc, guild, entries)
+}
+
+/// Passes an input other than a look to the worker of this number.
+pub fn give(
+    alloc: Global,
+    slots: &mut Vec<WorkerSlot>,
+    number: u8,
+    input: Input,
+) -> Result<Vec<Output>, StepFault>
+    requires { is_look (input_of input) ≡ false }
+    ensures { (guilds : List ℕ) (ws : List ModelWorker) → SlotsStand guilds 0 slots.old.items ws
+        → MatchResult result (λ out. SlotsStep guilds (for_worker number (input_of input)) ws slots.new.items out.items) (SlotsFail (for_worker number (input_of input)) ws) }
+{
+    let index = number as usize;
+    if index >= slots.len() {
+        return Ok(Vec::new(alloc));
+    }
+    slots[index].give(input)
+}

@@ -1,0 +1,58 @@
+-- Sessions by their indexes.
+use Rattle.std.proofs.Common.{◌≡◌, ℕ, zero, suc, List, [], ◌∷◌, map, Some, slice_get, slice_set, position, length, subst, refl, sym, ap, ◌∙◌, arith, nat_eq, ◌==◌}
+use Rattle.std.specs.Option.{option_map}
+use Rattle.std.specs.List.{position_or_len, IsDistinct}
+use Rattle.std.proofs.lemmas.List.{length-map}
+use Rattle.std.proofs.lemmas.Bool.Decides.{nat_tests}
+use Rattle.std.proofs.lemmas.Map.Entries.{lookup_from_place}
+use Rattle.std.specs.Map.{keys_of}
+use Rattle.indexmap.specs.IndexMap.{set_value_at}
+use Rattle.indexmap.specs.IndexMap.{IndexMap}
+use Rattle.std.specs.Map.{lookup}
+use Rattle.std.specs.Cmp.{nat_eq_equiv}
+use Rattle.std.proofs.lemmas.Option.{none-some, same_Some, slice_get-map}
+use Rattle.indexmap.proofs.CallerLemmas.{updates-with_value_at, keys-with_value_at}
+use Rattle.session_core.specs.declared.kept.Connection.{Connection as KeptConnection}
+use Rattle.session_core.specs.declared.kept.Session.{Session as KeptSession}
+use Rattle.session_core.specs.declared.kept.Condition.{Condition as KeptCondition}
+use Rattle.session_core.specs.declared.kept.Condition.TheVariants as condition
+use Rattle.replay_ring.specs.Replay.{Replay}
+use Rattle.session_core.specs.State.{Session, attached}
+use Rattle.session_core.specs.Kept.{session_of, condition_of, conn_of, IsKept}
+use Rattle.session_core.proofs.Changes.{IsKept-session}
+
+pub set-same : (es : List (ℕ × KeptSession)) (i k : ℕ) (x : KeptSession) → slice_get es i ≡ Some (k, x) → set_value_at es i x ≡ es
+set-same [] i k x at = refl
+set-same (e ∷ es) zero k x at = let same : e ≡ (k, x) = same_Some e (k, x) at in rw same refl
+set-same (e ∷ es) (suc i) k x at = ap (λ rest. e ∷ rest) (set-same es i k x at)
+
+pub set-kept : (es : List (ℕ × KeptSession)) (i k : ℕ) (x y : KeptSession) → slice_get es i ≡ Some (k, x) → map session_of (set_value_at es i y) ≡ slice_set (map session_of es) i (session_of (k, y))
+set-kept [] i k x y at = absurd (none-some (k, x) at)
+set-kept (e ∷ es) zero k x y at = let same : e ≡ (k, x) = same_Some e (k, x) at in rw same refl
+set-kept (e ∷ es) (suc i) k x y at = ap (λ rest. session_of e ∷ rest) (set-kept es i k x y at)
+
+pub at-kept : (es : List (ℕ × KeptSession)) (i k : ℕ) (x : KeptSession) → slice_get es i ≡ Some (k, x) → slice_get (map session_of es) i ≡ Some (session_of (k, x))
+at-kept es i k x at = slice_get-map session_of es i ∙ ap (option_map session_of) at
+
+index-kept : (es : List (ℕ × KeptSession)) (n : ℕ) → position_or_len (λ (x : Session Replay). x.number == n) (map session_of es) ≡ position_or_len (nat_eq n) (keys_of es)
+index-kept [] n = refl
+index-kept (e ∷ es) n = grind (arith, nat_tests, index-kept es n)
+
+pub position-kept : (es : List (ℕ × KeptSession)) (n : ℕ) → position (λ (x : Session Replay). x.number == n) (map session_of es) ≡ position (nat_eq n) (keys_of es)
+position-kept es n =
+    let numbers : length (keys_of es) ≡ length es = length-map es (λ e. e.0) in
+    rw (index-kept es n, length-map es session_of, numbers) refl
+
+-- a session with another count has its condition and its number
+pub IsKept-counted : {S : Type 0} (made : ℕ) (connections : List (ℕ × KeptConnection)) (old : IndexMap ℕ KeptSession S) (i k : ℕ) (x y : KeptSession) → IsKept made connections old.entries
+    → slice_get old.entries i ≡ Some (k, x) → y.condition ≡ x.condition → IsKept made connections (set_value_at old.entries i y)
+IsKept-counted made connections old i k x y kept at same =
+    let new = updates-with_value_at old i y nat_eq_equiv kept.sessions_once k x at in
+    let there : lookup (nat_eq k) old.entries ≡ Some x = lookup_from_place nat_eq_equiv old.entries i k x kept.sessions_once at in
+    let P : List ℕ → Type 0 = IsDistinct nat_eq in
+    let once : IsDistinct nat_eq (keys_of (set_value_at old.entries i y)) = subst P (sym (keys-with_value_at old i y)) kept.sessions_once in
+    IsKept-session made connections old.entries (set_value_at old.entries i y) k y kept once new.0 (rw there refl) (rw (there, same) refl)
+
+pub attached-kept : (h : KeptCondition) → attached (condition_of h) ≡ conn_of h
+attached-kept (condition.Attached conn) = refl
+attached-kept (condition.Detached since) = refl

@@ -1,7 +1,0 @@
-use Rattle.std.proofs.Common.{◌≡◌, ◌++◌, take}
-use Rattle.std.specs.Prelude.{flat_map}
-use Rattle.worker_core.specs.Stands.{kept_greeting}
-use Rattle.worker_core.proofs.greet.greetings.Given as goal
-
-abbrev pub invariant-loop-replica : goal.invariant-loop-replica
-invariant-loop-replica l = l.list.items ≡ l.fn.list.items ++ flat_map (kept_greeting l.viewer) (take l.replica-index l.replicas)

@@ -1,9 +1,0 @@
-use Rattle.std.proofs.Common.{◌≡◌, map, take}
-use Rattle.std.specs.Prelude.{filter}
-use Rattle.dispatch_types.specs.Serves.{serves}
-use Rattle.worker_core.specs.declared.replica.Replica.{Replica}
-use Rattle.worker_core.specs.Stands.{replica_id}
-use Rattle.worker_core.proofs.greet.listed.Given as goal
-
-abbrev pub invariant-loop-replica : goal.invariant-loop-replica
-invariant-loop-replica l = l.ids ≡ map replica_id (filter (λ (r : Replica). serves l.viewer r.guild) (take l.replica-index l.replicas))
