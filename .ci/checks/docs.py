@@ -69,6 +69,11 @@ def fields(known, name):
         else:
             yield from fields(known, it[1])
 
+def edit_readers():
+    """What is read for each edit, by its name."""
+    arms = re.findall(r"EditName::(\w+) => (.*?)(?=\w+EditName::|\n    \}\))", text_of("crates/edit_text/src/edits/*.rt"), re.S)
+    return {re.sub(r"(?<!^)(?=[A-Z])", "_", name).lower(): arm for name, arm in arms}
+
 def verdicts(name, own, crate, rules, limits):
     """The verdicts of a function of tests in the order of its text, with their limits."""
     answer = []
@@ -104,10 +109,12 @@ def dispatches_by_edit():
 def compare_steps_and_edits():
     for head, named in (("step", r"StepName::\w+ => \"(\w+)\""), ("edit", r"EditName::\w+ => \"(\w+)\"")):
         compare("names", STEPS, 1, {name for _, (name, *_) in rows(STEPS, head)}, set(re.findall(named, text_of("crates/edit_text/src/names.rt"))))
-    known, sent = functions("crates/edit_text/src/edits/*.rt") | functions("crates/edit_text/src/steps.rt"), dispatches_by_edit()
+    edits, sent = edit_readers(), dispatches_by_edit()
+    known = functions("crates/edit_text/src/edits/*.rt") | functions("crates/edit_text/src/steps.rt") | edits
     for line, (name, cell, *_) in [*rows(STEPS, "step"), *rows(STEPS, "edit")]:
         page = [re.match(r"`(\w+)` (.+)", field).groups() for field in cell.split(", ") if field.startswith("`")]
-        compare("fields", STEPS, line, page, list(fields(known, "edit_line_from" if name == "edit" else f"{name}_from")))
+        reader = name if name in edits else "edit_line_from" if name == "edit" else f"{name}_from"
+        compare("fields", STEPS, line, page, list(fields(known, reader)))
     for line, (name, _, refused, told) in rows(STEPS, "edit"):
         page = re.findall(r"[A-Z]\w+(?: \d+)?", re.sub(r"\([^)]*\)", "", refused))
         compare("verdicts of edits", STEPS, line, squeezed(page), verdicts_of(name))
@@ -127,7 +134,9 @@ def compare_tables():
     source += re.findall(r"LineFault::(\w+) => ([1-9])", text_of("crates/scenario/src/texts.rt"))
     page = [(line, (name, number)) for line, (number, name, *_) in rows(TRANSCRIPT, "number")]
     compare_rows("verdicts and faults", TRANSCRIPT, page, source)
-    source = sorted((code, name.lower().replace("_", " ")) for name, code in constants("session_core").items() if 4000 <= code < 4100)
+    sent = text_of("crates/session_core/src/*.rt")
+    codes = {name: code for name, code in constants("gateway_frames").items() if 4000 <= code < 4100 and re.search(rf"\b{name}\b", sent)}
+    source = sorted((code, name.lower().replace("_", " ")) for name, code in codes.items())
     compare_rows("close codes", TRANSCRIPT, [(line, (int(code), name)) for line, (code, name, *_) in rows(TRANSCRIPT, "code")], source)
     found = re.findall(r"(?:Ok\(\(\)\)|Err\(PlayFault::\w+(?: \{ \.\. \})?\)) => (\d+)|: u8 = (\d+);", text_of("crates/gateway_main/src/gate.rt"))
     source = sorted({int(played or other) for played, other in found})
