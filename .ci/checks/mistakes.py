@@ -32,6 +32,15 @@ def frame(text):
     return '{"step":"frame","conn":1,"text":"%s"}' % text.replace('"', '\\"')
 
 
+def wrong(what, fields, fault):
+    """An edit of an open guild at which its file stops."""
+    return what, OPENED + [edit(fields)], "stop line 4 " + fault
+
+
+ROLE = '"do":"role_create","role":"11","name":"mod","perms":%s,"position":%s'
+CHANNEL = '"do":"channel_create","channel":"7",%s,"name":"a","parent":null,"position":0,"sync":false'
+MESSAGE = '"do":"message_create","message":"%s","channel":"7","author":"5","content":"%s","mentions":[],"embeds":%s,"attachments":0,"components":0'
+
 # What was wrong, the lines of the file, and the last line of the transcript.
 LINES = [
     ("a comment", ["# bots", BOT], "stop line 1 1 NotJson"),
@@ -43,8 +52,8 @@ LINES = [
     ("a byte order mark before an empty first line", ["\ufeff", BOT], "stop line 1 1 NotJson"),
     ("UTF-16", (BOT + "\n").encode("utf-16"), "stop line 1 1 NotJson"),
     ("a byte that is not UTF-8", b'{"step":"bot","token":"t1","user":"9","name":"be\xe9","privileged":0}\n', "stop line 1 1 NotJson"),
-    ("True of Python", OPENED + [edit('"do":"member_add","user":"6","name":"bob","bot":True,"at":0')], "stop line 4 1 NotJson"),
-    ("NaN", OPENED + [edit('"do":"member_timeout","user":"5","until":NaN')], "stop line 4 1 NotJson"),
+    wrong("True of Python", '"do":"member_add","user":"6","name":"bob","bot":True,"at":0', "1 NotJson"),
+    wrong("NaN", '"do":"member_timeout","user":"5","until":NaN', "1 NotJson"),
     ("an object over two lines", ['{"step":"guild",', '"id":"1"}'], "stop line 1 1 NotJson"),
     ("two objects on a line", [GUILD + " " + GUILD], "stop line 1 1 NotJson"),
     ("a list of steps", ["[" + BOT + "]"], "stop line 1 4 WrongType"),
@@ -55,30 +64,30 @@ LINES = [
     ("a step in capitals", ['{"step":"BOT","token":"t1","user":"9","name":"bee","privileged":0}'], "stop line 1 2 NoSuchStep"),
     ("a bot after an edit", [GUILD, OPEN, BOT], "stop line 3 2 NoSuchStep"),
     ("a guild after an edit", [BOT, GUILD, OPEN, '{"step":"guild","id":"2"}'], "stop line 4 2 NoSuchStep"),
-    ("an unknown edit", OPENED + [edit('"do":"role_add","role":"11"')], "stop line 4 2 NoSuchStep"),
-    ("a dispatch's name for an edit", OPENED + [edit('"do":"GUILD_ROLE_CREATE","role":"11"')], "stop line 4 2 NoSuchStep"),
-    ("`edit` without `do`", OPENED + [edit('"name":"hut"')], "stop line 4 3 Missing"),
-    ("a misspelt field", OPENED + [edit('"do":"guild_rename","nme":"hut"')], "stop line 4 3 Missing"),
-    ("`user_id` for `user`", OPENED + [edit('"do":"member_add","user_id":"6","name":"bob","bot":false,"at":0')], "stop line 4 3 Missing"),
-    ("a null that was left out", OPENED + [edit('"do":"channel_create","channel":"7","type":0,"name":"a","position":0,"sync":false')], "stop line 4 3 Missing"),
-    ("`kind` for `type`", OPENED + [edit('"do":"channel_create","channel":"7","kind":0,"name":"a","parent":null,"position":0,"sync":false')], "stop line 4 3 Missing"),
+    wrong("an unknown edit", '"do":"role_add","role":"11"', "2 NoSuchStep"),
+    wrong("a dispatch's name for an edit", '"do":"GUILD_ROLE_CREATE","role":"11"', "2 NoSuchStep"),
+    wrong("`edit` without `do`", '"name":"hut"', "3 Missing"),
+    wrong("a misspelt field", '"do":"guild_rename","nme":"hut"', "3 Missing"),
+    wrong("`user_id` for `user`", '"do":"member_add","user_id":"6","name":"bob","bot":false,"at":0', "3 Missing"),
+    wrong("a null that was left out", '"do":"channel_create","channel":"7","type":0,"name":"a","position":0,"sync":false', "3 Missing"),
+    wrong("`kind` for `type`", CHANNEL % '"kind":0', "3 Missing"),
     ("a bot without `privileged`", ['{"step":"bot","token":"t1","user":"9","name":"bee"}'], "stop line 1 3 Missing"),
     ("an open without `worker`", HEAD + ['{"step":"open","conn":1}'], "stop line 3 3 Missing"),
-    ("a date for a time", OPENED + [edit('"do":"member_timeout","user":"5","until":"2030-01-01T00:00:00Z"')], "stop line 4 4 WrongType"),
-    ("a time in seconds with a point", OPENED + [edit('"do":"member_timeout","user":"5","until":1700000000.5')], "stop line 4 4 WrongType"),
-    ("a whole number with a point", OPENED + [edit('"do":"role_create","role":"11","name":"mod","perms":"0","position":1.0')], "stop line 4 4 WrongType"),
-    ("a negative number", OPENED + [edit('"do":"role_create","role":"11","name":"mod","perms":"0","position":-1')], "stop line 4 4 WrongType"),
-    ("permissions in hexadecimal", OPENED + [edit('"do":"role_create","role":"11","name":"mod","perms":"0x400","position":1')], "stop line 4 4 WrongType"),
-    ("permissions by name", OPENED + [edit('"do":"role_create","role":"11","name":"mod","perms":["VIEW_CHANNEL"],"position":1')], "stop line 4 4 WrongType"),
-    ("permissions of 2^53", OPENED + [edit('"do":"role_create","role":"11","name":"mod","perms":"9007199254740992","position":1')], "stop line 4 4 WrongType"),
+    wrong("a date for a time", '"do":"member_timeout","user":"5","until":"2030-01-01T00:00:00Z"', "4 WrongType"),
+    wrong("a time in seconds with a point", '"do":"member_timeout","user":"5","until":1700000000.5', "4 WrongType"),
+    wrong("a whole number with a point", ROLE % ('"0"', '1.0'), "4 WrongType"),
+    wrong("a negative number", ROLE % ('"0"', '-1'), "4 WrongType"),
+    wrong("permissions in hexadecimal", ROLE % ('"0x400"', '1'), "4 WrongType"),
+    wrong("permissions by name", ROLE % ('["VIEW_CHANNEL"]', '1'), "4 WrongType"),
+    wrong("permissions of 2^53", ROLE % ('"9007199254740992"', '1'), "4 WrongType"),
     ("an id with a letter", ['{"step":"guild","id":"1a"}'], "stop line 1 4 WrongType"),
     ("an id of 2^64", ['{"step":"guild","id":"18446744073709551616"}'], "stop line 1 4 WrongType"),
     ("an intent that is none", ['{"step":"bot","token":"t1","user":"9","name":"bee","privileged":131072}'], "stop line 1 4 WrongType"),
-    ("a channel type that is none", OPENED + [edit('"do":"channel_create","channel":"7","type":1,"name":"a","parent":null,"position":0,"sync":false')], "stop line 4 4 WrongType"),
-    ("a channel type by name", OPENED + [edit('"do":"channel_create","channel":"7","type":"text","name":"a","parent":null,"position":0,"sync":false')], "stop line 4 4 WrongType"),
-    ("a status that is none", OPENED + [edit('"do":"presence_set","user":"5","status":"away"')], "stop line 4 4 WrongType"),
-    ("embeds as a list", OPENED + [edit('"do":"message_create","message":"30","channel":"7","author":"5","content":"hi","mentions":[],"embeds":[],"attachments":0,"components":0')], "stop line 4 4 WrongType"),
-    ("eleven embeds", OPENED + [edit('"do":"message_create","message":"30","channel":"7","author":"5","content":"hi","mentions":[],"embeds":11,"attachments":0,"components":0')], "stop line 4 4 WrongType"),
+    wrong("a channel type that is none", CHANNEL % '"type":1', "4 WrongType"),
+    wrong("a channel type by name", CHANNEL % '"type":"text"', "4 WrongType"),
+    wrong("a status that is none", '"do":"presence_set","user":"5","status":"away"', "4 WrongType"),
+    wrong("embeds as a list", MESSAGE % (30, "hi", '[]'), "4 WrongType"),
+    wrong("eleven embeds", MESSAGE % (30, "hi", '11'), "4 WrongType"),
     ("a fifth worker", HEAD + ['{"step":"look","worker":4,"guild":"1"}'], "stop line 3 4 WrongType"),
     ("a connection by name", HEAD + ['{"step":"open","worker":0,"conn":"a"}'], "stop line 3 4 WrongType"),
     ("a frame that is an object", HEAD + [CONN, '{"step":"frame","conn":1,"text":{"op":1,"d":null}}'], "stop line 4 4 WrongType"),
@@ -186,10 +195,9 @@ def try_outside(gate):
 
 def try_little_memory(gate, folder):
     path = os.path.join(folder, "large.jsonl")
-    message = '"do":"message_create","message":"%d","channel":"7","author":"5","content":"%s","mentions":[],"embeds":0,"attachments":0,"components":0'
-    channel = edit('"do":"channel_create","channel":"7","type":0,"name":"a","parent":null,"position":0,"sync":false')
+    channel = edit(CHANNEL % '"type":0')
     with open(path, "w") as file:
-        file.writelines(line + "\n" for line in [*OPENED, channel, *(edit(message % (number, "x" * 2000)) for number in range(100, 16000))])
+        file.writelines(line + "\n" for line in [*OPENED, channel, *(edit(MESSAGE % (number, "x" * 2000, 0)) for number in range(100, 16000))])
     limit = lambda: resource.setrlimit(resource.RLIMIT_AS, (24 << 20, 24 << 20))
     run = subprocess.run([gate, "run", path], capture_output=True, timeout=60, preexec_fn=limit)
     compare("little memory", (6, b"", said(6, f"out of memory while playing {path}")), (run.returncode, run.stdout, run.stderr.decode()))
