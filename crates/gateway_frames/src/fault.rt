@@ -1,5 +1,6 @@
 //! Why a text is no frame.
 
+use json_view::ViewFault;
 use std::alloc::AllocError;
 use thiserror::Error;
 
@@ -31,5 +32,16 @@ impl From<AllocError> for FrameFault {
 
     fn from(_: AllocError) -> Self {
         FrameFault::Memory
+    }
+}
+
+impl From<ViewFault> for FrameFault {
+    ghost use Rattle.gateway_frames.specs.declared.fault.FrameFault.TheVariants.{BadShape};
+    ghost use Rattle.std.specs.Prelude.{◌≡◌};
+
+    ghost from_gives = { λ _ fault. fault ≡ BadShape };
+
+    fn from(_: ViewFault) -> Self {
+        FrameFault::BadShape
     }
 }

@@ -14,46 +14,32 @@ use snowflake_id::Snowflake;
 pub fn text_at<'a>(object: &'a Value, name: &str) -> Result<&'a str, FrameFault>
     ensures { result_map_both (λ s. s.now) (λ e. e) result ≡ text_at name.now (view object.now) }
 {
-    match text_of(object, name) {
-        Err(_) => Err(FrameFault::BadShape),
-        Ok(text) => Ok(text),
-    }
+    Ok(text_of(object, name)?)
 }
 
 /// A whole number below 2^64.
 pub fn whole_at(object: &Value, name: &str) -> Result<u64, FrameFault>
     ensures { result ≡ whole_at name.now (view object.now) }
 {
-    match number_of(object, name) {
-        Err(_) => Err(FrameFault::BadShape),
-        Ok(number) => Ok(number),
-    }
+    Ok(number_of(object, name)?)
 }
 
 /// An id: a whole number, or a text of digits.
 pub fn id_at(object: &Value, name: &str) -> Result<Snowflake, FrameFault>
     ensures { result ≡ id_at name.now (view object.now) }
 {
-    match id_of(object, name) {
-        Err(_) => Err(FrameFault::BadShape),
-        Ok(id) => Ok(Snowflake(id)),
-    }
+    Ok(Snowflake(id_of(object, name)?))
 }
 
 /// An id or null. The key has to exist.
 pub fn nullable_id_at(object: &Value, name: &str) -> Result<Option<Snowflake>, FrameFault>
     ensures { result ≡ nullable_id_at name.now (view object.now) }
 {
-    let Ok(value) = field_of(object, name) else {
-        return Err(FrameFault::BadShape);
-    };
+    let value = field_of(object, name)?;
     if value.is_null() {
         return Ok(None);
     }
-    match id_from(value) {
-        Err(_) => Err(FrameFault::BadShape),
-        Ok(id) => Ok(Some(Snowflake(id))),
-    }
+    Ok(Some(Snowflake(id_from(value)?)))
 }
 
 /// A whole number, or `None` if the key does not exist or is null.
@@ -63,10 +49,8 @@ pub fn optional_whole(object: &Value, name: &str) -> Result<Option<u64>, FrameFa
     let Some(value) = given_of(object, name) else {
         return Ok(None);
     };
-    match value.as_u64() {
-        None => Err(FrameFault::BadShape),
-        Some(number) => Ok(Some(number)),
-    }
+    let number = value.as_u64().ok_or(FrameFault::BadShape)?;
+    Ok(Some(number))
 }
 
 /// A boolean, or `None` if the key does not exist or is null.
@@ -76,21 +60,15 @@ pub fn optional_flag(object: &Value, name: &str) -> Result<Option<bool>, FrameFa
     let Some(value) = given_of(object, name) else {
         return Ok(None);
     };
-    match value.as_bool() {
-        None => Err(FrameFault::BadShape),
-        Some(flag) => Ok(Some(flag)),
-    }
+    let flag = value.as_bool().ok_or(FrameFault::BadShape)?;
+    Ok(Some(flag))
 }
 
 /// A boolean, or false if the key does not exist or is null.
 pub fn flag_or_false(object: &Value, name: &str) -> Result<bool, FrameFault>
     ensures { result ≡ flag_or_false name.now (view object.now) }
 {
-    match optional_flag(object, name) {
-        Err(fault) => Err(fault),
-        Ok(None) => Ok(false),
-        Ok(Some(flag)) => Ok(flag),
-    }
+    Ok(optional_flag(object, name)?.unwrap_or(false))
 }
 
 fn pair_from(list: &[Value]) -> Result<(u64, u64), FrameFault>
@@ -112,11 +90,6 @@ pub fn optional_pair(object: &Value, name: &str) -> Result<Option<(u64, u64)>, F
     let Some(value) = given_of(object, name) else {
         return Ok(None);
     };
-    match value.as_array() {
-        None => Err(FrameFault::BadShape),
-        Some(list) => match pair_from(list.as_slice()) {
-            Err(fault) => Err(fault),
-            Ok(pair) => Ok(Some(pair)),
-        },
-    }
+    let list = value.as_array().ok_or(FrameFault::BadShape)?;
+    Ok(Some(pair_from(list.as_slice())?))
 }

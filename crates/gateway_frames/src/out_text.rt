@@ -1,3 +1,5 @@
+//! The texts of what a server sends beside dispatches, both ways.
+
 ghost use Rattle.std.specs.Prelude.{◌≡◌, ◌≢◌, ◌≤◌, true, false, Some, None, IfOk, IfSome, string_bytes};
 ghost use Rattle.serde_json.specs.Data.{depth, null};
 ghost use Rattle.serde_json.specs.Read.{max_depth};

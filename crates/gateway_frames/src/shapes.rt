@@ -50,20 +50,14 @@ pub fn identify_from(alloc: Global, object: &Value) -> Result<Identify, FrameFau
 fn status_from(text: &str) -> Result<Status, FrameFault>
     ensures { result ≡ status_from text.now }
 {
-    match Status::of_name(text) {
-        None => Err(FrameFault::BadShape),
-        Some(status) => Ok(status),
-    }
+    Status::of_name(text).ok_or(FrameFault::BadShape)
 }
 
 /// Update Presence (op 3).
 pub fn presence_from(object: &Value) -> Result<Status, FrameFault>
     ensures { result ≡ presence_from (view object.now) }
 {
-    match text_at(object, "status") {
-        Err(fault) => Err(fault),
-        Ok(text) => status_from(text),
-    }
+    status_from(text_at(object, "status")?)
 }
 
 /// Update Voice State (op 4).
@@ -103,10 +97,7 @@ fn ids_from(alloc: Global, list: &[Value]) -> Result<Seq<Snowflake>, FrameFault>
 {
     let mut ids = Seq::new(alloc);
     for value in list {
-        let Ok(id) = id_from(value) else {
-            return Err(FrameFault::BadShape);
-        };
-        ids.push(Snowflake(id))?;
+        ids.push(Snowflake(id_from(value)?))?;
     }
     Ok(ids)
 }
@@ -114,9 +105,7 @@ fn ids_from(alloc: Global, list: &[Value]) -> Result<Seq<Snowflake>, FrameFault>
 fn one_id(alloc: Global, value: &Value) -> Result<Seq<Snowflake>, FrameFault>
     ensures { UnlessMemory result (one_id (view value.now)) }
 {
-    let Ok(id) = id_from(value) else {
-        return Err(FrameFault::BadShape);
-    };
+    let id = id_from(value)?;
     let mut ids = Seq::new(alloc);
     ids.push(Snowflake(id))?;
     Ok(ids)

@@ -1,3 +1,5 @@
+//! Writes a JSON object from its fields.
+
 ghost use Rattle.std.specs.Prelude.{◌≡◌, All, IfOk, IsTrue, OnOk, string_bytes, false};
 ghost use Rattle.serde_json.specs.Data.{object, put};
 ghost use Rattle.serde_json.specs.View.{view, members_view};

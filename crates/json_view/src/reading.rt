@@ -1,3 +1,5 @@
+//! Reads a JSON value from bytes.
+
 ghost use Rattle.std.specs.Prelude.{◌≡◌, ◌≤◌, IfOk, IfSome, option_map};
 ghost use Rattle.serde_json.specs.Data.{depth};
 ghost use Rattle.serde_json.specs.Read.{max_depth};
@@ -7,7 +9,7 @@ ghost use Rattle.json_view.specs.Reading.{reading};
 use serde_json::Value;
 use std::alloc::{AllocError, Global};
 
-/// The JSON value of the bytes, and nothing exactly where they are no JSON.
+/// The JSON value of the bytes. `None` exactly if they are no JSON.
 ///
 /// Arrays and objects may nest 127 deep.
 pub fn value_of(alloc: Global, bytes: &[u8]) -> Result<Option<Value>, AllocError>

@@ -10,7 +10,7 @@ use Rattle.json.specs.declared.value.Value.{Value}
 use Rattle.serde_json.specs.Data.{Data, Members, no_members, put}
 use Rattle.serde_json.specs.Find.{get, get_member}
 use Rattle.serde_json.proofs.Views.{get_member-put, get_member-put_other}
-use Rattle.json_line.specs.View.{data_of, members_data, view}
+use Rattle.json_view.specs.Nodes.{data_of, members_data, view}
 
 abbrev later : Option Data → Option Data → Option Data
 later None earlier = earlier

@@ -1,4 +1,4 @@
--- The data that a borrowed JSON value stands for.
+-- The data that a borrowed JSON value represents.
 use Rattle.std.specs.Prelude.{ℕ, List, Bool, true, ◌&&◌, is_some}
 use Rattle.std.specs.Float.{float_zero}
 use Rattle.std.specs.Option.{unwrap_or}

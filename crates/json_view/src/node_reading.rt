@@ -1,7 +1,9 @@
+//! Reads a JSON value that borrows from its text.
+
 ghost use Rattle.std.specs.Prelude.{◌≡◌, IfOk, option_map};
 ghost use Rattle.serde_json.specs.Read.{read};
 ghost use Rattle.json_view.specs.Reading.{reading};
-ghost use Rattle.json_line.specs.View.{view};
+ghost use Rattle.json_view.specs.Nodes.{view};
 
 use crate::range::in_range;
 use json::{Error, Reader, Scratch, Value};
@@ -9,7 +11,7 @@ use std::alloc::{AllocError, Global};
 
 const MAX_DEPTH: usize = 127;
 
-#[tactic(auto, using(crate::proofs::Readings::read_more))]
+#[tactic(auto, using(crate::proofs::NodeReadings::read_more))]
 fn document_of<'t>(
     alloc: Global,
     text: &'t str,
@@ -33,12 +35,12 @@ fn document_of<'t>(
     }
 }
 
-/// The JSON value of the bytes, and nothing exactly where they are no JSON.
+/// The JSON value of the bytes. `None` exactly if they are no JSON.
 ///
 /// Arrays and objects may nest 127 deep. Strings that have an escape are written to the scratch,
 /// which grows to the longest text.
-#[tactic(auto, using(crate::proofs::Readings::of_text, crate::proofs::Readings::of_no_text))]
-pub fn value_of<'t>(
+#[tactic(auto, using(crate::proofs::NodeReadings::of_text, crate::proofs::NodeReadings::of_no_text))]
+pub fn node_of<'t>(
     alloc: Global,
     bytes: &'t [u8],
     scratch: &'t mut Scratch,

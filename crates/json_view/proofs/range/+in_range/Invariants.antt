@@ -1,7 +1,7 @@
 use Rattle.std.proofs.Common.{◌≡◌, drop}
 use Rattle.json.specs.Value.{items_view, members_view}
-use Rattle.json_line.specs.View.{items_in_range, members_in_range}
-use Rattle.json_line.proofs.range.+in_range.Given as goal
+use Rattle.json_view.specs.Nodes.{items_in_range, members_in_range}
+use Rattle.json_view.proofs.range.+in_range.Given as goal
 
 -- those still to come decide
 abbrev pub invariant-items_in_range-loop-item : goal.invariant-items_in_range-loop-item

@@ -1,8 +1,8 @@
 use Rattle.std.proofs.Common.{is_some, true, false, ap, sym, ◌∙◌}
 use Rattle.fast_float.specs.Text.{scan}
 use Rattle.serde_json.specs.Read.{number_of, number_from}
-use Rattle.json_line.proofs.Numbers.{with_minus, without_minus, after_minus}
-use Rattle.json_line.proofs.number.number_in_range.Goals as goal
+use Rattle.json_view.proofs.Numbers.{with_minus, without_minus, after_minus}
+use Rattle.json_view.proofs.number.number_in_range.Goals as goal
 
 pub returns-then-has_minus : goal.returns-then-has_minus
 returns-then-has_minus c =

@@ -9,7 +9,7 @@ use Rattle.json_view.specs.Reading.{reading}
 use Rattle.std.specs.Str.{IsUtf8, is_utf8}
 use Rattle.std.proofs.lemmas.Str.{IsUtf8-from_is_utf8, is_utf8-from_IsUtf8}
 use Rattle.std.specs.Option.{unwrap_or}
-use Rattle.json_line.specs.View.{data_of, items_data, members_data, in_range, items_in_range, members_in_range}
+use Rattle.json_view.specs.Nodes.{data_of, items_data, members_data, in_range, items_in_range, members_in_range}
 
 abbrev pub kept : {A : Type 0} → Bool → A → Option A
 kept b a = if b then Some a else None

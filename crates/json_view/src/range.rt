@@ -2,7 +2,7 @@
 
 ghost use Rattle.std.specs.Prelude.{◌≡◌};
 ghost use Rattle.json.specs.Value.{value_view, items_view, members_view};
-ghost use Rattle.json_line.specs.View.{in_range, items_in_range, members_in_range};
+ghost use Rattle.json_view.specs.Nodes.{in_range, items_in_range, members_in_range};
 
 use crate::number::number_in_range;
 use json::Value;

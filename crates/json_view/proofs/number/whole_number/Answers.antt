@@ -2,8 +2,8 @@ use Rattle.std.proofs.Common.{drop, false, option_and_then, ap, sym, ◌∙◌}
 use Rattle.fast_float.specs.Text.{scan}
 use Rattle.serde_json.specs.Find.{as_u64}
 use Rattle.serde_json.specs.Read.{number_of, number_from}
-use Rattle.json_line.proofs.Numbers.{with_minus, without_minus, negative_not_whole}
-use Rattle.json_line.proofs.number.whole_number.Goals as goal
+use Rattle.json_view.proofs.Numbers.{with_minus, without_minus, negative_not_whole}
+use Rattle.json_view.proofs.number.whole_number.Goals as goal
 
 pub returns-then-has_minus : goal.returns-then-has_minus
 returns-then-has_minus c =

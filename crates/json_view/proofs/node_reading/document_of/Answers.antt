@@ -1,7 +1,7 @@
 use Rattle.std.proofs.Common.{◌≡◌, [], true, false, sym, arith}
 use Rattle.json.specs.Value.{value_view}
-use Rattle.json_line.proofs.Readings.{read_whole}
-use Rattle.json_line.proofs.reading.document_of.Goals as goal
+use Rattle.json_view.proofs.NodeReadings.{read_whole}
+use Rattle.json_view.proofs.node_reading.document_of.Goals as goal
 
 pub returns-then-in_range : goal.returns-then-in_range
 returns-then-in_range c =
