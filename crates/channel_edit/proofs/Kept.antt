@@ -17,7 +17,7 @@ use Rattle.guild_model.specs.declared.voice.Voice.{Voice}
 use Rattle.guild_model.specs.declared.message.MessageHead.{MessageHead}
 use Rattle.guild_model.specs.declared.verdict.Verdict.TheVariants.{IdTaken, UnknownRole}
 use Rattle.guild_model.specs.Record.{Record, role_id, overwrite_id, channel_id, thread_id, voice_id}
-use Rattle.guild_model.specs.Consistent.{IsConsistent, has_threads, is_parent, is_place}
+use Rattle.guild_model.specs.Consistent.{IsConsistent, has_threads, is_parent, is_channel_or_thread}
 use Rattle.guild_model.specs.Tests.{refused_if, too_long, too_many, unknown_channel}
 use Rattle.guild_model.proofs.Tests.{first_passes, not_refused, passed, parent-there}
 use Rattle.guild_model.proofs.Kept.{channels_changed}
@@ -30,10 +30,10 @@ use Rattle.channel_edit.specs.ChannelEnd.{orphaned, is_outside, speaks_outside, 
 use Rattle.channel_edit.specs.OverwriteEdits.{unknown_target, without_room, overwrite_set_verdict, put_overwrite, with_overwrite, overwrite_of, overwrite_was_set, drop_overwrite, without_overwrite, overwrite_deleted, overwrites_with, with_overwrites}
 
 -- what the tests let through
-place_free : (g : Record) (edit : ChannelCreate) → channel_create_verdict g edit ≡ None → is_place g edit.channel ≡ false
-place_free g edit e =
+id_free : (g : Record) (edit : ChannelCreate) → channel_create_verdict g edit ≡ None → is_channel_or_thread g edit.channel ≡ false
+id_free g edit e =
     let later = unknown_parent g edit.parent ∷ wrong_parent g edit.kind edit.parent ∷ too_many 500 (length g.channels) ∷ too_long 100 edit.name ∷ [] in
-    not_refused (is_place g edit.channel) IdTaken (first_passes (refused_if (is_place g edit.channel) IdTaken) later e).0
+    not_refused (is_channel_or_thread g edit.channel) IdTaken (first_passes (refused_if (is_channel_or_thread g edit.channel) IdTaken) later e).0
 
 target_there : (g : Record) (edit : OverwriteSet) → overwrite_set_verdict g edit ≡ None → unknown_target g edit.id edit.kind ≡ None
 target_there g edit e =
@@ -128,14 +128,14 @@ module _ (g : Record) (is_open : g.opened ≡ true) (h : IsConsistent g) where
       by_test false e = refl
       by_test true e = let same : a ≡ b = grind (arith, nat_tests) in absurd (cc (none, some, same))
 
-  still_place : (n : Channel) (id : ℕ) → is_place g id ≡ true → (has_id channel_id id (put_id channel_id n g.channels) || has_id thread_id id g.threads) ≡ true
-  still_place n id there = grind (arith, has-put channel_id n id g.channels)
+  still_there : (n : Channel) (id : ℕ) → is_channel_or_thread g id ≡ true → (has_id channel_id id (put_id channel_id n g.channels) || has_id thread_id id g.threads) ≡ true
+  still_there n id there = grind (arith, has-put channel_id n id g.channels)
 
   pub channel_came : (edit : ChannelCreate) → channel_create_verdict g edit ≡ None → IsConsistent (channel_created g edit)
   channel_came edit accepted =
       let channel = edit.channel in
       let n : Channel = new_channel g edit in
-      let free = or_parts (has_id channel_id channel g.channels) (has_id thread_id channel g.threads) (place_free g edit accepted) in
+      let free = or_parts (has_id channel_id channel g.channels) (has_id thread_id channel g.threads) (id_free g edit accepted) in
       record {
         empty = λ closed. absurd (cc (is_open, closed));
         everyone = h.everyone;
@@ -151,8 +151,8 @@ module _ (g : Record) (is_open : g.opened ≡ true) (h : IsConsistent g) where
             ap is_parent (find-put channel_id n t.parent g.channels) ∙ other_parent (channel == t.parent) n (find_id channel_id t.parent g.channels) other was;
         joined = h.joined;
         apart = λ id there. apart_from channel id free.1 (sym (has-put channel_id n id g.channels) ∙ there);
-        places = All-weaker (λ (m : MessageHead). is_place g m.place ≡ true) (λ (m : MessageHead). is_place (channel_created g edit) m.place ≡ true)
-            (λ m there. still_place n m.place there) g.messages h.places;
+        message_channels = All-weaker (λ (m : MessageHead). is_channel_or_thread g m.channel ≡ true) (λ (m : MessageHead). is_channel_or_thread (channel_created g edit) m.channel ≡ true)
+            (λ m there. still_there n m.channel there) g.messages h.message_channels;
       }
     where
       apart_from : (channel id : ℕ) → has_id thread_id channel g.threads ≡ false → ((channel == id) || has_id channel_id id g.channels) ≡ true → has_id thread_id id g.threads ≡ false
@@ -194,16 +194,16 @@ module _ (g : Record) (is_open : g.opened ≡ true) (h : IsConsistent g) where
     same_test : (a b : ℕ) → (a == b) ≡ false → (b == a) ≡ false
     same_test a b e = grind (arith, nat_tests)
 
-    place_left : (m : MessageHead) → is_place g m.place ≡ true → stands_outside g.threads channel m ≡ true → is_place (channel_deleted g channel) m.place ≡ true
-    place_left m there out =
-        let parts = or_parts (m.place == channel) (is_in_channel channel (find_id thread_id m.place g.threads)) (not-true _ out) in
-        by_place (has_id channel_id m.place g.channels) refl there (same_test m.place channel parts.0) parts.1
+    message_stays : (m : MessageHead) → is_channel_or_thread g m.channel ≡ true → stands_outside g.threads channel m ≡ true → is_channel_or_thread (channel_deleted g channel) m.channel ≡ true
+    message_stays m there out =
+        let parts = or_parts (m.channel == channel) (is_in_channel channel (find_id thread_id m.channel g.threads)) (not-true _ out) in
+        by_channel (has_id channel_id m.channel g.channels) refl there (same_test m.channel channel parts.0) parts.1
       where
-        by_place : (b : Bool) → has_id channel_id m.place g.channels ≡ b → (b || has_id thread_id m.place g.threads) ≡ true → (channel == m.place) ≡ false → is_in_channel channel (find_id thread_id m.place g.threads) ≡ false → is_place (channel_deleted g channel) m.place ≡ true
-        by_place true e either other out = or_left (has_id channel_id m.place left_channels) _ (stays m.place other e)
-        by_place false e either other out =
-            or_right (has_id channel_id m.place left_channels) _
-            (ap is_some (find-filter thread_id (is_outside channel) m.place g.threads threads_ascend) ∙ kept_thread (find_id thread_id m.place g.threads) out either)
+        by_channel : (b : Bool) → has_id channel_id m.channel g.channels ≡ b → (b || has_id thread_id m.channel g.threads) ≡ true → (channel == m.channel) ≡ false → is_in_channel channel (find_id thread_id m.channel g.threads) ≡ false → is_channel_or_thread (channel_deleted g channel) m.channel ≡ true
+        by_channel true e either other out = or_left (has_id channel_id m.channel left_channels) _ (stays m.channel other e)
+        by_channel false e either other out =
+            or_right (has_id channel_id m.channel left_channels) _
+            (ap is_some (find-filter thread_id (is_outside channel) m.channel g.threads threads_ascend) ∙ kept_thread (find_id thread_id m.channel g.threads) out either)
 
     pub channel_gone : IsConsistent (channel_deleted g channel)
     channel_gone = record {
@@ -227,7 +227,7 @@ module _ (g : Record) (is_open : g.opened ≡ true) (h : IsConsistent g) where
       apart = λ id there.
           let had = (and_parts (not (channel == id)) (has_id channel_id id g.channels) (sym (has_left id) ∙ there)).1 in
           ap is_some (find-filter thread_id (is_outside channel) id g.threads threads_ascend) ∙ keep_none (is_outside channel) (find_id thread_id id g.threads) (h.apart id had);
-      places = λ k d lt.
-          place_left (slice_index_or (filter (stands_outside g.threads channel) g.messages) k d) (All-filter (stands_outside g.threads channel) (λ (m : MessageHead). is_place g m.place ≡ true) g.messages h.places k d lt)
+      message_channels = λ k d lt.
+          message_stays (slice_index_or (filter (stands_outside g.threads channel) g.messages) k d) (All-filter (stands_outside g.threads channel) (λ (m : MessageHead). is_channel_or_thread g m.channel ≡ true) g.messages h.message_channels k d lt)
           (filter_passes (stands_outside g.threads channel) g.messages k d lt);
     }

@@ -26,16 +26,16 @@ abbrev pub is_in_channel : ℕ → Option Thread → Bool
 is_in_channel channel None = false
 is_in_channel channel (Some t) = t.parent == channel
 
--- a place that is the channel or one of its threads
+-- the id of the channel or of one of its threads
 abbrev pub is_within : List Thread → ℕ → ℕ → Bool
-is_within threads channel place = (place == channel) || is_in_channel channel (find_id thread_id place threads)
+is_within threads channel id = (id == channel) || is_in_channel channel (find_id thread_id id threads)
 
 abbrev pub stands_outside : List Thread → ℕ → MessageHead → Bool
-stands_outside threads channel m = not (is_within threads channel m.place)
+stands_outside threads channel m = not (is_within threads channel m.channel)
 
 -- a message that stands in none of the channel's threads
 abbrev pub stands_in_no_thread : List Thread → ℕ → MessageHead → Bool
-stands_in_no_thread threads channel m = not (is_in_channel channel (find_id thread_id m.place threads))
+stands_in_no_thread threads channel m = not (is_in_channel channel (find_id thread_id m.channel threads))
 
 -- its threads, the voice states in it and the messages in it and in its threads are deleted with it
 abbrev pub channel_deleted : Record → ℕ → Record

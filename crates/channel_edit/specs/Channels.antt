@@ -9,7 +9,7 @@ use Rattle.guild_model.specs.declared.channel.Overwrites.{Overwrites}
 use Rattle.guild_model.specs.declared.verdict.Verdict.{Verdict}
 use Rattle.guild_model.specs.declared.verdict.Verdict.TheVariants.{IdTaken, WrongType}
 use Rattle.guild_model.specs.Record.{Record, channel_id}
-use Rattle.guild_model.specs.Consistent.{is_place}
+use Rattle.guild_model.specs.Consistent.{is_channel_or_thread}
 use Rattle.guild_model.specs.Tests.{refused_if, first_of, too_long, too_many, unknown_channel}
 use Rattle.channel_edit.specs.declared.channel_create.ChannelCreate.{ChannelCreate}
 use Rattle.channel_edit.specs.declared.channel_update.ChannelUpdate.{ChannelUpdate}
@@ -40,7 +40,7 @@ wrong_parent g kind (Some parent) =
 -- channel_create
 abbrev pub channel_create_verdict : Record → ChannelCreate → Option Verdict
 channel_create_verdict g edit = first_of (
-    refused_if (is_place g edit.channel) IdTaken
+    refused_if (is_channel_or_thread g edit.channel) IdTaken
     ∷ unknown_parent g edit.parent
     ∷ wrong_parent g edit.kind edit.parent
     ∷ too_many 500 (length g.channels)

@@ -44,7 +44,7 @@ impl ChannelCreate {
 pub fn check(guild: &Guild, edit: &ChannelCreate) -> Result<(), Verdict>
     ensures { result ≡ outcome (channel_create_verdict guild.now edit.now) }
 {
-    if guild.has_place(edit.channel) {
+    if guild.has_channel_or_thread(edit.channel) {
         return Err(Verdict::IdTaken);
     }
     knows_parent(guild, &edit.parent)?;

@@ -40,7 +40,7 @@ fn drop_thread_messages(messages: &mut MessageHeads, threads: &[Thread], channel
 {
     for thread in threads {
         if thread.parent == channel {
-            messages.remove_place(thread.id);
+            messages.remove_in(thread.id);
         }
     }
 }
@@ -48,7 +48,7 @@ fn drop_thread_messages(messages: &mut MessageHeads, threads: &[Thread], channel
 fn drop_messages(messages: &mut MessageHeads, threads: &ById<Thread>, channel: Snowflake)
     ensures { messages.new ≡ filter (stands_outside threads.now channel) messages.old }
 {
-    messages.remove_place(channel);
+    messages.remove_in(channel);
     drop_thread_messages(messages, threads.as_slice(), channel);
 }
 

@@ -36,7 +36,7 @@ pub enum ChannelEdit {
     OverwriteDelete(OverwriteDelete),
 }
 
-/// Why an edit of an open guild is refused: the first of its tests that fails. Takes no memory.
+/// Why an edit of an open guild is refused: the first of its tests that fails. Does not allocate.
 pub fn check(guild: &Guild, edit: &ChannelEdit) -> Result<(), Verdict>
     ensures { result ≡ outcome (channel_verdict guild.now edit.now) }
 {

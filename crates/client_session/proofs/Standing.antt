@@ -14,7 +14,7 @@ use Rattle.client_session.specs.declared.received.Received.TheVariants as payloa
 use Rattle.client_session.specs.State.{ClientState}
 use Rattle.client_session.specs.Table.{begun, session_after, is_final, is_due_at, after_other, other_acts, after_loss, loss_answer, after_beat, beat_act}
 use Rattle.client_session.specs.Step.{Event, Receives, Loses, Asks, after, acts, dispatch_of, Folds}
-use Rattle.client_session.specs.Law.{Model, taken, Stands, NewStands, StepsStand}
+use Rattle.client_session.specs.Law.{Model, taken, Represents, NewRepresents, StepsRepresent}
 
 -- ---- two clients that differ in what they keep of their dispatches
 
@@ -117,16 +117,16 @@ intents_stay c (Asks now) = choice (is_due_at c.heartbeat now) _ _ c.intents ref
 
 -- ---- the laws
 
-pub new_stands : NewStands
-unfolding NewStands
-new_stands token intents = record { token = refl; intents = refl; session = refl; heartbeat = refl; held = λ g. refl }
+pub new_represents : NewRepresents
+unfolding NewRepresents
+new_represents token intents = record { token = refl; intents = refl; session = refl; heartbeat = refl; held = λ g. refl }
 
-alike : (k : ClientState Cached) (c : Model) → Stands k c → Alike k c
+alike : (k : ClientState Cached) (c : Model) → Represents k c → Alike k c
 alike k c h = record { token = h.token; intents = h.intents; session = h.session; heartbeat = h.heartbeat }
 
-stands_after : (old new : ClientState Cached) (c : Model) (event : Event) → Stands old c
-    → new ≡ record (after old event) { kept = new.kept } → Folds old.intents old.kept (dispatch_of event) new.kept → Stands new (taken c event)
-stands_after old new c event h e f =
+represents_after : (old new : ClientState Cached) (c : Model) (event : Event) → Represents old c
+    → new ≡ record (after old event) { kept = new.kept } → Folds old.intents old.kept (dispatch_of event) new.kept → Represents new (taken c event)
+represents_after old new c event h e f =
     let same = alike_after old c (alike old c h) event in
     let by : Folds c.intents old.kept (dispatch_of event) new.kept = subst (λ n. Folds n old.kept (dispatch_of event) new.kept) h.intents f in
     let kept = held_after c.intents old.kept new.kept c.kept (dispatch_of event) h.held by in
@@ -138,6 +138,6 @@ stands_after old new c event h e f =
       held = λ g. kept g ∙ ap (λ n. fold n g (taken c event).kept) (sym (intents_stay c event));
     }
 
-pub steps_stand : StepsStand
-unfolding StepsStand
-steps_stand old new c event done h s = (stands_after old new c event h s.0 s.1, s.2 ∙ same_acts old c (alike old c h) event)
+pub steps_represent : StepsRepresent
+unfolding StepsRepresent
+steps_represent old new c event done h s = (represents_after old new c event h s.0 s.1, s.2 ∙ same_acts old c (alike old c h) event)

@@ -6,7 +6,7 @@ use Rattle.dispatch_types.specs.Fold.{fold}
 use Rattle.client_cache.specs.Cached.{Cached, held_of}
 use Rattle.client_session.specs.declared.act.Act.{Act}
 use Rattle.client_session.specs.State.{ClientState, new_client, empty_cache}
-use Rattle.client_session.specs.Step.{Event, after, acts, dispatch_of, Steps}
+use Rattle.client_session.specs.Step.{Event, after, acts, dispatch_of, StepsTo}
 
 -- a client that keeps all dispatches that it reads
 abbrev pub Model : Type 0
@@ -16,7 +16,7 @@ abbrev pub taken : Model → Event → Model
 taken c event = record (after c event) { kept = c.kept ++ option_to_list (dispatch_of event) }
 
 -- what a client's value is of one that keeps all
-pub record Stands (k : ClientState Cached) (c : Model) : Type 0 where
+pub record Represents (k : ClientState Cached) (c : Model) : Type 0 where
   pub token : k.token ≡ c.token
   pub intents : k.intents ≡ c.intents
   pub session : k.session ≡ c.session
@@ -24,12 +24,12 @@ pub record Stands (k : ClientState Cached) (c : Model) : Type 0 where
   pub held : (g : ℕ) → held_of k.kept g ≡ fold c.intents g c.kept
 
 -- a new client represents the new one that keeps all
-unfoldable pub NewStands : Type 0
-NewStands = (token : List ℕ) (intents : ℕ)
-    → Stands (new_client token intents (empty_cache intents)) (new_client token intents [])
+unfoldable pub NewRepresents : Type 0
+NewRepresents = (token : List ℕ) (intents : ℕ)
+    → Represents (new_client token intents (empty_cache intents)) (new_client token intents [])
 
 -- and each step keeps that, with the same acts
-unfoldable pub StepsStand : Type 0
-StepsStand = (old new : ClientState Cached) (c : Model) (event : Event) (done : List Act)
-    → Stands old c → Steps old event new done
-    → Stands new (taken c event) × (done ≡ acts c event)
+unfoldable pub StepsRepresent : Type 0
+StepsRepresent = (old new : ClientState Cached) (c : Model) (event : Event) (done : List Act)
+    → Represents old c → StepsTo old event new done
+    → Represents new (taken c event) × (done ≡ acts c event)

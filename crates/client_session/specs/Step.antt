@@ -58,8 +58,8 @@ Folds intents old (Some dispatch) new =
     (g : ℕ) → held_of new g ≡ folded intents g (held_of old g) dispatch
 
 -- THE STEP: what it leaves, what is then held of each guild, and what the client does
-abbrev pub Steps : ClientState Cached → Event → ClientState Cached → List Act → Type 0
-Steps old event new done =
+abbrev pub StepsTo : ClientState Cached → Event → ClientState Cached → List Act → Type 0
+StepsTo old event new done =
     (new ≡ record (after old event) { kept = new.kept })
     × Folds old.intents old.kept (dispatch_of event) new.kept
     × (done ≡ acts old event)

@@ -7,7 +7,7 @@ ghost use Rattle.client_session.specs.declared.fault.ClientFault.TheVariants.{Ba
 ghost use Rattle.client_session.specs.Received.{IsTextOf, IsUnread};
 ghost use Rattle.client_session.specs.State.{new_client, empty_cache};
 ghost use Rattle.client_session.specs.Table.{frame_text, first_of, identify, heartbeat, dial, url_of, is_due, is_final, beaten, forgotten, unlinked, linked, after_loss, loss_answer};
-ghost use Rattle.client_session.specs.Step.{Receives, Asks, Steps, Keeps};
+ghost use Rattle.client_session.specs.Step.{Receives, Asks, StepsTo, Keeps};
 ghost use Rattle.gateway_frames.specs.declared.out.Out.TheVariants.{Hello, Invalid, Reconnect};
 
 use crate::heartbeat::{Heartbeat, is_due_at};
@@ -203,7 +203,7 @@ impl Client {
     /// nothing.
     pub fn on_text(&mut self, text: &str, now: u64) -> Result<Vec<Act>, ClientFault>
         ensures read { OnOk result ((payload : AReceived) × IsTextOf text.now payload) }
-        ensures step { (payload : AReceived) → IsTextOf text.now payload → MatchResult result (λ acts. Steps self.old (Receives payload now) self.new acts.items) (λ fault. fault ≡ Memory) }
+        ensures step { (payload : AReceived) → IsTextOf text.now payload → MatchResult result (λ acts. StepsTo self.old (Receives payload now) self.new acts.items) (λ fault. fault ≡ Memory) }
         ensures fault { IfErr result (λ fault. (fault ≡ Memory) ⊎ ((fault ≡ BadText) × IsUnread text.now)) }
         ensures err { OnErr result (self.new ≡ self.old) }
     {
@@ -214,7 +214,7 @@ impl Client {
     }
 
     fn on_dispatch(&mut self, dispatch: Dispatch, number: u64) -> Result<Vec<Act>, ClientFault>
-        ensures { (now : ℕ) → MatchResult result (λ acts. Steps self.old (Receives (payload.Dispatch dispatch number) now) self.new acts.items) (Keeps self.old self.new) }
+        ensures { (now : ℕ) → MatchResult result (λ acts. StepsTo self.old (Receives (payload.Dispatch dispatch number) now) self.new acts.items) (Keeps self.old self.new) }
     {
         let Ok(begun) = begun(self.alloc, &dispatch, number) else {
             drop(dispatch);
@@ -226,7 +226,7 @@ impl Client {
     }
 
     fn on_other(&mut self, out: Out, now: u64) -> Result<Vec<Act>, ClientFault>
-        ensures { MatchResult result (λ acts. Steps self.old (Receives (payload.Other out) now) self.new acts.items) (Keeps self.old self.new) }
+        ensures { MatchResult result (λ acts. StepsTo self.old (Receives (payload.Other out) now) self.new acts.items) (Keeps self.old self.new) }
     {
         match out {
             Out::Hello(interval_ms) => self.on_hello(interval_ms, now),
@@ -239,7 +239,7 @@ impl Client {
     }
 
     fn on_hello(&mut self, interval_ms: u64, now: u64) -> Result<Vec<Act>, ClientFault>
-        ensures { MatchResult result (λ acts. Steps self.old (Receives (payload.Other (Hello interval_ms)) now) self.new acts.items) (Keeps self.old self.new) }
+        ensures { MatchResult result (λ acts. StepsTo self.old (Receives (payload.Other (Hello interval_ms)) now) self.new acts.items) (Keeps self.old self.new) }
     {
         let text = self.first_text()?;
         let acts = one(self.alloc(), Act::Send(text))?;
@@ -248,14 +248,14 @@ impl Client {
     }
 
     fn on_invalid(&mut self) -> Result<Vec<Act>, ClientFault>
-        ensures { (now : ℕ) → MatchResult result (λ acts. Steps self.old (Receives (payload.Other (Invalid true)) now) self.new acts.items) (Keeps self.old self.new) }
+        ensures { (now : ℕ) → MatchResult result (λ acts. StepsTo self.old (Receives (payload.Other (Invalid true)) now) self.new acts.items) (Keeps self.old self.new) }
     {
         let text = self.first_text()?;
         Ok(one(self.alloc(), Act::Send(text))?)
     }
 
     fn on_invalid_for_good(&mut self) -> Result<Vec<Act>, ClientFault>
-        ensures { (now : ℕ) → MatchResult result (λ acts. Steps self.old (Receives (payload.Other (Invalid false)) now) self.new acts.items) (Keeps self.old self.new) }
+        ensures { (now : ℕ) → MatchResult result (λ acts. StepsTo self.old (Receives (payload.Other (Invalid false)) now) self.new acts.items) (Keeps self.old self.new) }
     {
         let text = self.identify_text()?;
         let acts = one(self.alloc(), Act::Send(text))?;
@@ -264,7 +264,7 @@ impl Client {
     }
 
     fn on_reconnect(&mut self) -> Result<Vec<Act>, ClientFault>
-        ensures { (now : ℕ) → MatchResult result (λ acts. Steps self.old (Receives (payload.Other Reconnect) now) self.new acts.items) (Keeps self.old self.new) }
+        ensures { (now : ℕ) → MatchResult result (λ acts. StepsTo self.old (Receives (payload.Other Reconnect) now) self.new acts.items) (Keeps self.old self.new) }
     {
         let acts = two(self.alloc(), Act::Hang(UNKNOWN_ERROR), self.dial())?;
         self.unlink();
@@ -296,7 +296,7 @@ impl Client {
     /// The heartbeat that is due at this moment, if one is (Gateway, Sending Heartbeats): its interval
     /// has passed since Hello or the last heartbeat. It counts as sent then. An `Err` changes nothing.
     pub fn next(&mut self, now: u64) -> Result<Option<Act>, AllocError>
-        ensures step { IfOk result (λ act. Steps self.old (Asks now) self.new (option_to_list act)) }
+        ensures step { IfOk result (λ act. StepsTo self.old (Asks now) self.new (option_to_list act)) }
         ensures due { IfOk result (λ act. is_some act ≡ is_due self.old now) }
         ensures err { OnErr result (self.new ≡ self.old) }
     {

@@ -1,3 +1,5 @@
+//! A list that ascends by id, with look-ups by binary search.
+
 ghost use Rattle.std.specs.Prelude.{Some, ◌≡◌, ℕ, [], OnOk, OnErr, None, slice_get, is_some, IfOk, IsSome, length, map};
 ghost use Rattle.std.specs.Option.{option_copied};
 ghost use Rattle.std.specs.Fn.{CalledAt};
@@ -129,6 +131,7 @@ pub(crate) fn record_at<T: Keyed>(items: &[T], place: usize, id: u64) -> Option<
 }
 
 impl<T: Keyed + Drop> ById<T> {
+    /// An empty list. Does not allocate.
     pub fn new(alloc: Global) -> Self
         ensures { result ≡ [] }
     {
@@ -137,6 +140,7 @@ impl<T: Keyed + Drop> ById<T> {
         }
     }
 
+    /// The items, by id.
     pub fn as_slice(&self) -> &[T]
         ensures items { result.now ≡ self.now }
         ensures ascending { IsById T.key self.now }
@@ -161,13 +165,14 @@ impl<T: Keyed + Drop> ById<T> {
         Ok(list)
     }
 
+    /// Whether an item has this id.
     pub fn contains(&self, id: u64) -> bool
         ensures { result ≡ is_some (find_id T.key id self.now) }
     {
         self.get(id).is_some()
     }
 
-    /// The record of an id, and nothing exactly where there is none.
+    /// The record of an id. `None` exactly if there is none.
     pub fn get(&self, id: u64) -> Option<&T>
         ensures { option_copied result ≡ find_id T.key id self.now }
     {
@@ -176,7 +181,7 @@ impl<T: Keyed + Drop> ById<T> {
         record_at(items, place, id)
     }
 
-    /// Adds a record that is not there yet, in its place. An `Err` changes nothing.
+    /// Adds a record that does not exist yet, in its place. An `Err` changes nothing.
     pub fn insert(&mut self, item: T) -> Result<(), AllocError>
         requires { find_id T.key (T.key item) self.old ≡ None }
         ensures ok { OnOk result (self.new ≡ put_id T.key item self.old) }
@@ -265,6 +270,7 @@ impl<T: Keyed + Drop> ById<T> {
 }
 
 impl<T: Keyed + Copy> ById<T> {
+    /// A copy of the list.
     pub fn copy(&self, alloc: Global) -> Result<Self, AllocError>
         ensures { IfOk result (λ copy. copy ≡ self.now) }
     {

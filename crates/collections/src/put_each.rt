@@ -1,3 +1,6 @@
+//! Sets many items in a list by id at once: the room is made first, so out of memory leaves the
+//! list as it was.
+
 ghost use Rattle.std.specs.Prelude.{◌≡◌, ◌+◌, ◌<◌, ◌≤◌, None, OnOk, OnErr};
 ghost use Rattle.std.specs.Option.{option_copied};
 ghost use Rattle.std.specs.Vec.{vec_len, vec_capacity};
@@ -14,7 +17,7 @@ fn find<T: Keyed>(items: &[T], id: u64) -> Option<&T>
     record_at(items, place, id)
 }
 
-// Adds a record that is not there yet, where there is room for it.
+// Adds a record that does not exist yet, where there is room for it.
 fn insert_within<T: Keyed + Drop>(items: &mut Vec<T>, item: T)
     requires ascending { IsById T.key items.old.items }
     requires missing { find_id T.key (T.key item) items.old.items ≡ None }

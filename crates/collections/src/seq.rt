@@ -1,3 +1,5 @@
+//! A list in any order, of which a clause sees the items.
+
 ghost use Rattle.std.specs.Prelude.{◌≡◌, [], ◌∷◌, ◌++◌, ◌==◌, length, OnOk, OnErr, IfOk};
 
 use std::alloc::{AllocError, Global};
@@ -18,6 +20,7 @@ impl<T> Model for Seq<T> {
 }
 
 impl<T: Drop> Seq<T> {
+    /// An empty list. Does not allocate.
     pub fn new(alloc: Global) -> Self
         ensures { result ≡ [] }
     {
@@ -41,18 +44,21 @@ impl<T: Drop> Seq<T> {
         items
     }
 
+    /// The number of items.
     pub fn len(&self) -> usize
         ensures { result ≡ length self.now }
     {
         self.items.len()
     }
 
+    /// Whether there is no item.
     pub fn is_empty(&self) -> bool
         ensures { result ≡ (length self.now == 0) }
     {
         self.items.is_empty()
     }
 
+    /// The items in order.
     pub fn as_slice(&self) -> &[T]
         ensures { result.now ≡ self.now }
     {
@@ -70,6 +76,7 @@ impl<T: Drop> Seq<T> {
 }
 
 impl<T: Copy> Seq<T> {
+    /// A copy of the list.
     pub fn copy(&self, alloc: Global) -> Result<Self, AllocError>
         ensures { IfOk result (λ copy. copy ≡ self.now) }
     {

@@ -1,3 +1,5 @@
+//! A text, of which a clause sees the bytes.
+
 ghost use Rattle.std.specs.Prelude.{◌≡◌, IfOk, IsUtf8, length, string_bytes, []};
 ghost use Rattle.std.specs.Str.{bytes_eq};
 
@@ -19,6 +21,7 @@ impl Model for Text {
 }
 
 impl Text {
+    /// A text of its own with these bytes.
     pub fn new(alloc: Global, text: &str) -> Result<Text, AllocError>
         ensures { IfOk result (λ t. t ≡ text.now) }
     {
@@ -26,7 +29,7 @@ impl Text {
         Ok(Text { inner })
     }
 
-    /// The text without bytes, which takes no memory.
+    /// The text without bytes, which does not allocate.
     pub fn empty(alloc: Global) -> Text
         ensures { result ≡ [] }
     {
@@ -50,6 +53,7 @@ impl Text {
         inner
     }
 
+    /// The text.
     pub fn as_str(&self) -> &str
         ensures { result.now ≡ self.now }
     {
@@ -63,6 +67,7 @@ impl Text {
         self.inner.len()
     }
 
+    /// A copy of the text.
     pub fn copy(&self, alloc: Global) -> Result<Text, AllocError>
         ensures { IfOk result (λ t. t ≡ self.now) }
     {

@@ -13,10 +13,6 @@ module _ (intents g : ℕ) (h : Held) where
   changed-of a (Ready ready) of = absurd (cc)
   changed-of a d of = ap (λ (o : Option ℕ). if is_of g o then after intents d h else h) of
 
-  -- RESUMED changes nothing
-  pub changed-resumed : changed intents g h Resumed ≡ h
-  changed-resumed = refl
-
   -- a dispatch of the guild itself, and then the purge
   pub folded-here : (d : Dispatch) → guild_of d ≡ Some g → leaves_over d ≡ false → folded intents g h d ≡ purge intents g (after intents d h)
   unfolding folded

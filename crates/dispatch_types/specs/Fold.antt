@@ -163,7 +163,7 @@ on_open f None = None
 on_open f (Some Unavailable) = Some Unavailable
 on_open f (Some (Open v)) = Some (Open (f v))
 
--- of dispatches about users, the users that a client was told of
+-- the users of a guild that a client was told of, after a dispatch of this guild
 abbrev pub known_after : Dispatch → List ℕ → List ℕ
 known_after (GuildCreate create) known = put_all own_id [] (map user_id create.members)
 known_after (GuildDelete delete) known = []

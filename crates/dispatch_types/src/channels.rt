@@ -1,3 +1,5 @@
+//! The wire form of channels and overwrites.
+
 ghost use Rattle.std.specs.Prelude.{◌≡◌, IfOk};
 ghost use Rattle.dispatch_types.specs.Objects.{overwrite_object, overwrite_objects, channel_object};
 
@@ -8,7 +10,7 @@ use perm_bits::Perms;
 use snowflake_id::Snowflake;
 use std::alloc::{AllocError, Global};
 
-/// An overwrite as it is sent (Channels Resource, Overwrite Object).
+/// The wire form of an overwrite (Channels Resource, Overwrite Object).
 #[derive(Clone, Copy, PartialEq, Eq, Debug)]
 pub struct OverwriteObject {
     pub kind: OverwriteKind,
@@ -17,7 +19,7 @@ pub struct OverwriteObject {
     pub deny: Perms,
 }
 
-/// A channel as it is sent (Channels Resource, Channel Object).
+/// The wire form of a channel (Channels Resource, Channel Object).
 #[derive(Drop)]
 pub struct ChannelObject {
     pub guild: Snowflake,
@@ -30,7 +32,7 @@ pub struct ChannelObject {
 }
 
 impl OverwriteObject {
-    /// An overwrite of a role or of a member as it is sent.
+    /// The wire form of an overwrite of a role or of a member.
     pub fn of(kind: OverwriteKind, overwrite: &Overwrite) -> OverwriteObject
         ensures { result ≡ overwrite_object kind overwrite.now }
     {
@@ -56,7 +58,7 @@ fn overwrites(alloc: Global, from: &Overwrites) -> Result<Vec<OverwriteObject>, 
 }
 
 impl ChannelObject {
-    /// A channel of a guild as it is sent.
+    /// The wire form of a channel of a guild.
     pub fn of(
         alloc: Global,
         guild: Snowflake,

@@ -11,7 +11,7 @@ use guild_model::{Member, Moment, User};
 use snowflake_id::Snowflake;
 use std::alloc::{AllocError, Global};
 
-/// A member as it is sent (Guild Resource, Guild Member Object).
+/// The wire form of a member (Guild Resource, Guild Member Object).
 #[derive(Drop)]
 pub struct MemberObject {
     pub user: User,
@@ -31,7 +31,7 @@ fn roles(alloc: Global, member: &Member) -> Result<Seq<Snowflake>, AllocError>
 }
 
 impl MemberObject {
-    /// A member as it is sent.
+    /// The wire form of a member.
     pub fn of(alloc: Global, member: &Member) -> Result<MemberObject, AllocError>
         ensures { IfOk result (λ object. object ≡ member_object member.now) }
     {

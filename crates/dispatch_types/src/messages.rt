@@ -4,7 +4,7 @@ use collections::{Seq, Text};
 use guild_model::{PartCount, User};
 use snowflake_id::Snowflake;
 
-/// A message as it is sent (Message Resource, Message Object). Its time is that of its id; of its
+/// The wire form of a message (Message Resource, Message Object). Its time is that of its id; of its
 /// embeds, attachments and components the numbers are kept.
 #[derive(Drop)]
 pub struct MessageObject {

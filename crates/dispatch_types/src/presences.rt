@@ -3,10 +3,10 @@
 ghost use Rattle.std.specs.Prelude.{◌≡◌};
 ghost use Rattle.dispatch_types.specs.Objects.{voice_object, presence_object};
 
-use guild_model::{Activity, Presence, Voice};
+use guild_model::{Presence, ShownStatus, Voice};
 use snowflake_id::Snowflake;
 
-/// A voice state as it is sent (Voice Resource, Voice State Object). Without a channel the user is
+/// The wire form of a voice state (Voice Resource, Voice State Object). Without a channel the user is
 /// in voice no longer.
 #[derive(Clone, Copy, PartialEq, Eq, Debug)]
 pub struct VoiceObject {
@@ -23,17 +23,17 @@ pub struct VoiceStateUpdate {
     pub voice: VoiceObject,
 }
 
-/// A presence as it is sent (Gateway Events, Presence Update). Without an activity the user is
+/// The wire form of a presence (Gateway Events, Presence Update). A user without a shown status is
 /// offline.
 #[derive(Clone, Copy, PartialEq, Eq, Debug)]
 pub struct PresenceObject {
     pub guild: Snowflake,
     pub user: Snowflake,
-    pub status: Option<Activity>,
+    pub status: Option<ShownStatus>,
 }
 
 impl VoiceObject {
-    /// A voice state as it is sent.
+    /// The wire form of a voice state of a guild.
     pub fn of(voice: &Voice) -> VoiceObject
         ensures { result ≡ voice_object voice.now }
     {
@@ -47,7 +47,7 @@ impl VoiceObject {
 }
 
 impl PresenceObject {
-    /// A presence in a guild as it is sent.
+    /// The wire form of a presence in a guild.
     pub fn of(guild: Snowflake, presence: &Presence) -> PresenceObject
         ensures { result ≡ presence_object guild presence.now }
     {

@@ -1,3 +1,5 @@
+//! Whether a viewer is served by a guild.
+
 ghost use Rattle.std.specs.Prelude.{◌≡◌};
 ghost use Rattle.std.specs.Option.{option_copied};
 ghost use Rattle.dispatch_types.specs.Serves.{in_shard, served, serves};
@@ -15,7 +17,7 @@ fn in_shard(guild: &Guild, viewer: &Viewer) -> bool
     }
 }
 
-/// The viewer's own member, and nothing exactly where the viewer is not served: where the guild is not
+/// The viewer's own member. `None` exactly if the viewer is not served: where the guild is not
 /// open or not of its shard (Gateway, Sharding), or the user is no member.
 pub fn served<'a>(guild: &'a Guild, viewer: &Viewer) -> Option<&'a Member>
     ensures { option_copied result ≡ served viewer.now guild.now }
@@ -27,7 +29,7 @@ pub fn served<'a>(guild: &'a Guild, viewer: &Viewer) -> Option<&'a Member>
     }
 }
 
-/// Whether a viewer is served a guild. Takes no memory.
+/// Whether a viewer is served a guild. Does not allocate.
 pub fn serves(guild: &Guild, viewer: &Viewer) -> bool
     ensures { result ≡ serves viewer.now guild.now }
 {

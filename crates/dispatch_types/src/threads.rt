@@ -52,6 +52,7 @@ impl ThreadCount {
         }
     }
 
+    /// The number, at most 50.
     pub fn get(self) -> u32
         ensures value { result ≡ self }
         ensures within { result ≤ 50 }
@@ -60,7 +61,7 @@ impl ThreadCount {
     }
 }
 
-/// A user in a thread as it is sent (Channels Resource, Thread Member Object).
+/// The wire form of a thread member (Channels Resource, Thread Member Object).
 #[derive(Clone, Copy, PartialEq, Eq, Debug)]
 pub struct ThreadMemberObject {
     pub thread: Snowflake,
@@ -71,7 +72,7 @@ pub struct ThreadMemberObject {
 impl ThreadMemberObject {
     ghost use Rattle.dispatch_types.specs.Objects.{thread_member_object};
 
-    /// A user in a thread of an id as it is sent.
+    /// The wire form of a member of the thread of this id.
     pub fn of(thread: Snowflake, member: &ThreadMember) -> ThreadMemberObject
         ensures { result ≡ thread_member_object thread member.now }
     {
@@ -83,7 +84,7 @@ impl ThreadMemberObject {
     }
 }
 
-/// A thread as it is sent (Threads, Thread Fields).
+/// The wire form of a thread (Threads, Thread Fields).
 #[derive(Drop)]
 pub struct ThreadObject {
     pub guild: Snowflake,
@@ -99,7 +100,7 @@ pub struct ThreadObject {
 impl ThreadObject {
     ghost use Rattle.dispatch_types.specs.Objects.{thread_object};
 
-    /// A thread of a guild as it is sent.
+    /// The wire form of a thread of a guild.
     pub fn of(alloc: Global, guild: Snowflake, thread: &Thread) -> Result<ThreadObject, AllocError>
         ensures { IfOk result (λ object. object ≡ thread_object guild thread.now) }
     {

@@ -1,3 +1,5 @@
+//! What a viewer holds of a guild.
+
 ghost use Rattle.std.specs.Prelude.{◌≡◌, IfOk};
 
 use collections::{ById, Duplicate, Keyed, Text};

@@ -1,3 +1,5 @@
+//! Who is sent dispatches: a bot with its intents, its shard and its threshold.
+
 ghost use Rattle.std.specs.Prelude.{◌≡◌, ◌↔◌, ◌==◌, IfOk, IsErr};
 
 use intent_set::Intents;
@@ -29,7 +31,7 @@ impl Model for Shard {
 pub struct BadShard;
 
 impl Shard {
-    /// Shard `id` of `count`; refused exactly where there are none.
+    /// Shard `id` of `count`; refused exactly if there are none.
     pub fn new(id: u64, count: u64) -> Result<Shard, BadShard>
         ensures value { IfOk result (λ s. s ≡ (id, count)) }
         ensures refused { IsErr result ↔ (count ≡ 0) }
@@ -40,12 +42,14 @@ impl Shard {
         Ok(Shard { id, count })
     }
 
+    /// The shard's index, from 0.
     pub fn id(self) -> u64
         ensures { result ≡ self.0 }
     {
         self.id
     }
 
+    /// How many shards there are.
     pub fn count(self) -> u64
         ensures { result ≡ self.1 }
     {

@@ -56,7 +56,7 @@ module _ (guild : ℕ) (opens : guild_open.GuildOpen) where
     parents = λ thread t found. absurd (cc);
     joined = λ thread user t found there. absurd (cc);
     apart = λ id there. refl;
-    places = All-nil _;
+    message_channels = All-nil _;
   }
 
   opened_ascending : IsAscending (guild_opened (closed guild) opens)
@@ -159,7 +159,7 @@ closed_well guild = record {
     parents = λ thread t found. absurd (cc);
     joined = λ thread user t found there. absurd (cc);
     apart = λ id there. refl;
-    places = All-nil _;
+    message_channels = All-nil _;
   };
 }
 

@@ -64,6 +64,7 @@ impl Body {
         Ok(Body { text })
     }
 
+    /// The text.
     pub fn as_str(&self) -> &str
         ensures { result.now ≡ self.now }
     {

@@ -1,3 +1,5 @@
+//! The bots of a step file.
+
 use collections::Text;
 use dispatch_types::{Shard, Viewer};
 use gateway_frames::Identify;

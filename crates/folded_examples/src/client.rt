@@ -1,10 +1,12 @@
+//! A client of a transcript, with what it holds.
+
 use crate::guild_log::GuildLog;
 use client_cache::Cache;
 use collections::Text;
+use dispatch_equality::same_or_none;
 use dispatch_types::{Dispatch, GuildView, Viewer};
 use guild_model::Guild;
 use projection::project;
-use same_views::same_or_none;
 use snowflake_id::Snowflake;
 use std::alloc::{AllocError, Global};
 
@@ -46,6 +48,7 @@ impl Client {
         self.session.is(session)
     }
 
+    /// The number of its connection.
     pub fn connection(&self) -> u32 {
         self.connection
     }

@@ -1,3 +1,5 @@
+//! A connection of a transcript, and the session that it has.
+
 use collections::Text;
 use dispatch_types::Viewer;
 use std::alloc::{AllocError, Global};
@@ -17,6 +19,7 @@ pub struct Connection {
 }
 
 impl Connection {
+    /// A connection to a worker, before its first frame.
     pub fn new(alloc: Global, worker: u8) -> Connection {
         Connection {
             worker,
@@ -51,6 +54,7 @@ impl Connection {
         self.ended = true;
     }
 
+    /// Whether the client or the server has left.
     pub fn has_ended(&self) -> bool {
         self.ended
     }

@@ -1,3 +1,5 @@
+//! The connections of a transcript.
+
 use crate::connection::Connection;
 use collections::Text;
 use dispatch_types::Viewer;
@@ -12,6 +14,7 @@ pub struct Connections {
 }
 
 impl Connections {
+    /// No connection.
     pub fn new(alloc: Global) -> Connections {
         Connections {
             alloc,

@@ -1,3 +1,5 @@
+//! The log of a guild, with what each worker has looked at.
+
 use edit_apply::{Edit, apply};
 use guild_model::Guild;
 use snowflake_id::Snowflake;
@@ -38,6 +40,7 @@ fn after(alloc: Global, id: Snowflake, edits: &[Edit], count: usize) -> Result<G
 }
 
 impl GuildLog {
+    /// The empty log of a guild.
     pub fn new(alloc: Global, id: Snowflake) -> GuildLog {
         GuildLog {
             id,
@@ -46,6 +49,7 @@ impl GuildLog {
         }
     }
 
+    /// The id of the guild.
     pub fn id(&self) -> Snowflake {
         self.id
     }

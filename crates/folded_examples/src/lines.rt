@@ -1,3 +1,5 @@
+//! Reads a file line by line.
+
 use std::alloc::AllocError;
 
 /// What is made of the lines of a file.

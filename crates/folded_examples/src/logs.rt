@@ -1,3 +1,5 @@
+//! The logs of a step file, guild by guild.
+
 use crate::guild_log::GuildLog;
 use edit_apply::Edit;
 use snowflake_id::Snowflake;
@@ -12,6 +14,7 @@ pub struct Logs {
 }
 
 impl Logs {
+    /// No log.
     pub fn new(alloc: Global) -> Logs {
         Logs {
             alloc,

@@ -26,12 +26,12 @@ use transcript::Transcript;
 fn take_line<T: Lines>(
     rt: &HostRuntime,
     path: &str,
-    place: usize,
+    index: usize,
     line: &str,
     taker: &mut T,
 ) -> anyhow::Result<()> {
     if !taker.take(line)? {
-        println!(rt; "{path}: line {} is not read", place.wrapping_add(1))?;
+        println!(rt; "{path}: line {} is not read", index.wrapping_add(1))?;
     }
     Ok(())
 }
@@ -39,8 +39,8 @@ fn take_line<T: Lines>(
 // Takes all lines of a file.
 fn take_file<T: Lines>(rt: &HostRuntime, path: &str, taker: &mut T) -> anyhow::Result<()> {
     let text = fs::read_to_string(rt, path)?;
-    for (place, line) in text.as_str().lines().enumerate() {
-        take_line(rt, path, place, line, taker)?;
+    for (index, line) in text.as_str().lines().enumerate() {
+        take_line(rt, path, index, line, taker)?;
     }
     Ok(())
 }

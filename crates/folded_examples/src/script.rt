@@ -1,3 +1,5 @@
+//! The bots and guilds of a step file, and its lines.
+
 use crate::bot::Bot;
 use crate::connections::Connections;
 use crate::lines::Lines;

@@ -1,3 +1,5 @@
+//! Reads a transcript beside its step file.
+
 use crate::client::Client;
 use crate::clients::Clients;
 use crate::connections::Connections;
@@ -71,7 +73,7 @@ impl Transcript {
     ) -> Result<bool, AllocError> {
         let dispatch = self.begin_by(number, &dispatch).and(Ok(dispatch))?;
         match self.place_of(number) {
-            Some(place) => self.clients.fold(place, dispatch, count),
+            Some(index) => self.clients.fold(index, dispatch, count),
             None => {
                 drop(dispatch);
                 Ok(false)
@@ -99,18 +101,18 @@ impl Transcript {
         self.clients.push(client)
     }
 
-    // The place of the client that has a connection, be it only now, by a resume.
+    // The index of the client that has a connection, be it only now, by a resume.
     fn place_of(&mut self, number: u32) -> Option<usize> {
-        let place = self.clients.by_connection(number);
-        if place.is_some() {
-            return place;
+        let index = self.clients.by_connection(number);
+        if index.is_some() {
+            return index;
         }
-        let place = self.resumed(number)?;
-        self.clients.move_to(place, number);
-        Some(place)
+        let index = self.resumed(number)?;
+        self.clients.move_to(index, number);
+        Some(index)
     }
 
-    // The place of the client whose session a connection resumes.
+    // The index of the client whose session a connection resumes.
     fn resumed(&self, number: u32) -> Option<usize> {
         let session = self.connections.resumed(number)?;
         self.clients.by_session(session.as_str())
@@ -126,6 +128,7 @@ impl Transcript {
         self.connections.is_open(client.connection())
     }
 
+    /// The logs of the guilds.
     pub fn logs(&self) -> &Logs {
         &self.logs
     }

@@ -178,7 +178,7 @@ gone_kept c id k = record {
   room = k.room;
 }
 
--- ---- a message is changed in its place
+-- ---- a message is changed in its channel
 
 none_set : (test other : ℕ → Bool) (w : MessageHead) (es : Entries) → lookup other es ≡ None → lookup other (set_value test es w) ≡ None
 none_set test other w [] e = refl

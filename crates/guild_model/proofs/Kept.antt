@@ -11,7 +11,7 @@ use Rattle.guild_model.specs.declared.voice.Voice.{Voice}
 use Rattle.guild_model.specs.declared.presence.Presence.{Presence}
 use Rattle.guild_model.specs.declared.message.MessageHead.{MessageHead}
 use Rattle.guild_model.specs.Record.{Record, own_id, role_id, member_id, overwrite_id, channel_id, thread_id, voice_id, presence_id}
-use Rattle.guild_model.specs.Consistent.{IsConsistent, is_parent, is_place}
+use Rattle.guild_model.specs.Consistent.{IsConsistent, is_parent, is_channel_or_thread}
 
 module _ (g : Record) (is_open : g.opened ≡ true) (h : IsConsistent g) where
   pub renamed : (name : List ℕ) → IsConsistent (record g { name = name })
@@ -26,7 +26,7 @@ module _ (g : Record) (is_open : g.opened ≡ true) (h : IsConsistent g) where
     parents = h.parents;
     joined = h.joined;
     apart = h.apart;
-    places = h.places;
+    message_channels = h.message_channels;
   }
 
   pub in_outage : (outage : Bool) → IsConsistent (record g { outage = outage })
@@ -41,7 +41,7 @@ module _ (g : Record) (is_open : g.opened ≡ true) (h : IsConsistent g) where
     parents = h.parents;
     joined = h.joined;
     apart = h.apart;
-    places = h.places;
+    message_channels = h.message_channels;
   }
 
   pub owned : (user : ℕ) → has_id member_id user g.members ≡ true → IsConsistent (record g { owner = user })
@@ -56,7 +56,7 @@ module _ (g : Record) (is_open : g.opened ≡ true) (h : IsConsistent g) where
     parents = h.parents;
     joined = h.joined;
     apart = h.apart;
-    places = h.places;
+    message_channels = h.message_channels;
   }
 
   -- a role comes, or is another
@@ -72,7 +72,7 @@ module _ (g : Record) (is_open : g.opened ≡ true) (h : IsConsistent g) where
     parents = h.parents;
     joined = h.joined;
     apart = h.apart;
-    places = h.places;
+    message_channels = h.message_channels;
   }
 
   -- the members have changed, but not who is one of them
@@ -90,7 +90,7 @@ module _ (g : Record) (is_open : g.opened ≡ true) (h : IsConsistent g) where
     parents = h.parents;
     joined = λ thread user t found there. same user (h.joined thread user t found there);
     apart = h.apart;
-    places = h.places;
+    message_channels = h.message_channels;
   }
 
   -- the channels have changed, but not where threads, voice states and messages stand
@@ -109,8 +109,8 @@ module _ (g : Record) (is_open : g.opened ≡ true) (h : IsConsistent g) where
     parents = λ thread t found. kinds t.parent ∙ h.parents thread t found;
     joined = h.joined;
     apart = λ id there. h.apart id (sym (same id) ∙ there);
-    places = All-weaker (λ (m : MessageHead). is_place g m.place ≡ true) (λ (m : MessageHead). is_place (record g { channels = cs }) m.place ≡ true)
-        (λ m there. ap (λ b. b || has_id thread_id m.place g.threads) (same m.place) ∙ there) g.messages h.places;
+    message_channels = All-weaker (λ (m : MessageHead). is_channel_or_thread g m.channel ≡ true) (λ (m : MessageHead). is_channel_or_thread (record g { channels = cs }) m.channel ≡ true)
+        (λ m there. ap (λ b. b || has_id thread_id m.channel g.threads) (same m.channel) ∙ there) g.messages h.message_channels;
   }
 
   -- the voice states have changed: each is of a member, in a channel
@@ -127,7 +127,7 @@ module _ (g : Record) (is_open : g.opened ≡ true) (h : IsConsistent g) where
     parents = h.parents;
     joined = h.joined;
     apart = h.apart;
-    places = h.places;
+    message_channels = h.message_channels;
   }
 
   -- the presences have changed: each is of a member
@@ -144,11 +144,11 @@ module _ (g : Record) (is_open : g.opened ≡ true) (h : IsConsistent g) where
     parents = h.parents;
     joined = h.joined;
     apart = h.apart;
-    places = h.places;
+    message_channels = h.message_channels;
   }
 
   -- the messages have changed: each stands in a channel or a thread
-  pub messages_changed : (ms : List MessageHead) → All (λ (m : MessageHead). is_place g m.place ≡ true) ms
+  pub messages_changed : (ms : List MessageHead) → All (λ (m : MessageHead). is_channel_or_thread g m.channel ≡ true) ms
       → IsConsistent (record g { messages = ms })
   messages_changed ms there = record {
     empty = λ closed. absurd (cc (is_open, closed));
@@ -161,5 +161,5 @@ module _ (g : Record) (is_open : g.opened ≡ true) (h : IsConsistent g) where
     parents = h.parents;
     joined = h.joined;
     apart = h.apart;
-    places = there;
+    message_channels = there;
   }

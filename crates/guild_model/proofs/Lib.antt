@@ -3,7 +3,7 @@ pub mod Copies
 pub mod Indexed
 pub mod Kept
 pub mod Numbers
-pub mod Places
+pub mod ChannelIndex
 pub mod Recent
 pub mod Statuses
 pub mod Tests

@@ -2,9 +2,9 @@
 use Rattle.std.proofs.Common.{◌≡◌, Option, Some, None, refl}
 use Rattle.guild_model.specs.declared.presence.Status.{Status}
 use Rattle.guild_model.specs.declared.presence.Status.TheVariants.{Online, Idle, Dnd, Invisible, Offline}
-use Rattle.guild_model.specs.declared.presence.Activity.{Activity}
-use Rattle.guild_model.specs.declared.presence.Activity.TheVariants as activity
-use Rattle.guild_model.specs.Statuses.{status_name, status_named, status_activity, shown_status}
+use Rattle.guild_model.specs.declared.presence.ShownStatus.{ShownStatus}
+use Rattle.guild_model.specs.declared.presence.ShownStatus.TheVariants as shown
+use Rattle.guild_model.specs.Statuses.{status_name, status_named, status_shown, status_of_shown}
 
 pub status_back : (s : Status) → status_named (status_name s) ≡ Some s
 unfolding status_named
@@ -14,8 +14,8 @@ status_back Dnd = refl
 status_back Invisible = refl
 status_back Offline = refl
 
-pub shown_back : (a : Option Activity) → status_activity (shown_status a) ≡ a
+pub shown_back : (a : Option ShownStatus) → status_shown (status_of_shown a) ≡ a
 shown_back None = refl
-shown_back (Some activity.Online) = refl
-shown_back (Some activity.Idle) = refl
-shown_back (Some activity.DoNotDisturb) = refl
+shown_back (Some shown.Online) = refl
+shown_back (Some shown.Idle) = refl
+shown_back (Some shown.DoNotDisturb) = refl

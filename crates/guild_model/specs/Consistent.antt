@@ -24,8 +24,8 @@ is_parent None = false
 is_parent (Some c) = has_threads c.kind
 
 -- a channel or a thread of the guild
-abbrev pub is_place : Record → ℕ → Bool
-is_place g id = has_id channel_id id g.channels || has_id thread_id id g.threads
+abbrev pub is_channel_or_thread : Record → ℕ → Bool
+is_channel_or_thread g id = has_id channel_id id g.channels || has_id thread_id id g.threads
 
 pub record IsConsistent (g : Record) : Type 0 where
   pub empty : g.opened ≡ false → g ≡ closed g.id
@@ -42,4 +42,4 @@ pub record IsConsistent (g : Record) : Type 0 where
   pub joined : (thread user : ℕ) (t : Thread) → find_id thread_id thread g.threads ≡ Some t → has_id thread_member_id user t.members ≡ true
       → has_id member_id user g.members ≡ true
   pub apart : (id : ℕ) → has_id channel_id id g.channels ≡ true → has_id thread_id id g.threads ≡ false
-  pub places : All (λ (h : MessageHead). is_place g h.place ≡ true) g.messages
+  pub message_channels : All (λ (h : MessageHead). is_channel_or_thread g h.channel ≡ true) g.messages

@@ -4,7 +4,7 @@ use Rattle.std.specs.Map.{lookup}
 use Rattle.lru.specs.LruCache.{LruCache}
 use Rattle.collections.specs.ById.{find_id, has_id, without_id, changed_id}
 use Rattle.guild_model.specs.declared.message.MessageHead.{MessageHead}
-use Rattle.guild_model.specs.Places.{stands}
+use Rattle.guild_model.specs.ChannelIndex.{is_indexed}
 
 abbrev pub head_id : MessageHead → ℕ
 head_id h = h.id
@@ -30,9 +30,9 @@ with_mentions mentions h = record h { mentions = mentions }
 abbrev pub mentioning : ℕ → List ℕ → List MessageHead → List MessageHead
 mentioning id mentions heads = changed_id head_id id (with_mentions mentions) heads
 
--- the messages that do not stand in a place
-abbrev pub without_place : ℕ → List MessageHead → List MessageHead
-without_place place heads = filter (λ h. not (h.place == place)) heads
+-- the messages that do not stand in a channel
+abbrev pub without_channel : ℕ → List MessageHead → List MessageHead
+without_channel channel heads = filter (λ h. not (h.channel == channel)) heads
 
 -- no id stands twice
 abbrev pub AreApart : List MessageHead → Type 0
@@ -43,7 +43,7 @@ pub record AreRecent (heads : List MessageHead) : Type 0 where
   pub apart : AreApart heads
   pub few : length heads ≤ 16384
 
--- ---- as they are kept: under their ids, the newest first, and by their places
+-- ---- as they are kept: under their ids, the newest first, and by their channels
 
 abbrev pub arrivals : List (ℕ × MessageHead) → List MessageHead
 arrivals [] = []
@@ -59,13 +59,13 @@ pub record IsKept (c : LruCache ℕ MessageHead) : Type 0 where
   pub few : length c.entries ≤ 16384
   pub room : c.cap ≡ 16384
 
-abbrev pub stands_at : ℕ → Option MessageHead → Bool
-stands_at place None = false
-stands_at place (Some h) = h.place == place
+abbrev pub is_head_in : ℕ → Option MessageHead → Bool
+is_head_in channel None = false
+is_head_in channel (Some h) = h.channel == channel
 
--- a message is said to stand in a place exactly where it is kept and does
+-- a message is said to stand in a channel exactly where it is kept and does
 abbrev pub AreIndexed : List (ℕ × ℕ) → List (ℕ × MessageHead) → Type 0
-AreIndexed ps es = (place id : ℕ) → stands ps place id ≡ stands_at place (lookup (nat_eq id) es)
+AreIndexed ps es = (channel id : ℕ) → is_indexed ps channel id ≡ is_head_in channel (lookup (nat_eq id) es)
 
 -- there is none before the first message comes
 abbrev pub heads_of : Option (LruCache ℕ MessageHead) → List MessageHead

@@ -1,4 +1,4 @@
-pub mod Places
+pub mod ChannelIndex
 pub mod Heads
 pub mod Record
 pub mod Numbers

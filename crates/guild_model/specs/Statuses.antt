@@ -3,8 +3,8 @@ use Rattle.std.specs.Prelude.{ℕ, List, codes, Option, Some, None, if◌then◌
 use Rattle.std.specs.Str.{bytes_eq}
 use Rattle.guild_model.specs.declared.presence.Status.{Status}
 use Rattle.guild_model.specs.declared.presence.Status.TheVariants.{Online, Idle, Dnd, Invisible, Offline}
-use Rattle.guild_model.specs.declared.presence.Activity.{Activity}
-use Rattle.guild_model.specs.declared.presence.Activity.TheVariants as activity
+use Rattle.guild_model.specs.declared.presence.ShownStatus.{ShownStatus}
+use Rattle.guild_model.specs.declared.presence.ShownStatus.TheVariants as shown
 
 abbrev pub status_name : Status → List ℕ
 status_name Online = codes "online"
@@ -22,17 +22,17 @@ status_named s =
     else (if bytes_eq s (codes "offline") then Some Offline
     else None))))
 
--- what a user of this status is seen to be doing: one that is invisible or offline is not there
-abbrev pub status_activity : Status → Option Activity
-status_activity Online = Some activity.Online
-status_activity Idle = Some activity.Idle
-status_activity Dnd = Some activity.DoNotDisturb
-status_activity Invisible = None
-status_activity Offline = None
+-- how others see a user of this status: one that is invisible or offline has no presence
+abbrev pub status_shown : Status → Option ShownStatus
+status_shown Online = Some shown.Online
+status_shown Idle = Some shown.Idle
+status_shown Dnd = Some shown.DoNotDisturb
+status_shown Invisible = None
+status_shown Offline = None
 
 -- the status that others are told
-abbrev pub shown_status : Option Activity → Status
-shown_status None = Offline
-shown_status (Some activity.Online) = Online
-shown_status (Some activity.Idle) = Idle
-shown_status (Some activity.DoNotDisturb) = Dnd
+abbrev pub status_of_shown : Option ShownStatus → Status
+status_of_shown None = Offline
+status_of_shown (Some shown.Online) = Online
+status_of_shown (Some shown.Idle) = Idle
+status_of_shown (Some shown.DoNotDisturb) = Dnd

@@ -1,3 +1,5 @@
+//! A channel, its type, and its overwrites.
+
 ghost use Rattle.std.specs.Prelude.{◌≡◌, [], IfOk, Some};
 ghost use Rattle.guild_model.specs.Consistent.{has_threads};
 ghost use Rattle.guild_model.specs.Numbers.{channel_kind_number, channel_kind_numbered, overwrite_kind_number, overwrite_kind_numbered};
@@ -35,7 +37,7 @@ impl ChannelKind {
         }
     }
 
-    /// The type of a number, and nothing exactly where it is that of none.
+    /// The type of a number. `None` exactly if it is that of none.
     #[tactic(auto, unfolding(crate::specs::Numbers::channel_kind_numbered))]
     pub fn of_number(number: u64) -> Option<ChannelKind>
         ensures { result ≡ channel_kind_numbered number }
@@ -82,7 +84,7 @@ impl OverwriteKind {
         }
     }
 
-    /// The kind of a number, and nothing exactly where it is that of none.
+    /// The kind of a number. `None` exactly if it is that of none.
     #[tactic(auto, unfolding(crate::specs::Numbers::overwrite_kind_numbered))]
     pub fn of_number(number: u64) -> Option<OverwriteKind>
         ensures { result ≡ overwrite_kind_numbered number }
@@ -119,6 +121,7 @@ pub struct Overwrites {
 }
 
 impl Overwrites {
+    /// No overwrite.
     pub fn new(alloc: Global) -> Overwrites
         ensures { result ≡ record { roles = []; members = [] } }
     {

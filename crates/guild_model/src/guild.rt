@@ -1,3 +1,5 @@
+//! The record of a guild, with its look-ups and its copy.
+
 ghost use Rattle.std.specs.Prelude.{◌≡◌, IfOk};
 ghost use Rattle.std.specs.Option.{option_copied};
 ghost use Rattle.collections.specs.ById.{find_id};
@@ -72,7 +74,7 @@ impl Model for Guild {
 impl Guild {
     ghost use Rattle.guild_model.specs.Record.{closed, role_id, member_id, channel_id, thread_id};
     ghost use Rattle.guild_model.specs.Heads.{find_head};
-    ghost use Rattle.guild_model.specs.Consistent.{is_place};
+    ghost use Rattle.guild_model.specs.Consistent.{is_channel_or_thread};
 
     /// The record of a guild to which nothing has happened: not open, and empty.
     pub fn closed(alloc: Global, id: Snowflake) -> Guild
@@ -94,35 +96,35 @@ impl Guild {
         }
     }
 
-    /// The role of an id, and nothing exactly where there is none.
+    /// The role of an id. `None` exactly if there is none.
     pub fn role(&self, id: Snowflake) -> Option<&Role>
         ensures { option_copied result ≡ find_id role_id id self.now.roles }
     {
         self.roles.get(id.0)
     }
 
-    /// The member that a user is, and nothing exactly where it is none.
+    /// The member that a user is. `None` exactly if it is none.
     pub fn member(&self, user: Snowflake) -> Option<&Member>
         ensures { option_copied result ≡ find_id member_id user self.now.members }
     {
         self.members.get(user.0)
     }
 
-    /// The channel of an id, and nothing exactly where there is none. A thread is no channel.
+    /// The channel of an id. `None` exactly if there is none. A thread is no channel.
     pub fn channel(&self, id: Snowflake) -> Option<&Channel>
         ensures { option_copied result ≡ find_id channel_id id self.now.channels }
     {
         self.channels.get(id.0)
     }
 
-    /// The thread of an id, and nothing exactly where there is none.
+    /// The thread of an id. `None` exactly if there is none.
     pub fn thread(&self, id: Snowflake) -> Option<&Thread>
         ensures { option_copied result ≡ find_id thread_id id self.now.threads }
     {
         self.threads.get(id.0)
     }
 
-    /// The kept message of an id, and nothing exactly where there is none.
+    /// The kept message of an id. `None` exactly if there is none.
     pub fn message(&self, id: Snowflake) -> Option<&MessageHead>
         ensures { option_copied result ≡ find_head id self.now.messages }
     {
@@ -130,8 +132,8 @@ impl Guild {
     }
 
     /// Whether a channel or a thread of the guild has an id.
-    pub fn has_place(&self, id: Snowflake) -> bool
-        ensures { result ≡ is_place self.now id }
+    pub fn has_channel_or_thread(&self, id: Snowflake) -> bool
+        ensures { result ≡ is_channel_or_thread self.now id }
     {
         self.channels.contains(id.0) || self.threads.contains(id.0)
     }

@@ -4,6 +4,7 @@
 
 pub mod changes;
 pub mod channel;
+mod channel_index;
 pub mod guild;
 pub mod limits;
 pub mod member;
@@ -11,7 +12,6 @@ pub mod message;
 pub mod message_heads;
 pub mod moment;
 pub mod part_count;
-mod place_index;
 pub mod presence;
 pub mod role;
 pub mod rules;
@@ -27,7 +27,7 @@ pub use message::MessageHead;
 pub use message_heads::MessageHeads;
 pub use moment::{BadMoment, Moment};
 pub use part_count::{PartCount, TooManyParts};
-pub use presence::{Activity, Presence, Status};
+pub use presence::{Presence, ShownStatus, Status};
 pub use role::Role;
 pub use thread::{Thread, ThreadKind, ThreadMember};
 pub use user::User;

@@ -1,3 +1,5 @@
+//! A member of a guild.
+
 ghost use Rattle.std.specs.Prelude.{◌≡◌, IfOk};
 
 use crate::moment::Moment;

@@ -1,3 +1,5 @@
+//! What a guild keeps of a message.
+
 ghost use Rattle.std.specs.Prelude.{◌≡◌, IfOk};
 
 use crate::user::User;
@@ -10,7 +12,7 @@ use std::alloc::{AllocError, Global};
 pub struct MessageHead {
     pub id: Snowflake,
     /// The channel or thread that the message stands in.
-    pub place: Snowflake,
+    pub channel: Snowflake,
     pub author: User,
     /// The mentioned users, in the order of the message.
     pub mentions: Seq<Snowflake>,
@@ -20,7 +22,7 @@ impl Duplicate for MessageHead {
     fn duplicate(&self, alloc: Global) -> Result<MessageHead, AllocError> {
         Ok(MessageHead {
             id: self.id,
-            place: self.place,
+            channel: self.channel,
             author: self.author.duplicate(alloc)?,
             mentions: self.mentions.copy(alloc)?,
         })

@@ -1,5 +1,5 @@
-//! The latest messages of a guild. They are kept under their ids and listed by their places, so that
-//! one is found, changed and taken away, the oldest goes, and those of a place go, without a walk
+//! The latest messages of a guild. They are kept under their ids and listed by their channels, so that
+//! one is found, changed and taken away, the oldest goes, and those of a channel go, without a walk
 //! through the others.
 
 ghost use Rattle.std.specs.Prelude.{◌≡◌, ℕ, List, [], None, IfOk, OnOk, OnErr, nat_eq};
@@ -7,11 +7,11 @@ ghost use Rattle.std.specs.Map.{remove_entry};
 ghost use Rattle.std.specs.Option.{option_copied};
 ghost use Rattle.std.specs.NonZero.{non_zero_usize_get};
 ghost use Rattle.lru.specs.LruCache.{lru_cache};
-ghost use Rattle.guild_model.specs.Heads.{find_head, has_head, arrived, without_head, without_place, mentioning, arrivals, AreIndexed, IsKept};
+ghost use Rattle.guild_model.specs.Heads.{find_head, has_head, arrived, without_head, without_channel, mentioning, arrivals, AreIndexed, IsKept};
 
+use crate::channel_index::ChannelIndex;
 use crate::limits;
 use crate::message::MessageHead;
-use crate::place_index::PlaceIndex;
 use collections::{Duplicate, Seq};
 use lru::LruCache;
 use snowflake_id::Snowflake;
@@ -44,61 +44,61 @@ fn found(heads: &LruCache<u64, MessageHead>, id: Snowflake) -> Option<&MessageHe
     heads.peek(&id.0)
 }
 
-// The oldest goes out of a full cache, and then out of the places too.
+// The oldest goes out of a full cache, and then out of the index too.
 fn add(
     heads: &mut LruCache<u64, MessageHead>,
-    places: &mut PlaceIndex,
+    index: &mut ChannelIndex,
     head: MessageHead,
 ) -> Result<(), AllocError>
     requires kept { IsKept heads.old }
-    requires indexed { AreIndexed places.old heads.old.entries }
+    requires indexed { AreIndexed index.old heads.old.entries }
     requires free { find_head head.id (arrivals heads.old.entries) ≡ None }
     ensures ok { OnOk result (arrivals heads.new.entries ≡ arrived head (arrivals heads.old.entries)) }
     ensures kept { OnOk result (IsKept heads.new) }
     ensures err { OnErr result (heads.new ≡ heads.old) }
-    ensures indexed { AreIndexed places.new heads.new.entries }
+    ensures indexed { AreIndexed index.new heads.new.entries }
 {
-    let (place, id) = (number(head.place), number(head.id));
-    places.add(place, id)?;
+    let (channel, id) = (number(head.channel), number(head.id));
+    index.add(channel, id)?;
     match heads.push(id, head) {
         Ok(None) => Ok(()),
         Ok(Some((id, oldest))) => {
-            places.remove(number(oldest.place), id);
+            index.remove(number(oldest.channel), id);
             Ok(())
         }
         Err(refused) => {
-            places.remove(place, id);
+            index.remove(channel, id);
             Err(refused.into())
         }
     }
 }
 
-fn take(heads: &mut LruCache<u64, MessageHead>, places: &mut PlaceIndex, id: u64)
+fn take(heads: &mut LruCache<u64, MessageHead>, index: &mut ChannelIndex, id: u64)
     requires kept { IsKept heads.old }
-    requires indexed { AreIndexed places.old heads.old.entries }
+    requires indexed { AreIndexed index.old heads.old.entries }
     ensures entries { heads.new.entries ≡ remove_entry (nat_eq id) heads.old.entries }
     ensures heads { arrivals heads.new.entries ≡ without_head id (arrivals heads.old.entries) }
     ensures kept { IsKept heads.new }
-    ensures indexed { AreIndexed places.new heads.new.entries }
+    ensures indexed { AreIndexed index.new heads.new.entries }
 {
     if let Some(head) = heads.pop(&id) {
-        places.remove(number(head.place), id);
+        index.remove(number(head.channel), id);
     }
 }
 
-fn take_place(heads: &mut LruCache<u64, MessageHead>, places: &mut PlaceIndex, place: u64)
+fn take_in(heads: &mut LruCache<u64, MessageHead>, index: &mut ChannelIndex, channel: u64)
     requires kept { IsKept heads.old }
-    requires indexed { AreIndexed places.old heads.old.entries }
-    ensures heads { arrivals heads.new.entries ≡ without_place place (arrivals heads.old.entries) }
+    requires indexed { AreIndexed index.old heads.old.entries }
+    ensures heads { arrivals heads.new.entries ≡ without_channel channel (arrivals heads.old.entries) }
     ensures kept { IsKept heads.new }
-    ensures indexed { AreIndexed places.new heads.new.entries }
+    ensures indexed { AreIndexed index.new heads.new.entries }
 {
-    while let Some(id) = places.first_in(place) {
-        take(heads, places, id);
+    while let Some(id) = index.first_in(channel) {
+        take(heads, index, id);
     }
 }
 
-// None goes to another place.
+// None goes to another channel.
 fn mention(heads: &mut LruCache<u64, MessageHead>, id: Snowflake, mentions: Seq<Snowflake>)
     requires { IsKept heads.old }
     ensures heads { arrivals heads.new.entries ≡ mentioning id mentions (arrivals heads.old.entries) }
@@ -129,7 +129,7 @@ fn copied(
 #[derive(Drop)]
 pub struct MessageHeads {
     heads: Option<LruCache<u64, MessageHead>>,
-    places: PlaceIndex,
+    index: ChannelIndex,
     alloc: Global,
 }
 
@@ -142,16 +142,17 @@ impl Model for MessageHeads {
 
     ghost view = { λ m. heads_of m.heads };
 
-    ghost invariant = { λ m. AreKept m.heads m.places };
+    ghost invariant = { λ m. AreKept m.heads m.index };
 }
 
 impl MessageHeads {
+    /// No message.
     pub fn new(alloc: Global) -> MessageHeads
         ensures { result ≡ [] }
     {
         MessageHeads {
             heads: None,
-            places: PlaceIndex::new(alloc),
+            index: ChannelIndex::new(alloc),
             alloc,
         }
     }
@@ -163,7 +164,7 @@ impl MessageHeads {
         self.get(id).is_some()
     }
 
-    /// Adds a message that is not there yet as the newest; the oldest goes where there were
+    /// Adds a message that does not exist yet as the newest; the oldest goes where there were
     /// [`limits::MESSAGES`]. An `Err` changes nothing.
     pub fn push(&mut self, head: MessageHead) -> Result<(), AllocError>
         requires { find_head head.id self.old ≡ None }
@@ -171,10 +172,10 @@ impl MessageHeads {
         ensures err { OnErr result (self.new ≡ self.old) }
     {
         if let Some(heads) = &mut self.heads {
-            return add(heads, &mut self.places, head);
+            return add(heads, &mut self.index, head);
         }
         let mut heads = empty(self.alloc)?;
-        add(&mut heads, &mut self.places, head)?;
+        add(&mut heads, &mut self.index, head)?;
         self.heads = Some(heads);
         Ok(())
     }
@@ -184,16 +185,16 @@ impl MessageHeads {
         ensures { self.new ≡ without_head id self.old }
     {
         if let Some(heads) = &mut self.heads {
-            take(heads, &mut self.places, id.0);
+            take(heads, &mut self.index, id.0);
         }
     }
 
     /// Takes away the messages that stand in a channel or a thread, without a look at the others.
-    pub fn remove_place(&mut self, place: Snowflake)
-        ensures { self.new ≡ without_place place self.old }
+    pub fn remove_in(&mut self, channel: Snowflake)
+        ensures { self.new ≡ without_channel channel self.old }
     {
         if let Some(heads) = &mut self.heads {
-            take_place(heads, &mut self.places, place.0);
+            take_in(heads, &mut self.index, channel.0);
         }
     }
 
@@ -206,7 +207,7 @@ impl MessageHeads {
         }
     }
 
-    /// The message of an id, and nothing exactly where there is none.
+    /// The message of an id. `None` exactly if there is none.
     pub fn get(&self, id: Snowflake) -> Option<&MessageHead>
         ensures { option_copied result ≡ find_head id self.now }
     {
@@ -222,7 +223,7 @@ impl Duplicate for MessageHeads {
         match &self.heads {
             Some(heads) => Ok(MessageHeads {
                 heads: Some(copied(alloc, heads)?),
-                places: self.places.duplicate(alloc)?,
+                index: self.index.duplicate(alloc)?,
                 alloc,
             }),
             None => Ok(MessageHeads::new(alloc)),

@@ -1,13 +1,14 @@
+//! A moment in milliseconds since 1970.
+
 ghost use Rattle.std.specs.Prelude.{◌≡◌, ◌↔◌, ◌<◌, ◌≤◌, IfOk, IsErr};
 ghost use Rattle.guild_model.specs.declared.moment.TheConstants.{END_OF_TIME};
 
 use std::marker::Model;
 
-/// The first millisecond since 1970 that needs a year of five digits.
+/// The first millisecond of 9999-01-01, with which the moments end.
 pub const END_OF_TIME: u64 = 253_370_764_800_000;
 
-/// A moment in milliseconds since 1970, within the years that are written with four digits (API
-/// Reference, ISO8601 Date/Time).
+/// A moment in milliseconds since 1970, before 9999-01-01 (API Reference, ISO8601 Date/Time).
 #[derive(Clone, Copy, PartialEq, Eq, PartialOrd, Ord, Debug)]
 pub struct Moment(u64);
 
@@ -24,7 +25,7 @@ impl Model for Moment {
     ghost inverse = { λ millis. record { 0 = millis } };
 }
 
-/// The milliseconds are beyond the last year of four digits.
+/// The milliseconds are at the end of the moments or past it.
 #[derive(Clone, Copy, PartialEq, Eq, Debug)]
 pub struct BadMoment;
 

@@ -1,3 +1,5 @@
+//! The number of embeds, attachments or components of a message.
+
 ghost use Rattle.std.specs.Prelude.{◌≡◌, ◌↔◌, ◌≤◌, IfOk, IsErr};
 
 use crate::limits;
@@ -38,6 +40,7 @@ impl PartCount {
         Ok(PartCount(count as u8))
     }
 
+    /// The number, at most 10.
     pub fn get(self) -> u8
         ensures value { result ≡ self }
         ensures within { result ≤ 10 }

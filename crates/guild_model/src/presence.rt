@@ -1,12 +1,14 @@
+//! The status of a user, and the presence that a guild keeps of it.
+
 ghost use Rattle.std.specs.Prelude.{◌≡◌, Some};
-ghost use Rattle.guild_model.specs.Statuses.{status_name, status_named, status_activity, shown_status};
+ghost use Rattle.guild_model.specs.Statuses.{status_name, status_named, status_shown, status_of_shown};
 
 use collections::Keyed;
 use snowflake_id::Snowflake;
 
-/// How a user that is there is seen (Gateway Events, Presence Update Event Fields).
+/// How others see a user that is not offline (Gateway Events, Presence Update Event Fields).
 #[derive(Clone, Copy, PartialEq, Eq, Debug)]
-pub enum Activity {
+pub enum ShownStatus {
     Online,
     Idle,
     DoNotDisturb,
@@ -39,7 +41,7 @@ impl Status {
         }
     }
 
-    /// The status of a name, and nothing exactly where it is that of none.
+    /// The status of a name, and `None` exactly if no status has it.
     #[tactic(auto, unfolding(crate::specs::Statuses::status_named))]
     pub fn of_name(name: &str) -> Option<Status>
         ensures { result ≡ status_named name.now }
@@ -62,27 +64,27 @@ impl Status {
         None
     }
 
-    /// How a user of this status is seen: not at all where it is invisible or offline.
-    pub fn activity(self) -> Option<Activity>
-        ensures { result ≡ status_activity self }
+    /// How others see a user of this status: `None` if it is invisible or offline.
+    pub fn shown(self) -> Option<ShownStatus>
+        ensures { result ≡ status_shown self }
     {
         match self {
-            Status::Online => Some(Activity::Online),
-            Status::Idle => Some(Activity::Idle),
-            Status::Dnd => Some(Activity::DoNotDisturb),
+            Status::Online => Some(ShownStatus::Online),
+            Status::Idle => Some(ShownStatus::Idle),
+            Status::Dnd => Some(ShownStatus::DoNotDisturb),
             Status::Invisible | Status::Offline => None,
         }
     }
 
-    /// The status that others are told of a user: a user that is not there is offline.
-    pub fn shown(activity: Option<Activity>) -> Status
-        ensures status { result ≡ shown_status activity }
-        ensures back { status_activity result ≡ activity }
+    /// The status that others are sent of a user: `None` is offline.
+    pub fn of_shown(shown: Option<ShownStatus>) -> Status
+        ensures status { result ≡ status_of_shown shown }
+        ensures back { status_shown result ≡ shown }
     {
-        match activity {
-            Some(Activity::Online) => Status::Online,
-            Some(Activity::Idle) => Status::Idle,
-            Some(Activity::DoNotDisturb) => Status::Dnd,
+        match shown {
+            Some(ShownStatus::Online) => Status::Online,
+            Some(ShownStatus::Idle) => Status::Idle,
+            Some(ShownStatus::DoNotDisturb) => Status::Dnd,
             None => Status::Offline,
         }
     }
@@ -92,7 +94,7 @@ impl Status {
 #[derive(Clone, Copy, PartialEq, Eq, Debug)]
 pub struct Presence {
     pub user: Snowflake,
-    pub status: Activity,
+    pub status: ShownStatus,
 }
 
 impl Keyed for Presence {

@@ -1,3 +1,5 @@
+//! A role of a guild.
+
 ghost use Rattle.std.specs.Prelude.{◌≡◌, IfOk};
 
 use collections::{Duplicate, Keyed, Text};

@@ -1,3 +1,5 @@
+//! A thread, its type, and its members.
+
 ghost use Rattle.std.specs.Prelude.{◌≡◌, IfOk, Some};
 ghost use Rattle.guild_model.specs.Numbers.{thread_kind_number, thread_kind_numbered};
 ghost use Rattle.guild_model.specs.Sight.{is_private};
@@ -29,7 +31,7 @@ impl ThreadKind {
         }
     }
 
-    /// The type of a number, and nothing exactly where it is that of none.
+    /// The type of a number. `None` exactly if it is that of none.
     #[tactic(auto, unfolding(crate::specs::Numbers::thread_kind_numbered))]
     pub fn of_number(number: u64) -> Option<ThreadKind>
         ensures { result ≡ thread_kind_numbered number }

@@ -1,3 +1,5 @@
+//! A user.
+
 ghost use Rattle.std.specs.Prelude.{◌≡◌, IfOk};
 
 use collections::{Duplicate, Keyed, Text};

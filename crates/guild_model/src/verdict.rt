@@ -1,3 +1,5 @@
+//! Why an edit is refused.
+
 ghost use Rattle.std.specs.Prelude.{◌≡◌};
 ghost use Rattle.guild_model.specs.Verdict.{verdict_number, verdict_name};
 
@@ -17,7 +19,7 @@ pub enum Verdict {
     UnknownMessage,
     /// The id stands already among those of its kind.
     IdTaken,
-    /// A channel or thread is of a type that the edit has no place for.
+    /// A channel or thread is of a type that the edit has no channel for.
     WrongType,
     /// The role is @everyone.
     EveryoneRole,

@@ -1,3 +1,5 @@
+//! A voice state.
+
 use collections::Keyed;
 use snowflake_id::Snowflake;
 

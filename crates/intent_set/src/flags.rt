@@ -1,9 +1,11 @@
+//! The bits of intents as flags of `bitflags`.
+
 ghost use Rattle.std.specs.Prelude.{⊤};
 ghost use Rattle.intent_set.specs.Intents.{named_intents};
 
 use bitflags::{Flag, Flags, bitflag_items};
 
-// The bits of the intents as a plain number, which may have other bits too.
+/// The bits of intents as a plain number, which may have other bits too.
 #[derive(Clone, Copy, PartialEq, Eq, Debug)]
 pub struct IntentBits(pub(crate) u64);
 

@@ -1,3 +1,5 @@
+//! A set of intents, and which dispatches it asks for.
+
 ghost use Rattle.std.specs.Prelude.{◌≡◌, ℕ, ◌^◌, ◌||◌, ◌&&◌, ◌↔◌, Some, codes, IsTrue, IsOk, IfOk, map};
 ghost use Rattle.perm_bits.specs.Bits.{has_bit};
 ghost use Rattle.intent_set.specs.Intents.{privileged_bits, is_among, HasIntentsAlone, named_intents};
@@ -150,7 +152,7 @@ impl Intents {
 impl Intents {
     ghost use Rattle.intent_set.specs.Asks.{asks};
 
-    /// The set of this number; `UnknownIntent` exactly where a bit of it is no intent's.
+    /// The set of this number; `UnknownIntent` exactly if a bit of it is no intent's.
     pub fn of_bits(bits: u64) -> Result<Intents, UnknownIntent>
         ensures value { IfOk result (λ intents. intents ≡ bits) }
         ensures accepted { IsOk result ↔ HasIntentsAlone bits }

@@ -1,3 +1,5 @@
+//! The kinds of dispatches, and their names.
+
 ghost use Rattle.std.specs.Prelude.{◌≡◌, ℕ, Some, IfSome};
 
 use std::fmt;

@@ -113,7 +113,7 @@ abbrev pub create_message : ℕ → ℕ → ℕ → Edit
 create_message guild n r =
     Message (MessageCreate (record {
       message = guild + 5000 + n;
-      place = drawn_channel guild r;
+      channel = drawn_channel guild r;
       author = 101;
       body = record { content = codes "m"; mentions = []; embeds = 0; attachments = 0; components = 0 };
     }))

@@ -109,7 +109,7 @@ fn create_message(alloc: Global, guild: u32, round: u16, draw: u32) -> Result<Ed
     let content = Text::new(alloc, "m")?;
     Ok(Edit::Message(MessageEdit::MessageCreate(MessageCreate {
         message: id_in(guild, 5000 + u32::from(round)),
-        place: drawn_channel(guild, draw),
+        channel: drawn_channel(guild, draw),
         author: user_id(101),
         body: MessageBody {
             content,

@@ -6,7 +6,7 @@ use Rattle.guild_model.specs.declared.user.User.{User}
 use Rattle.guild_model.specs.declared.message.MessageHead.{MessageHead}
 use Rattle.guild_model.specs.Record.{Record, member_id}
 use Rattle.guild_model.specs.Heads.{head_id, find_head, with_mentions, AreRecent}
-use Rattle.guild_model.specs.Consistent.{is_place}
+use Rattle.guild_model.specs.Consistent.{is_channel_or_thread}
 use Rattle.guild_model.specs.Ascending.{IsAscending, IsWell}
 use Rattle.guild_model.proofs.Recent.{recent_left, recent_more, recent_changed}
 use Rattle.message_edit.specs.declared.MessageEdit.{MessageEdit}
@@ -30,11 +30,11 @@ with_messages g ms recent a = record {
   messages = recent;
 }
 
-head_well : (g : Record) (head : MessageHead) → g.opened ≡ true → IsWell g → find_head head.id g.messages ≡ None → is_place g head.place ≡ true → IsWell (with_head g head)
+head_well : (g : Record) (head : MessageHead) → g.opened ≡ true → IsWell g → find_head head.id g.messages ≡ None → is_channel_or_thread g head.channel ≡ true → IsWell (with_head g head)
 head_well g head o w free there =
     record { ascending = with_messages g _ (recent_more head g.messages (ap is_some free) w.ascending.messages) w.ascending; consistent = head_came g o w.consistent head there }
 
-written_well : (g : Record) (edit : message_create.MessageCreate) (author : Option User) → g.opened ≡ true → IsWell g → find_head edit.message g.messages ≡ None → is_place g edit.place ≡ true
+written_well : (g : Record) (edit : message_create.MessageCreate) (author : Option User) → g.opened ≡ true → IsWell g → find_head edit.message g.messages ≡ None → is_channel_or_thread g edit.channel ≡ true
     → IsWell (written_by g edit author)
 written_well g edit None o w free there = w
 written_well g edit (Some author) o w free there = head_well g (new_head edit author) o w free there

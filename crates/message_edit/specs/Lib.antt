@@ -1,3 +1,3 @@
-pub mod Places
+pub mod Channels
 pub mod Messages
 pub mod MessageEdits

@@ -14,7 +14,7 @@ use Rattle.message_edit.specs.declared.message_create.MessageCreate.{MessageCrea
 use Rattle.message_edit.specs.declared.message_update.MessageUpdate.{MessageUpdate}
 use Rattle.message_edit.specs.declared.reaction.ReactionBody.{ReactionBody}
 use Rattle.message_edit.specs.declared.typing.Typing.{Typing}
-use Rattle.message_edit.specs.Places.{no_place, unknown_mention}
+use Rattle.message_edit.specs.Channels.{takes_no_words, unknown_mention}
 
 -- message_create
 abbrev pub taken : Record → ℕ → Option Verdict
@@ -22,7 +22,7 @@ taken g message = refused_if (has_head message g.messages) IdTaken
 
 abbrev pub message_create_verdict : Record → MessageCreate → Option Verdict
 message_create_verdict g edit = first_of (
-    no_place g edit.place
+    takes_no_words g edit.channel
     ∷ unknown_member g edit.author
     ∷ unknown_mention g edit.body.mentions
     ∷ taken g edit.message
@@ -37,7 +37,7 @@ with_head g head = record g { messages = arrived head g.messages }
 
 -- what is kept of a new message, with its author as the member is when the message is created
 abbrev pub new_head : MessageCreate → User → MessageHead
-new_head edit author = record { id = edit.message; place = edit.place; author = author; mentions = edit.body.mentions }
+new_head edit author = record { id = edit.message; channel = edit.channel; author = author; mentions = edit.body.mentions }
 
 abbrev pub written_by : Record → MessageCreate → Option User → Record
 written_by g edit None = g
@@ -74,4 +74,4 @@ reaction_verdict g reaction = first_of (
 
 -- typing
 abbrev pub typing_verdict : Record → Typing → Option Verdict
-typing_verdict g edit = first_of (no_place g edit.place ∷ unknown_member g edit.user ∷ [])
+typing_verdict g edit = first_of (takes_no_words g edit.channel ∷ unknown_member g edit.user ∷ [])

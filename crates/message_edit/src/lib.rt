@@ -7,10 +7,10 @@ ghost use Rattle.guild_model.specs.Tests.{outcome};
 ghost use Rattle.message_edit.specs.MessageEdits.{message_verdict, message_applied};
 
 pub mod body;
+pub mod channel;
 pub mod message_create;
 pub mod message_delete;
 pub mod message_update;
-pub mod place;
 pub mod reaction;
 pub mod typing;
 

@@ -5,12 +5,12 @@ ghost use Rattle.std.specs.Prelude.{◌≡◌, None, true, OnOk, OnErr, IfOk, op
 ghost use Rattle.collections.specs.ById.{find_id};
 ghost use Rattle.guild_model.specs.Tests.{outcome};
 ghost use Rattle.guild_model.specs.Record.{member_id};
-ghost use Rattle.guild_model.specs.Consistent.{is_place};
+ghost use Rattle.guild_model.specs.Consistent.{is_channel_or_thread};
 ghost use Rattle.guild_model.specs.Heads.{find_head};
 ghost use Rattle.message_edit.specs.Messages.{message_create_verdict, member_user, with_head, message_created};
 
 use crate::body::MessageBody;
-use crate::place::{knows_mentioned, takes_words};
+use crate::channel::{knows_mentioned, takes_words};
 use collections::Duplicate;
 use guild_model::{Guild, MessageHead, User, Verdict, limits, rules};
 use snowflake_id::Snowflake;
@@ -21,7 +21,7 @@ use std::alloc::{AllocError, Global};
 pub struct MessageCreate {
     pub message: Snowflake,
     /// The channel or the thread that it is created in.
-    pub place: Snowflake,
+    pub channel: Snowflake,
     pub author: Snowflake,
     pub body: MessageBody,
 }
@@ -33,19 +33,19 @@ impl MessageCreate {
     {
         Ok(MessageCreate {
             message: self.message,
-            place: self.place,
+            channel: self.channel,
             author: self.author,
             body: self.body.copy(alloc)?,
         })
     }
 }
 
-/// Refused in this order: `UnknownChannel`, `WrongType` and `Archived` for the place, `UnknownMember`
+/// Refused in this order: `UnknownChannel`, `WrongType` and `Archived` for the channel, `UnknownMember`
 /// for the author, then for a mentioned user, `IdTaken` where a kept message has the id, `TooLong`.
 pub fn check(guild: &Guild, edit: &MessageCreate) -> Result<(), Verdict>
     ensures { result ≡ outcome (message_create_verdict guild.now edit.now) }
 {
-    takes_words(guild, edit.place)?;
+    takes_words(guild, edit.channel)?;
     rules::knows_member(guild, edit.author)?;
     knows_mentioned(guild, edit.body.mentions.as_slice())?;
     if guild.messages.contains(edit.message) {
@@ -66,7 +66,7 @@ fn author_of(alloc: Global, guild: &Guild, author: Snowflake) -> Result<Option<U
 fn keep(guild: &mut Guild, head: MessageHead) -> Result<(), AllocError>
     requires open { guild.old.opened ≡ true }
     requires free { find_head head.id guild.old.messages ≡ None }
-    requires place { is_place guild.old head.place ≡ true }
+    requires channel { is_channel_or_thread guild.old head.channel ≡ true }
     ensures ok { OnOk result (guild.new ≡ with_head guild.old head) }
     ensures err { OnErr result (guild.new ≡ guild.old) }
 {
@@ -87,7 +87,7 @@ pub fn apply(alloc: Global, guild: &mut Guild, edit: MessageCreate) -> Result<()
             guild,
             MessageHead {
                 id: edit.message,
-                place: edit.place,
+                channel: edit.channel,
                 author,
                 mentions: edit.body.mentions,
             },

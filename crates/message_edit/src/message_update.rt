@@ -6,7 +6,7 @@ ghost use Rattle.guild_model.specs.Tests.{outcome};
 ghost use Rattle.message_edit.specs.Messages.{message_update_verdict, message_updated};
 
 use crate::body::MessageBody;
-use crate::place::knows_mentioned;
+use crate::channel::knows_mentioned;
 use guild_model::{Guild, Verdict, limits, rules};
 use snowflake_id::Snowflake;
 use std::alloc::{AllocError, Global};

@@ -4,7 +4,7 @@ ghost use Rattle.std.specs.Prelude.{◌≡◌};
 ghost use Rattle.guild_model.specs.Tests.{outcome};
 ghost use Rattle.message_edit.specs.Messages.{typing_verdict};
 
-use crate::place::takes_words;
+use crate::channel::takes_words;
 use guild_model::{Guild, Moment, Verdict, rules};
 use snowflake_id::Snowflake;
 
@@ -12,16 +12,16 @@ use snowflake_id::Snowflake;
 #[derive(Clone, Copy, Drop, PartialEq, Eq, Debug)]
 pub struct Typing {
     /// The channel or the thread in which the user types.
-    pub place: Snowflake,
+    pub channel: Snowflake,
     pub user: Snowflake,
     pub at: Moment,
 }
 
-/// Refused in this order: `UnknownChannel`, `WrongType` and `Archived` for the place,
+/// Refused in this order: `UnknownChannel`, `WrongType` and `Archived` for the channel,
 /// `UnknownMember`.
 pub fn check(guild: &Guild, edit: &Typing) -> Result<(), Verdict>
     ensures { result ≡ outcome (typing_verdict guild.now edit.now) }
 {
-    takes_words(guild, edit.place)?;
+    takes_words(guild, edit.channel)?;
     rules::knows_member(guild, edit.user)
 }

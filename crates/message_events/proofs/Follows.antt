@@ -27,9 +27,9 @@ use Rattle.event_views.specs.Has.{Has}
 use Rattle.event_views.proofs.Steps.{untold}
 use Rattle.message_events.specs.Messages.{is_message}
 use Rattle.message_events.specs.Notes.{message_note}
-use Rattle.message_events.specs.Rows.{message_row}
+use Rattle.message_events.specs.Dispatches.{message_dispatches}
 use Rattle.message_events.specs.Law.{MessageEditKeeps}
-use Rattle.message_events.proofs.Of.{IsMessageOf, row-messages}
+use Rattle.message_events.proofs.Of.{IsMessageOf, all-messages}
 
 -- a client makes nothing of a dispatch about a message
 unchanged : (h : Held) → record h { view = on_open (λ v. v) h.view } ≡ h
@@ -122,7 +122,7 @@ message-served s (edit.Typing e) v = refl
 pub follows-message : MessageEditKeeps
 follows-message s v h me e has =
     let t = message_applied s e in
-    let ds = message_row t v (message_note s e) e in
+    let ds = message_dispatches t v (message_note s e) e in
     let holds : Has t v me h = untold s t v h me me (view-same s e v.intents h.known me) has in
-    let stays : fold_from v.intents s.id h ds ≡ h = ap (λ g. fold_from v.intents g h ds) (sym (id-kept s e)) ∙ messages-fold t v me h ds (row-messages t v (message_note s e) e) holds in
+    let stays : fold_from v.intents s.id h ds ≡ h = ap (λ g. fold_from v.intents g h ds) (sym (id-kept s e)) ∙ messages-fold t v me h ds (all-messages t v (message_note s e) e) holds in
     subst (λ (held : Held). Has t v me held) (sym stays) holds

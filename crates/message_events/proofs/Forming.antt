@@ -13,7 +13,7 @@ use Rattle.guild_model.specs.declared.user.User.{User}
 use Rattle.guild_model.specs.Record.{Record, member_id}
 use Rattle.message_edit.specs.Messages.{member_user}
 use Rattle.message_gate.specs.Redacted.{mentions}
-use Rattle.message_events.specs.Rows.{user_of, mentioned}
+use Rattle.message_events.specs.Dispatches.{user_of, mentioned}
 
 module _ (s : Record) (user : ℕ) where
   -- what is found under an id is the user of that id, or nobody

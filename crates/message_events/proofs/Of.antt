@@ -18,7 +18,7 @@ use Rattle.message_gate.specs.Shows.{shows}
 use Rattle.message_events.specs.declared.notes.MessageNote.{MessageNote}
 use Rattle.message_events.specs.declared.notes.MessageNote.TheVariants.{Nothing, Stood}
 use Rattle.message_events.specs.Messages.{is_message}
-use Rattle.message_events.specs.Rows.{About, user_of, created, updated, reacted, unreacted, typed, told_to, about_to, shown, message_row}
+use Rattle.message_events.specs.Dispatches.{About, user_of, created, updated, reacted, unreacted, typed, told_to, about_to, shown, message_dispatches}
 
 pub record IsMessageOf (guild : ℕ) (d : Dispatch) : Type 0 where
   pub message : is_message d ≡ true
@@ -39,7 +39,7 @@ told-of guild v d of = of
 
 module _ (s : Record) (v : Viewer) where
   shown-of : (about : About) → IsMessageOf s.id about.dispatch → All (IsMessageOf s.id) (shown s v (Some (about_to v about)))
-  shown-of about of = by_test (shows s v about.place (kind_of (told_to v about.dispatch)))
+  shown-of about of = by_test (shows s v about.channel (kind_of (told_to v about.dispatch)))
     where
       by_test : (b : Bool) → All (IsMessageOf s.id) (if b then told_to v about.dispatch ∷ [] else [])
       by_test true = All-cons (IsMessageOf s.id) (told_to v about.dispatch) [] (told-of s.id v about.dispatch of) (All-nil (IsMessageOf s.id))
@@ -49,15 +49,15 @@ module _ (s : Record) (v : Viewer) where
   shown-if f None of = All-nil (IsMessageOf s.id)
   shown-if f (Some x) of = shown-of (f x) (of x)
 
-  pub row-messages : (note : MessageNote) (e : MessageEdit) → All (IsMessageOf s.id) (message_row s v note e)
-  row-messages note (edit.MessageCreate e) = shown-if (created s e) (user_of s e.author) (λ user. record { message = refl; of = refl })
-  row-messages note (edit.MessageUpdate e) = shown-if (updated s e) (find_head e.message s.messages) (λ head. record { message = refl; of = refl })
-  row-messages (Stood place) (edit.MessageDelete message) =
-      shown-of (record { place = place; dispatch = MessageDelete (record { guild = s.id; channel = place; id = message }) }) (record { message = refl; of = refl })
-  row-messages Nothing (edit.MessageDelete message) = All-nil (IsMessageOf s.id)
-  row-messages note (edit.ReactionAdd reaction) = shown-if (reacted s reaction) (find_head reaction.message s.messages) (λ head. record { message = refl; of = refl })
-  row-messages note (edit.ReactionRemove reaction) = shown-if (unreacted s reaction) (find_head reaction.message s.messages) (λ head. record { message = refl; of = refl })
-  row-messages note (edit.Typing e) = shown-of (typed s.id e) (record { message = refl; of = refl })
+  pub all-messages : (note : MessageNote) (e : MessageEdit) → All (IsMessageOf s.id) (message_dispatches s v note e)
+  all-messages note (edit.MessageCreate e) = shown-if (created s e) (user_of s e.author) (λ user. record { message = refl; of = refl })
+  all-messages note (edit.MessageUpdate e) = shown-if (updated s e) (find_head e.message s.messages) (λ head. record { message = refl; of = refl })
+  all-messages (Stood channel) (edit.MessageDelete message) =
+      shown-of (record { channel = channel; dispatch = MessageDelete (record { guild = s.id; channel = channel; id = message }) }) (record { message = refl; of = refl })
+  all-messages Nothing (edit.MessageDelete message) = All-nil (IsMessageOf s.id)
+  all-messages note (edit.ReactionAdd reaction) = shown-if (reacted s reaction) (find_head reaction.message s.messages) (λ head. record { message = refl; of = refl })
+  all-messages note (edit.ReactionRemove reaction) = shown-if (unreacted s reaction) (find_head reaction.message s.messages) (λ head. record { message = refl; of = refl })
+  all-messages note (edit.Typing e) = shown-of (typed s.id e) (record { message = refl; of = refl })
 
-  pub row-of : (note : MessageNote) (e : MessageEdit) → All (IsOf s.id) (message_row s v note e)
-  row-of note e = All-weaker (IsMessageOf s.id) (IsOf s.id) (λ d told. told.of) (message_row s v note e) (row-messages note e)
+  pub dispatches-of : (note : MessageNote) (e : MessageEdit) → All (IsOf s.id) (message_dispatches s v note e)
+  dispatches-of note e = All-weaker (IsMessageOf s.id) (IsOf s.id) (λ d told. told.of) (message_dispatches s v note e) (all-messages note e)

@@ -14,12 +14,12 @@ use Rattle.guild_model.proofs.Tests.{first_passes, not_refused}
 use Rattle.message_edit.specs.declared.message_create.MessageCreate.{MessageCreate}
 use Rattle.message_edit.specs.declared.MessageEdit.{MessageEdit}
 use Rattle.message_edit.specs.declared.MessageEdit.TheVariants as edit
-use Rattle.message_edit.specs.Places.{no_place, unknown_mention}
+use Rattle.message_edit.specs.Channels.{takes_no_words, unknown_mention}
 use Rattle.message_edit.specs.Messages.{member_user, taken, written_by, message_created, message_updated}
 use Rattle.message_edit.specs.MessageEdits.{message_verdict, message_applied}
 use Rattle.dispatch_types.specs.declared.viewer.Viewer.{Viewer}
 use Rattle.message_events.specs.Notes.{note_of, message_note}
-use Rattle.message_events.specs.Rows.{user_of, created, updated, deleted, reacted, unreacted, message_whole, about_to, message_told}
+use Rattle.message_events.specs.Dispatches.{user_of, created, updated, deleted, reacted, unreacted, message_whole, about_to, message_told}
 
 mapped : {T U : Type 0} (f : T → U) (o : Option T) → is_some o ≡ true → is_some (option_map f o) ≡ true
 mapped f None h = h
@@ -49,7 +49,7 @@ module _ (s : Record) where
   whole-accepted (edit.MessageCreate e) ok =
       let t : Record = message_created s e in
       let later = unknown_mention s e.body.mentions ∷ taken s e.message ∷ too_long 2000 e.body.content ∷ [] in
-      let rest = first_passes (no_place s e.place) (unknown_member s e.author ∷ later) ok in
+      let rest = first_passes (takes_no_words s e.channel) (unknown_member s e.author ∷ later) ok in
       let is_member = first_passes (unknown_member s e.author) later rest.1 in
       let known : has_id member_id e.author s.members ≡ true = there (has_id member_id e.author s.members) (not_refused (not (has_id member_id e.author s.members)) UnknownMember is_member.0) in
       let same : t.members ≡ s.members = written-members s e (option_map member_user (find_id member_id e.author s.members)) in

@@ -12,7 +12,7 @@ use Rattle.message_gate.specs.Shows.{shows}
 use Rattle.message_events.specs.declared.notes.MessageNote.{MessageNote}
 use Rattle.message_events.specs.declared.forms.MessageForm.{MessageForm}
 use Rattle.message_events.specs.declared.forms.MessageForm.TheVariants.{Hidden, Emptied, Whole}
-use Rattle.message_events.specs.Rows.{About, message_whole}
+use Rattle.message_events.specs.Dispatches.{About, message_whole}
 
 -- whether all that a dispatch says is for the viewer: the content of a message is not for all
 abbrev pub is_whole : Viewer → Dispatch → Bool
@@ -28,7 +28,7 @@ form_by true false = Emptied
 -- by whether the dispatch is shown to the viewer, and whether all of it is for the viewer
 abbrev pub form_of : Record → Viewer → Option About → MessageForm
 form_of s v None = Hidden
-form_of s v (Some about) = form_by (shows s v about.place (kind_of about.dispatch)) (is_whole v about.dispatch)
+form_of s v (Some about) = form_by (shows s v about.channel (kind_of about.dispatch)) (is_whole v about.dispatch)
 
 -- `s` is the record after the edit
 abbrev pub message_form : Record → Viewer → MessageNote → MessageEdit → MessageForm

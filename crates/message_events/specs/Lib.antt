@@ -1,5 +1,5 @@
 pub mod Messages
 pub mod Notes
-pub mod Rows
+pub mod Dispatches
 pub mod Forms
 pub mod Law

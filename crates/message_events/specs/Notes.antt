@@ -10,7 +10,7 @@ use Rattle.message_events.specs.declared.notes.MessageNote.TheVariants.{Nothing,
 
 abbrev pub note_of : Option MessageHead → MessageNote
 note_of None = Nothing
-note_of (Some head) = Stood head.place
+note_of (Some head) = Stood head.channel
 
 -- where a message stood that is deleted
 abbrev pub message_note : Record → MessageEdit → MessageNote

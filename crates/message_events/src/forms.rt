@@ -5,7 +5,7 @@ ghost use Rattle.std.specs.List.{list_any};
 ghost use Rattle.guild_model.specs.Heads.{find_head};
 ghost use Rattle.message_gate.specs.Redacted.{mentions, reads};
 ghost use Rattle.message_gate.specs.Shows.{shows};
-ghost use Rattle.message_events.specs.Rows.{user_of, mentioned, created, updated};
+ghost use Rattle.message_events.specs.Dispatches.{user_of, mentioned, created, updated};
 ghost use Rattle.message_events.specs.Forms.{form_by, form_of, message_form};
 
 use crate::notes::MessageNote;
@@ -61,7 +61,7 @@ fn created(after: &Guild, viewer: &Viewer, edit: &MessageCreate) -> MessageForm
     let Some(member) = after.member(edit.author) else {
         return MessageForm::Hidden;
     };
-    if !shows(after, viewer, edit.place, Kind::MessageCreate) {
+    if !shows(after, viewer, edit.channel, Kind::MessageCreate) {
         return MessageForm::Hidden;
     }
     by_content(after, viewer, member.user.id, &edit.body)
@@ -73,17 +73,17 @@ fn updated(after: &Guild, viewer: &Viewer, edit: &MessageUpdate) -> MessageForm
     let Some(head) = after.message(edit.message) else {
         return MessageForm::Hidden;
     };
-    if !shows(after, viewer, head.place, Kind::MessageUpdate) {
+    if !shows(after, viewer, head.channel, Kind::MessageUpdate) {
         return MessageForm::Hidden;
     }
     by_content(after, viewer, head.author.id, &edit.body)
 }
 
 // The form of a dispatch without content.
-fn plain(after: &Guild, viewer: &Viewer, place: Snowflake, kind: Kind) -> MessageForm
-    ensures { result ≡ form_by (shows after.now viewer.now place kind) true }
+fn plain(after: &Guild, viewer: &Viewer, channel: Snowflake, kind: Kind) -> MessageForm
+    ensures { result ≡ form_by (shows after.now viewer.now channel kind) true }
 {
-    if shows(after, viewer, place, kind) {
+    if shows(after, viewer, channel, kind) {
         MessageForm::Whole
     } else {
         MessageForm::Hidden
@@ -92,24 +92,29 @@ fn plain(after: &Guild, viewer: &Viewer, place: Snowflake, kind: Kind) -> Messag
 
 /// The form of an edit for a viewer, by what was noted before the edit and the record after it. Does
 /// not allocate.
-pub fn form(note: &MessageNote, after: &Guild, viewer: &Viewer, edit: &MessageEdit) -> MessageForm
+pub fn form_for(
+    note: &MessageNote,
+    after: &Guild,
+    viewer: &Viewer,
+    edit: &MessageEdit,
+) -> MessageForm
     ensures { result ≡ message_form after.now viewer.now note.now edit.now }
 {
     match edit {
         MessageEdit::MessageCreate(edit) => created(after, viewer, edit),
         MessageEdit::MessageUpdate(edit) => updated(after, viewer, edit),
         MessageEdit::MessageDelete { .. } => match note {
-            MessageNote::Stood(place) => plain(after, viewer, *place, Kind::MessageDelete),
+            MessageNote::Stood(channel) => plain(after, viewer, *channel, Kind::MessageDelete),
             MessageNote::Nothing => MessageForm::Hidden,
         },
         MessageEdit::ReactionAdd(reaction) => match after.message(reaction.message) {
-            Some(head) => plain(after, viewer, head.place, Kind::MessageReactionAdd),
+            Some(head) => plain(after, viewer, head.channel, Kind::MessageReactionAdd),
             None => MessageForm::Hidden,
         },
         MessageEdit::ReactionRemove(reaction) => match after.message(reaction.message) {
-            Some(head) => plain(after, viewer, head.place, Kind::MessageReactionRemove),
+            Some(head) => plain(after, viewer, head.channel, Kind::MessageReactionRemove),
             None => MessageForm::Hidden,
         },
-        MessageEdit::Typing(edit) => plain(after, viewer, edit.place, Kind::TypingStart),
+        MessageEdit::Typing(edit) => plain(after, viewer, edit.channel, Kind::TypingStart),
     }
 }

@@ -7,7 +7,7 @@ pub fn message_edit_keeps()
     ensures { MessageEditKeeps }
 {}
 
-/// Viewers of one form are owed the same.
+/// Viewers of one form are due the same.
 pub fn form_decides()
     ensures { FormDecides }
 {}

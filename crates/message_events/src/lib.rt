@@ -2,12 +2,12 @@
 //! them (Gateway Events, Message Create to Message Reaction Remove, Typing Start).
 #![tactic(auto)]
 
+pub mod dispatches;
 pub mod forms;
 pub mod law;
 pub mod notes;
 pub mod objects;
-pub mod rows;
 
-pub use forms::{MessageForm, form};
+pub use dispatches::{add_dispatches, in_form};
+pub use forms::{MessageForm, form_for};
 pub use notes::{MessageNote, note};
-pub use rows::{in_form, row};

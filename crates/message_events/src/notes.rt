@@ -21,12 +21,12 @@ fn stood(before: &Guild, message: Snowflake) -> MessageNote
     ensures { result ≡ note_of (find_head message before.now.messages) }
 {
     match before.message(message) {
-        Some(head) => MessageNote::Stood(head.place),
+        Some(head) => MessageNote::Stood(head.channel),
         None => MessageNote::Nothing,
     }
 }
 
-/// Notes what [`row`](crate::row) has to know of the record before an edit.
+/// Notes what [`add_dispatches`](crate::add_dispatches) has to know of the record before an edit.
 pub fn note(before: &Guild, edit: &MessageEdit) -> MessageNote
     ensures { result ≡ message_note before.now edit.now }
 {

@@ -3,7 +3,7 @@
 
 ghost use Rattle.std.specs.Prelude.{◌≡◌, ◌++◌, [], IfOk, OnOk, if◌then◌else◌};
 ghost use Rattle.std.specs.Option.{option_to_list};
-ghost use Rattle.message_events.specs.Rows.{mentioned, message_of, reaction_of, user_of};
+ghost use Rattle.message_events.specs.Dispatches.{mentioned, message_of, reaction_of, user_of};
 ghost use Rattle.message_events.specs.Forms.{content_if};
 
 use collections::{Duplicate, Seq, Text};
@@ -72,7 +72,7 @@ fn parts(with_content: bool, count: PartCount) -> PartCount
     if with_content { count } else { PartCount::NONE }
 }
 
-/// A message of this body, as it is sent with its content or without.
+/// The wire form of a message of this body, with its content or without.
 pub fn message_of(
     alloc: Global,
     guild: &Guild,
@@ -96,7 +96,7 @@ pub fn message_of(
     })
 }
 
-/// A reaction to a message, as it is sent.
+/// The wire form of a reaction to a message.
 pub fn reaction_of(
     alloc: Global,
     guild: &Guild,
@@ -107,7 +107,7 @@ pub fn reaction_of(
 {
     Ok(Reaction {
         guild: guild.id,
-        channel: head.place,
+        channel: head.channel,
         message: head.id,
         user: reaction.user,
         emoji: reaction.emoji.copy(alloc)?,

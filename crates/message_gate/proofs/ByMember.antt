@@ -18,13 +18,13 @@ served-member v s me is = by_test (s.opened && in_shard v.shard s.id) is
     by_test true e = e
     by_test false e = absurd (cc)
 
-pub shown_to : (s : Record) (v : Viewer) (place : ℕ) (kind : Kind) (me : Member) → served v s ≡ Some me
-    → shows s v place kind ≡ (asks v.intents kind false && (sees (standing s me) place || sees_thread_of s (Some me) (find_id thread_id place s.threads)))
+pub shown_to : (s : Record) (v : Viewer) (channel : ℕ) (kind : Kind) (me : Member) → served v s ≡ Some me
+    → shows s v channel kind ≡ (asks v.intents kind false && (sees (standing s me) channel || sees_thread_of s (Some me) (find_id thread_id channel s.threads)))
 unfolding shows
-shown_to s v place kind me is =
+shown_to s v channel kind me is =
     let found : find_id member_id v.user s.members ≡ Some me = served-member v s me is in
     rw (is, found) refl
 
-pub unshown : (s : Record) (v : Viewer) (place : ℕ) (kind : Kind) → served v s ≡ None → shows s v place kind ≡ false
+pub unshown : (s : Record) (v : Viewer) (channel : ℕ) (kind : Kind) → served v s ≡ None → shows s v channel kind ≡ false
 unfolding shows
-unshown s v place kind is = rw is refl
+unshown s v channel kind is = rw is refl

@@ -9,9 +9,9 @@ use Rattle.dispatch_types.specs.declared.viewer.Viewer.{Viewer}
 use Rattle.dispatch_types.specs.Serves.{serves}
 
 -- a channel, or a thread by its own sight
-abbrev pub sees_place : Record → ℕ → ℕ → Bool
-sees_place s user place = sees_channel s user place || sees_thread s user place
+abbrev pub sees_channel_or_thread : Record → ℕ → ℕ → Bool
+sees_channel_or_thread s user channel = sees_channel s user channel || sees_thread s user channel
 
--- the viewer is served, asks for the kind, and sees the place, all by this record
+-- the viewer is served, asks for the kind, and sees the channel, all by this record
 unfoldable pub shows : Record → Viewer → ℕ → Kind → Bool
-shows s v place kind = serves v s && (asks v.intents kind false && sees_place s v.user place)
+shows s v channel kind = serves v s && (asks v.intents kind false && sees_channel_or_thread s v.user channel)

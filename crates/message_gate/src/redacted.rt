@@ -17,7 +17,7 @@ fn mentions(users: &[User], user: Snowflake) -> bool
 
 /// Whether the content of a message of an author is for a viewer, which the message mentions or not:
 /// it is where the viewer has MESSAGE_CONTENT, is the author or is mentioned (Gateway, Message Content
-/// Intent). Takes no memory.
+/// Intent). Does not allocate.
 pub fn reads(viewer: &Viewer, author: Snowflake, is_mentioned: bool) -> bool
     ensures { result ≡ reads viewer.now author is_mentioned }
 {
@@ -57,9 +57,9 @@ fn emptied(message: MessageObject) -> MessageObject
     }
 }
 
-/// The message as it is sent to a viewer: its content, embeds, attachments and components are empty,
+/// The message as a viewer is sent it: its content, embeds, attachments and components are empty,
 /// unless the viewer has MESSAGE_CONTENT, is the author or is mentioned (Gateway, Message Content
-/// Intent). Takes no memory.
+/// Intent). Does not allocate.
 pub fn redact(message: MessageObject, viewer: &Viewer) -> MessageObject
     ensures { result ≡ redacted message viewer.now }
 {

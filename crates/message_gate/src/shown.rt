@@ -14,25 +14,25 @@ use overwrite_eval::StandingRef;
 use snowflake_id::Snowflake;
 
 // Whether a member sees a channel or a thread.
-fn member_sees(guild: &Guild, me: &Member, place: Snowflake) -> bool
-    ensures { result ≡ (sees (standing guild.now me.now) place
-        || sees_thread_of guild.now (Some me.now) (find_id thread_id place guild.now.threads)) }
+fn member_sees(guild: &Guild, me: &Member, channel: Snowflake) -> bool
+    ensures { result ≡ (sees (standing guild.now me.now) channel
+        || sees_thread_of guild.now (Some me.now) (find_id thread_id channel guild.now.threads)) }
 {
     let standing = StandingRef::in_guild(guild, me);
-    match guild.thread(place) {
-        Some(thread) => standing.sees(place) || standing.sees_thread(thread),
-        None => standing.sees(place),
+    match guild.thread(channel) {
+        Some(thread) => standing.sees(channel) || standing.sees_thread(thread),
+        None => standing.sees(channel),
     }
 }
 
 /// Whether a viewer is shown a dispatch of a kind about a channel or a thread: it is served the guild,
-/// its intents ask for the kind, and its user sees the place, all by this record alone. Takes no memory.
+/// its intents ask for the kind, and its user sees the channel, all by this record alone. Does not allocate.
 #[tactic(auto, using(crate::proofs::ByMember::shown_to, crate::proofs::ByMember::unshown))]
-pub fn shows(guild: &Guild, viewer: &Viewer, place: Snowflake, kind: Kind) -> bool
-    ensures { result ≡ shows guild.now viewer.now place kind }
+pub fn shows(guild: &Guild, viewer: &Viewer, channel: Snowflake, kind: Kind) -> bool
+    ensures { result ≡ shows guild.now viewer.now channel kind }
 {
     match served(guild, viewer) {
-        Some(me) => viewer.intents.asks(kind, false) && member_sees(guild, me, place),
+        Some(me) => viewer.intents.asks(kind, false) && member_sees(guild, me, channel),
         None => false,
     }
 }

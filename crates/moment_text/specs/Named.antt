@@ -16,10 +16,10 @@ moment_of text = moment_below END_OF_TIME text
 -- ---- numbers by their digits, at their places in such a text
 
 abbrev pub digit_at : List ℕ → ℕ → ℕ
-digit_at text place = (slice_index text place - 48) % 10
+digit_at text index = (slice_index text index - 48) % 10
 
 abbrev pub two_at : List ℕ → ℕ → ℕ
-two_at text place = digit_at text place * 10 + digit_at text (place + 1)
+two_at text index = digit_at text index * 10 + digit_at text (index + 1)
 
 abbrev pub year_at : List ℕ → ℕ
 year_at text = two_at text 0 * 100 + two_at text 2

@@ -1,3 +1,5 @@
+//! Writes numbers of a fixed width.
+
 ghost use Rattle.std.specs.Prelude.{◌≡◌, ◌<◌, ◌++◌, ◌∷◌, ◌+◌, [], OnOk, string_bytes};
 ghost use Rattle.moment_text.specs.Text.{two, three, four};
 

@@ -1,3 +1,5 @@
+//! Reads a printed moment.
+
 ghost use Rattle.std.specs.Prelude.{ℕ, ◌≡◌, ◌<◌, ◌↔◌, ◌+◌, ◌-◌, ◌*◌, ◌%◌, pos, Some, IsOk, IfOk, IfSome, length, slice_index};
 ghost use Rattle.guild_model.specs.declared.moment.TheConstants.{END_OF_TIME};
 ghost use Rattle.jiff.specs.Words.{IsDate, IsYmd, IsTime, IsHms};
@@ -19,12 +21,12 @@ fn digit(byte: u8) -> u8
     byte.saturating_sub(48) % 10
 }
 
-fn two_at(bytes: &[u8], place: usize) -> u8
-    requires { place + 1 < length bytes.now }
-    ensures value { result ≡ two_at bytes.now place }
+fn two_at(bytes: &[u8], index: usize) -> u8
+    requires { index + 1 < length bytes.now }
+    ensures value { result ≡ two_at bytes.now index }
     ensures within { result < 100 }
 {
-    digit(bytes[place]) * 10 + digit(bytes[place + 1])
+    digit(bytes[index]) * 10 + digit(bytes[index + 1])
 }
 
 fn year_at(bytes: &[u8]) -> i16

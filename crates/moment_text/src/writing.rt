@@ -1,3 +1,5 @@
+//! Prints a moment.
+
 ghost use Rattle.std.specs.Prelude.{◌≡◌, ◌<◌, ◌≤ℤ◌, ◌++◌, ◌*◌, ◌/◌, ◌%◌, pos, IfOk, OnOk, string_bytes, codes};
 ghost use Rattle.jiff.specs.Words.{civil_nanos};
 ghost use Rattle.jiff_core.specs.Time.{time_seconds};

@@ -1,7 +1,7 @@
 -- Gateway Events, Presence Update Event Fields.
 use Rattle.std.specs.Prelude.{ℕ, codes, Result, Ok}
 use Rattle.serde_json.specs.Data.{Data, string, object, array, no_items, member, no_members}
-use Rattle.guild_model.specs.Statuses.{status_name, shown_status}
+use Rattle.guild_model.specs.Statuses.{status_name, status_of_shown}
 use Rattle.dispatch_types.specs.declared.presences.PresenceObject.{PresenceObject}
 use Rattle.object_json.specs.Kinds.{digits}
 use Rattle.json_view.specs.Fields.{and_then}
@@ -17,7 +17,7 @@ abbrev pub presence_data : PresenceObject → Data
 presence_data p =
     object (member (codes "activities") (array no_items)
     (member (codes "guild_id") (digits p.guild)
-    (member (codes "status") (string (status_name (shown_status p.status)))
+    (member (codes "status") (string (status_name (status_of_shown p.status)))
     (member (codes "user") (partial_user_data p.user)
     no_members))))
 

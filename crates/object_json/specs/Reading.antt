@@ -10,9 +10,9 @@ use Rattle.json_view.specs.Fields.{and_then, field, unless_null, text_field, id_
 use Rattle.guild_model.specs.declared.channel.ChannelKind.{ChannelKind}
 use Rattle.guild_model.specs.declared.channel.OverwriteKind.{OverwriteKind}
 use Rattle.guild_model.specs.declared.thread.ThreadKind.{ThreadKind}
-use Rattle.guild_model.specs.declared.presence.Activity.{Activity}
+use Rattle.guild_model.specs.declared.presence.ShownStatus.{ShownStatus}
 use Rattle.guild_model.specs.Numbers.{channel_kind_numbered, overwrite_kind_numbered, thread_kind_numbered}
-use Rattle.guild_model.specs.Statuses.{status_named, status_activity}
+use Rattle.guild_model.specs.Statuses.{status_named, status_shown}
 use Rattle.moment_text.specs.Named.{moment_of}
 use Rattle.object_json.specs.declared.fault.ReadFault.{ReadFault}
 use Rattle.object_json.specs.declared.fault.ReadFault.TheVariants.{BadField, Memory}
@@ -77,8 +77,8 @@ overwrite_kind_at name d = and_then (number_at name d) (λ n. ok_or (overwrite_k
 abbrev pub thread_kind_at : List ℕ → Data → Result ThreadKind ReadFault
 thread_kind_at name d = and_then (number_at name d) (λ n. ok_or (thread_kind_numbered n) BadField)
 
-abbrev pub status_at : List ℕ → Data → Result (Option Activity) ReadFault
-status_at name d = and_then (text_at name d) (λ text. and_then (ok_or (status_named text) BadField) (λ status. Ok (status_activity status)))
+abbrev pub status_at : List ℕ → Data → Result (Option ShownStatus) ReadFault
+status_at name d = and_then (text_at name d) (λ text. and_then (ok_or (status_named text) BadField) (λ status. Ok (status_shown status)))
 
 -- ---- values that may be missing
 

@@ -3,7 +3,7 @@
 ghost use Rattle.std.specs.Prelude.{OnOk, codes};
 ghost use Rattle.serde_json.specs.Data.{string};
 ghost use Rattle.object_json.specs.Added.{AddsTokens, member_tokens};
-ghost use Rattle.guild_model.specs.Statuses.{status_name, shown_status};
+ghost use Rattle.guild_model.specs.Statuses.{status_name, status_of_shown};
 ghost use Rattle.object_json.specs.Fits.{IsId};
 ghost use Rattle.object_json.specs.Presence.{partial_user_data, partial_user_at};
 ghost use Rattle.std.specs.Prelude.{◌≡◌};
@@ -15,17 +15,17 @@ use crate::readable::Readable;
 use crate::reading::{field_at, id_at, status_at};
 use crate::written::Written;
 use dispatch_types::PresenceObject;
-use guild_model::{Activity, Status};
+use guild_model::{ShownStatus, Status};
 use json::Writer;
 use serde_json::Value;
 use snowflake_id::Snowflake;
 use std::alloc::{AllocError, Global};
 
-fn status_field(out: &mut Writer, activity: Option<Activity>) -> Result<(), AllocError>
-    ensures { AddsTokens result out.old out.new (member_tokens (codes "status") (string (status_name (shown_status activity)))) }
+fn status_field(out: &mut Writer, shown: Option<ShownStatus>) -> Result<(), AllocError>
+    ensures { AddsTokens result out.old out.new (member_tokens (codes "status") (string (status_name (status_of_shown shown)))) }
 {
     key(out, "status")?;
-    out.string(Status::shown(activity).name())?;
+    out.string(Status::of_shown(shown).name())?;
     Ok(())
 }
 

@@ -7,7 +7,7 @@ ghost use Rattle.object_json.specs.Reading.{UnlessMemory, field_at, text_at, fla
 
 use crate::fault::ReadFault;
 use collections::Text;
-use guild_model::{Activity, ChannelKind, Moment, OverwriteKind, Status, ThreadKind};
+use guild_model::{ChannelKind, Moment, OverwriteKind, ShownStatus, Status, ThreadKind};
 use json_view::{field_of, flag_of, id_of, number_of, text_of};
 use moment_text::moment_of;
 use perm_bits::Perms;
@@ -125,10 +125,10 @@ pub fn thread_kind_at(object: &Value, name: &str) -> Result<ThreadKind, ReadFaul
     ThreadKind::of_number(number_at(object, name)?).ok_or(ReadFault::BadField)
 }
 
-/// What a status tells of a user's activity.
-pub fn status_at(object: &Value, name: &str) -> Result<Option<Activity>, ReadFault>
+/// How a user of the status in a field is shown to others.
+pub fn status_at(object: &Value, name: &str) -> Result<Option<ShownStatus>, ReadFault>
     ensures { result ≡ status_at name.now (view object.now) }
 {
     let status = Status::of_name(text_of(object, name)?).ok_or(ReadFault::BadField)?;
-    Ok(status.activity())
+    Ok(status.shown())
 }

@@ -1,3 +1,5 @@
+//! Finds a record by its id in a slice that ascends.
+
 ghost use Rattle.std.specs.Prelude.{◌≡◌, slice_get};
 ghost use Rattle.std.specs.Option.{option_copied};
 ghost use Rattle.collections.specs.ById.{IsById, find_id, count_below, with_id};
@@ -23,7 +25,7 @@ fn item_at<T: Keyed>(items: &[T], place: usize, id: u64) -> Option<&T>
     if item.key() == id { Some(item) } else { None }
 }
 
-// The record of an id, and nothing exactly where there is none.
+// The record of an id. `None` exactly if there is none.
 pub(crate) fn find<T: Keyed>(items: &[T], id: u64) -> Option<&T>
     requires { IsById T.key items.now }
     ensures { option_copied result ≡ find_id T.key id items.now }

@@ -1,3 +1,5 @@
+//! A member's base permissions, and those in a channel.
+
 ghost use Rattle.std.specs.Prelude.{◌≡◌, ◌+◌, ◌<◌, ◌≤◌, ℕ, length};
 ghost use Rattle.perm_bits.specs.Bits.{has_bit};
 ghost use Rattle.guild_model.specs.Permissions.{base as base_has, grants};
@@ -25,7 +27,7 @@ pub fn base_mask<L: Ledger>(guild: &Guild, user: Snowflake, steps: &mut Steps<L>
 }
 
 /// What a user may do in a channel, from its base mask. A stranger may do nothing, and nobody in a
-/// channel that is not there.
+/// channel that does not exist.
 #[tactic(auto, using(perm_bits::proofs::BitSets::bit_sets))]
 pub fn mask_from<L: Ledger>(
     guild: &Guild,
@@ -45,7 +47,7 @@ pub fn mask_from<L: Ledger>(
     }
 }
 
-// What a member may do in a channel, and nothing in one that is not there.
+// What a member may do in a channel, and nothing in one that does not exist.
 #[tactic(auto, using(perm_bits::proofs::BitSets::bit_sets))]
 pub(crate) fn mask_of<L: Ledger>(
     guild: &Guild,
@@ -67,7 +69,7 @@ pub(crate) fn mask_of<L: Ledger>(
 }
 
 /// What a user may do in a channel (Permissions, Permission Overwrites). A stranger may do nothing, and
-/// nobody in a channel that is not there.
+/// nobody in a channel that does not exist.
 #[tactic(auto, using(perm_bits::proofs::BitSets::bit_sets))]
 pub fn channel_mask<L: Ledger>(
     guild: &Guild,

@@ -1,3 +1,5 @@
+//! A member's permissions in a channel, by the parts that decide them alone.
+
 ghost use Rattle.std.specs.Prelude.{◌≡◌, ◌+◌, ◌<◌, ◌≤◌, ℕ, length};
 ghost use Rattle.collections.specs.ById.{IsById};
 ghost use Rattle.perm_bits.specs.Bits.{has_bit};

@@ -1,3 +1,5 @@
+//! The permissions of a role that a member holds.
+
 ghost use Rattle.std.specs.Prelude.{◌≡◌, ◌+◌, ℕ, ◌||◌, length};
 ghost use Rattle.collections.specs.ById.{IsById};
 ghost use Rattle.perm_bits.specs.Bits.{has_bit};

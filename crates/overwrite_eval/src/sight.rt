@@ -1,3 +1,5 @@
+//! Whether a user sees a channel or a thread of a record.
+
 ghost use Rattle.std.specs.Prelude.{◌≡◌, ◌+◌, ◌≤◌, ◌&&◌, ◌||◌, not, length};
 ghost use Rattle.perm_bits.specs.Bits.{has_bit};
 ghost use Rattle.perm_bits.specs.Permissions.{view_channel, manage_threads};
@@ -34,7 +36,7 @@ pub(crate) fn shows_thread(mask: Perms, kind: ThreadKind, joined: bool) -> bool
 }
 
 /// Whether a user sees a channel (Permissions, VIEW_CHANNEL). A stranger sees none, and nobody one that
-/// is not there.
+/// does not exist.
 pub fn sees_channel<L: Ledger>(
     guild: &Guild,
     user: Snowflake,
@@ -66,7 +68,7 @@ fn member_sees<L: Ledger>(
 }
 
 /// Whether a user sees a thread, archived or not (Threads, Private Threads). A stranger sees none, and
-/// nobody one that is not there.
+/// nobody one that does not exist.
 pub fn sees_thread<L: Ledger>(
     guild: &Guild,
     user: Snowflake,

@@ -1,3 +1,5 @@
+//! What a member is granted in the channels of a guild, by the parts that decide it.
+
 ghost use Rattle.std.specs.Prelude.{◌≡◌, ◌^◌, ◌<◌, ◌↔◌, ℕ, IsTrue};
 ghost use Rattle.perm_bits.specs.Bits.{has_bit};
 ghost use Rattle.guild_model.specs.Sight.{granted, sees, sees_in, standing, is_in};
@@ -79,7 +81,7 @@ impl<'a> StandingRef<'a> {
 }
 
 impl StandingRef<'_> {
-    /// What the member may do in a channel: nothing in one that is not there.
+    /// What the member may do in a channel: nothing in one that does not exist.
     #[tactic(auto, using(perm_bits::proofs::BitSets::bit_sets))]
     pub fn mask(&self, channel: Snowflake) -> Perms
         ensures { (b : ℕ) → b < 53 → has_bit result b ≡ granted self.now channel b }

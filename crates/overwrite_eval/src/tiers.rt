@@ -1,3 +1,5 @@
+//! The tiers of overwrites: those of @everyone, of held roles, and of the member.
+
 ghost use Rattle.std.specs.Prelude.{◌≡◌, ◌+◌, ◌≤◌, ℕ, ◌||◌, ◌&&◌, not, length, unwrap_or};
 ghost use Rattle.collections.specs.ById.{IsById};
 ghost use Rattle.perm_bits.specs.Bits.{has_bit};

@@ -1,3 +1,5 @@
+//! Adds texts to bytes, all or none.
+
 ghost use Rattle.std.specs.Prelude.{◌≡◌, ◌++◌, flat_map, is_ok, if◌then◌else◌};
 
 use std::alloc::AllocError;

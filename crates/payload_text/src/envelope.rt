@@ -1,3 +1,5 @@
+//! The text of a dispatch without its number.
+
 ghost use Rattle.std.specs.Prelude.{◌≡◌, IfOk};
 ghost use Rattle.std.specs.Arc.{arc_value};
 

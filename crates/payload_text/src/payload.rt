@@ -1,3 +1,5 @@
+//! The text of a payload, shared by all who are sent it; only the number is their own.
+
 ghost use Rattle.std.specs.Prelude.{◌≡◌, ◌+◌, ◌++◌, Some, decimal, length, is_ok, IfOk, IfSome, if◌then◌else◌};
 ghost use Rattle.payload_text.specs.Around.{text_around};
 

@@ -1,3 +1,5 @@
+//! Permission sets as flags of `bitflags`.
+
 ghost use Rattle.std.specs.Prelude.{⊤, []};
 
 use crate::perms::Perms;

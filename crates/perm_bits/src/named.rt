@@ -1,3 +1,5 @@
+//! The permissions by their names.
+
 ghost use Rattle.std.specs.Prelude.{◌≡◌, map};
 ghost use Rattle.perm_bits.specs.Permissions.{named_permissions};
 

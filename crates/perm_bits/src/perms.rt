@@ -1,3 +1,5 @@
+//! A set of permissions, and how it is made from its number.
+
 ghost use Rattle.std.specs.Prelude.{◌≡◌, ◌-◌, ◌<◌, ◌≤◌, ◌^◌, ◌↔◌, ℕ, ◌||◌, ◌&&◌, not, Some, codes, IsTrue, IsErr, IfOk};
 ghost use Rattle.std.specs.Fmt.{decimal};
 ghost use Rattle.perm_bits.specs.Bits.{has_bit};

@@ -1,3 +1,5 @@
+//! What pushes leave in a replay buffer, as laws.
+
 ghost use Rattle.std.specs.Prelude.{◌≡◌, ◌-◌, ◌≤◌, ◌++◌, ◌∷◌, [], ℕ, List, length, drop};
 ghost use Rattle.replay_ring.specs.Replay.{IsLongestSuffix, longest_suffix, fresh, pushed, pushed_all, replay_of, texts_after};
 

@@ -1,3 +1,5 @@
+//! The replay buffer of a session.
+
 ghost use Rattle.std.specs.Prelude.{◌≡◌, ◌+◌, ◌-◌, ◌^◌, ◌<◌, ◌≤◌, ◌↔◌, length, sum_by, IsTrue, IfOk};
 ghost use Rattle.circular_buffer.specs.Buffer.{buffer};
 ghost use Rattle.replay_ring.specs.Replay.{longest_suffix, fresh, pushed, texts_after};
@@ -47,7 +49,7 @@ impl Ring {
     }
 
     /// Gives the text the next number, and drops from the front what is past a limit. A text of
-    /// more bytes than the limit leaves nothing. It takes no memory, and its time goes into this
+    /// more bytes than the limit leaves nothing. It does not allocate, and its time goes into this
     /// text and those that it drops alone.
     pub fn push(&mut self, text: Payload)
         requires { self.old.last < 2 ^ 64 - 1 }

@@ -11,7 +11,7 @@ use Rattle.guild_model.specs.declared.channel.Channel.{Channel}
 use Rattle.guild_model.specs.declared.thread.Thread.{Thread}
 use Rattle.guild_model.specs.declared.message.MessageHead.{MessageHead}
 use Rattle.guild_model.specs.Record.{Record, own_id, role_id, member_id, overwrite_id, channel_id, thread_id, thread_member_id, voice_id, presence_id}
-use Rattle.guild_model.specs.Consistent.{IsConsistent, is_parent, is_place}
+use Rattle.guild_model.specs.Consistent.{IsConsistent, is_parent, is_channel_or_thread}
 use Rattle.guild_model.specs.declared.verdict.Verdict.TheVariants.{UnknownRole, IdTaken, EveryoneRole, OwnerStays}
 use Rattle.guild_model.specs.Tests.{refused_if, unknown_role, unknown_member}
 use Rattle.guild_model.proofs.Tests.{first_passes, not_refused, passed}
@@ -143,8 +143,8 @@ module _ (g : Record) (is_open : g.opened ≡ true) (h : IsConsistent g) where
             ap is_parent (find-map channel_id channel_id (without_role_overwrite role) (λ c. refl) t.parent g.channels) ∙ (same_parent role (find_id channel_id t.parent g.channels) ∙ h.parents thread t found);
         joined = λ thread user t found there. members user ∙ h.joined thread user t found there;
         apart = λ id there. h.apart id (sym (channels id) ∙ there);
-        places = All-weaker (λ (m : MessageHead). is_place g m.place ≡ true) (λ (m : MessageHead). is_place (role_deleted g role) m.place ≡ true)
-            (λ m there. ap (λ b. b || has_id thread_id m.place g.threads) (channels m.place) ∙ there) g.messages h.places;
+        message_channels = All-weaker (λ (m : MessageHead). is_channel_or_thread g m.channel ≡ true) (λ (m : MessageHead). is_channel_or_thread (role_deleted g role) m.channel ≡ true)
+            (λ m there. ap (λ b. b || has_id thread_id m.channel g.threads) (channels m.channel) ∙ there) g.messages h.message_channels;
       }
 
   -- a member goes
@@ -184,6 +184,6 @@ module _ (g : Record) (is_open : g.opened ≡ true) (h : IsConsistent g) where
             let was = thread_was thread g.threads t found in
             joined_left user other t was.0 was.1.1 (h.joined thread other was.0 was.1.0) there;
         apart = λ id there. threads id ∙ h.apart id there;
-        places = All-weaker (λ (m : MessageHead). is_place g m.place ≡ true) (λ (m : MessageHead). is_place (member_removed g user) m.place ≡ true)
-            (λ m there. ap (λ b. has_id channel_id m.place g.channels || b) (threads m.place) ∙ there) g.messages h.places;
+        message_channels = All-weaker (λ (m : MessageHead). is_channel_or_thread g m.channel ≡ true) (λ (m : MessageHead). is_channel_or_thread (member_removed g user) m.channel ≡ true)
+            (λ m there. ap (λ b. has_id channel_id m.channel g.channels || b) (threads m.channel) ∙ there) g.messages h.message_channels;
       }

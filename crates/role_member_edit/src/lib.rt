@@ -49,7 +49,7 @@ pub enum RoleMemberEdit {
     MemberRoleRemove(HeldRole),
 }
 
-/// Why an edit of an open guild is refused: the first of its tests that fails. Takes no memory.
+/// Why an edit of an open guild is refused: the first of its tests that fails. Does not allocate.
 pub fn check(guild: &Guild, edit: &RoleMemberEdit) -> Result<(), Verdict>
     ensures { result ≡ outcome (role_member_verdict guild.now edit.now) }
 {

@@ -1,9 +1,9 @@
 //! Copies of records and of views.
 
+use dispatch_equality::{same, same_or_none};
 use dispatch_types::{GuildView, Viewer};
 use guild_model::Guild;
 use projection::project;
-use same_views::{same, same_or_none};
 use std::alloc::{AllocError, Global};
 
 // Whether a copy of the view is the same.

@@ -1,9 +1,9 @@
 //! What a bot sees, and what is uncovered after it.
 
+use dispatch_equality::SameAs;
 use dispatch_types::{Dispatch, Viewer};
 use event_json::{reads_back, write};
 use guild_model::Guild;
-use same_views::SameAs;
 use std::alloc::Global;
 use thread_sync::{Seen, gained, uncovered, visible};
 

@@ -16,7 +16,7 @@ use Rattle.guild_model.specs.declared.thread.ThreadKind.{ThreadKind}
 use Rattle.guild_model.specs.declared.message.MessageHead.{MessageHead}
 use Rattle.guild_model.specs.declared.verdict.Verdict.TheVariants.{UnknownMember, IdTaken, WrongType, InThread}
 use Rattle.guild_model.specs.Record.{Record, member_id, channel_id, thread_id, thread_member_id}
-use Rattle.guild_model.specs.Consistent.{IsConsistent, has_threads, is_parent, is_place}
+use Rattle.guild_model.specs.Consistent.{IsConsistent, has_threads, is_parent, is_channel_or_thread}
 use Rattle.guild_model.specs.Tests.{refused_if, too_long, too_many, unknown_member, unknown_channel}
 use Rattle.guild_model.proofs.Tests.{first_passes, not_refused, passed}
 use Rattle.thread_edit.specs.declared.thread_create.ThreadCreate.{ThreadCreate}
@@ -29,7 +29,7 @@ use Rattle.thread_edit.specs.ThreadMembers.{is_in_thread, thread_join_verdict, w
 
 -- what the tests let through
 record MayCome (g : Record) (edit : ThreadCreate) : Type 0 where
-  free : is_place g edit.thread ≡ false
+  free : is_channel_or_thread g edit.thread ≡ false
   fits : is_parent (find_id channel_id edit.parent g.channels) ≡ true
   member : has_id member_id edit.owner g.members ≡ true
 
@@ -51,13 +51,13 @@ may_come g edit e =
     let channel = unknown_channel g edit.parent in
     let kind = wrong_kind g edit.parent edit.kind in
     let owner = unknown_member g edit.owner in
-    let first = first_passes (refused_if (is_place g edit.thread) IdTaken) (channel ∷ kind ∷ owner ∷ limits) e in
+    let first = first_passes (refused_if (is_channel_or_thread g edit.thread) IdTaken) (channel ∷ kind ∷ owner ∷ limits) e in
     let second = first_passes channel (kind ∷ owner ∷ limits) first.1 in
     let third = first_passes kind (owner ∷ limits) second.1 in
     let fourth = first_passes owner limits third.1 in
     let there = find_id channel_id edit.parent g.channels in
     record {
-      free = not_refused (is_place g edit.thread) IdTaken first.0;
+      free = not_refused (is_channel_or_thread g edit.thread) IdTaken first.0;
       fits = takes_parent edit.kind there (passed (takes_there edit.kind there) WrongType third.0);
       member = passed (has_id member_id edit.owner g.members) UnknownMember fourth.0;
     }
@@ -89,9 +89,9 @@ module _ (g : Record) (is_open : g.opened ≡ true) (h : IsConsistent g) where
   -- threads and messages have changed
   threads_changed : (ts : List Thread) (ms : List MessageHead) → ((thread : ℕ) (t : Thread) → find_id thread_id thread ts ≡ Some t → Fits t)
       → ((id : ℕ) → has_id channel_id id g.channels ≡ true → has_id thread_id id ts ≡ false)
-      → All (λ (m : MessageHead). is_place (record g { threads = ts; messages = ms }) m.place ≡ true) ms
+      → All (λ (m : MessageHead). is_channel_or_thread (record g { threads = ts; messages = ms }) m.channel ≡ true) ms
       → IsConsistent (record g { threads = ts; messages = ms })
-  threads_changed ts ms fit apart places = record {
+  threads_changed ts ms fit apart message_channels = record {
     empty = λ closed. absurd (cc (is_open, closed));
     everyone = h.everyone;
     owner = h.owner;
@@ -102,7 +102,7 @@ module _ (g : Record) (is_open : g.opened ≡ true) (h : IsConsistent g) where
     parents = λ thread t found. let f = fit thread t found in f.parent;
     joined = λ thread user t found there. let f = fit thread t found in f.joined user there;
     apart = apart;
-    places = places;
+    message_channels = message_channels;
   }
 
   or_right : (a b c : Bool) → (b ≡ true → c ≡ true) → (a || b) ≡ true → (a || c) ≡ true
@@ -110,11 +110,11 @@ module _ (g : Record) (is_open : g.opened ≡ true) (h : IsConsistent g) where
   or_right false b c more e = more e
 
   -- each message still stands somewhere where no thread has gone
-  still_placed : (ts : List Thread) → ((id : ℕ) → has_id thread_id id g.threads ≡ true → has_id thread_id id ts ≡ true)
-      → All (λ (m : MessageHead). is_place (record g { threads = ts; messages = g.messages }) m.place ≡ true) g.messages
-  still_placed ts more =
-      All-weaker (λ (m : MessageHead). is_place g m.place ≡ true) (λ (m : MessageHead). is_place (record g { threads = ts; messages = g.messages }) m.place ≡ true)
-      (λ m there. or_right (has_id channel_id m.place g.channels) (has_id thread_id m.place g.threads) (has_id thread_id m.place ts) (more m.place) there) g.messages h.places
+  still_there : (ts : List Thread) → ((id : ℕ) → has_id thread_id id g.threads ≡ true → has_id thread_id id ts ≡ true)
+      → All (λ (m : MessageHead). is_channel_or_thread (record g { threads = ts; messages = g.messages }) m.channel ≡ true) g.messages
+  still_there ts more =
+      All-weaker (λ (m : MessageHead). is_channel_or_thread g m.channel ≡ true) (λ (m : MessageHead). is_channel_or_thread (record g { threads = ts; messages = g.messages }) m.channel ≡ true)
+      (λ m there. or_right (has_id channel_id m.channel g.channels) (has_id thread_id m.channel g.threads) (has_id thread_id m.channel ts) (more m.channel) there) g.messages h.message_channels
 
   -- a thread comes
   fits_put : (b : Bool) (t n : Thread) (o : Option Thread) → Fits n → (o ≡ Some t → Fits t) → (if b then Some n else o) ≡ Some t → Fits t
@@ -136,7 +136,7 @@ module _ (g : Record) (is_open : g.opened ≡ true) (h : IsConsistent g) where
       threads_changed (put_id thread_id n g.threads) g.messages
       (λ id t found. fits_put (edit.thread == id) t n (find_id thread_id id g.threads) (fits_new edit may) (fits id t) (sym (find-put thread_id n id g.threads) ∙ found))
       (λ id there. has-put thread_id n id g.threads ∙ apart_from edit.thread id free.0 there)
-      (still_placed (put_id thread_id n g.threads) (λ id there. has-kept thread_id n id g.threads there))
+      (still_there (put_id thread_id n g.threads) (λ id there. has-kept thread_id n id g.threads there))
     where
       apart_from : (thread id : ℕ) → has_id channel_id thread g.channels ≡ false → has_id channel_id id g.channels ≡ true → ((thread == id) || has_id thread_id id g.threads) ≡ false
       apart_from thread id none some = by_test (thread == id) refl
@@ -156,7 +156,7 @@ module _ (g : Record) (is_open : g.opened ≡ true) (h : IsConsistent g) where
       threads_changed (changed_id thread_id at f g.threads) g.messages
       (λ id t found. fits_changed (at == id) f t (find_id thread_id id g.threads) keeps (fits id) (sym (find-changed thread_id at f same id g.threads) ∙ found))
       (λ id there. has-changed thread_id at f same id g.threads ∙ h.apart id there)
-      (still_placed (changed_id thread_id at f g.threads) (λ id there. has-changed thread_id at f same id g.threads ∙ there))
+      (still_there (changed_id thread_id at f g.threads) (λ id there. has-changed thread_id at f same id g.threads ∙ there))
 
   pub renamed : (edit : ThreadRename) → IsConsistent (thread_renamed g edit)
   renamed edit = changed edit.thread (with_thread_name edit.name) (λ t. refl) (λ t old. record { parent = old.parent; joined = old.joined })
@@ -192,13 +192,13 @@ module _ (g : Record) (is_open : g.opened ≡ true) (h : IsConsistent g) where
     abbrev left : List Thread
     left = without_id thread_id thread g.threads
 
-    place_left : (m : MessageHead) → is_place g m.place ≡ true → stands_elsewhere thread m ≡ true → is_place (thread_deleted g thread) m.place ≡ true
-    place_left m there out =
-        or_right (has_id channel_id m.place g.channels) (has_id thread_id m.place g.threads) (has_id thread_id m.place left)
-        (λ was. has-without thread_id thread m.place g.threads ∙ and_from (not (thread == m.place)) (has_id thread_id m.place g.threads) (not_from_false (thread == m.place) (turned m.place out)) was) there
+    message_stays : (m : MessageHead) → is_channel_or_thread g m.channel ≡ true → stands_elsewhere thread m ≡ true → is_channel_or_thread (thread_deleted g thread) m.channel ≡ true
+    message_stays m there out =
+        or_right (has_id channel_id m.channel g.channels) (has_id thread_id m.channel g.threads) (has_id thread_id m.channel left)
+        (λ was. has-without thread_id thread m.channel g.threads ∙ and_from (not (thread == m.channel)) (has_id thread_id m.channel g.threads) (not_from_false (thread == m.channel) (turned m.channel out)) was) there
       where
-        turned : (place : ℕ) → not (place == thread) ≡ true → (thread == place) ≡ false
-        turned place e = grind (arith, nat_tests)
+        turned : (id : ℕ) → not (id == thread) ≡ true → (thread == id) ≡ false
+        turned id e = grind (arith, nat_tests)
 
     pub thread_gone : IsConsistent (thread_deleted g thread)
     thread_gone =
@@ -206,5 +206,5 @@ module _ (g : Record) (is_open : g.opened ≡ true) (h : IsConsistent g) where
         (λ id t found. fits id t (found-without thread_id thread id g.threads t found).1)
         (λ id there. has-without thread_id thread id g.threads ∙ and_right (not (thread == id)) (has_id thread_id id g.threads) (h.apart id there))
         (λ k d lt.
-        place_left (slice_index_or (filter (stands_elsewhere thread) g.messages) k d) (All-filter (stands_elsewhere thread) (λ (m : MessageHead). is_place g m.place ≡ true) g.messages h.places k d lt)
+        message_stays (slice_index_or (filter (stands_elsewhere thread) g.messages) k d) (All-filter (stands_elsewhere thread) (λ (m : MessageHead). is_channel_or_thread g m.channel ≡ true) g.messages h.message_channels k d lt)
         (filter_passes (stands_elsewhere thread) g.messages k d lt))

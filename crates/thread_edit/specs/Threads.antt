@@ -15,7 +15,7 @@ use Rattle.guild_model.specs.declared.message.MessageHead.{MessageHead}
 use Rattle.guild_model.specs.declared.verdict.Verdict.{Verdict}
 use Rattle.guild_model.specs.declared.verdict.Verdict.TheVariants.{UnknownThread, IdTaken, WrongType, Archived}
 use Rattle.guild_model.specs.Record.{Record, channel_id, thread_id}
-use Rattle.guild_model.specs.Consistent.{is_place}
+use Rattle.guild_model.specs.Consistent.{is_channel_or_thread}
 use Rattle.guild_model.specs.Sight.{is_private}
 use Rattle.guild_model.specs.Tests.{refused_if, first_of, too_long, too_many, unknown_member, unknown_channel}
 use Rattle.thread_edit.specs.declared.thread_create.ThreadCreate.{ThreadCreate}
@@ -70,7 +70,7 @@ too_many_active g = too_many 1000 (active_threads g)
 -- thread_create: an active thread with its owner in it
 abbrev pub thread_create_verdict : Record → ThreadCreate → Option Verdict
 thread_create_verdict g edit = first_of (
-    refused_if (is_place g edit.thread) IdTaken
+    refused_if (is_channel_or_thread g edit.thread) IdTaken
     ∷ unknown_channel g edit.parent
     ∷ wrong_kind g edit.parent edit.kind
     ∷ unknown_member g edit.owner
@@ -114,7 +114,7 @@ abbrev pub thread_delete_verdict : Record → ℕ → Option Verdict
 thread_delete_verdict g thread = unknown_thread g thread
 
 abbrev pub stands_elsewhere : ℕ → MessageHead → Bool
-stands_elsewhere thread m = not (m.place == thread)
+stands_elsewhere thread m = not (m.channel == thread)
 
 abbrev pub thread_deleted : Record → ℕ → Record
 thread_deleted g thread = record g {

@@ -78,7 +78,7 @@ fn fits_parent(guild: &Guild, parent: Snowflake, kind: ThreadKind) -> Result<(),
 pub fn check(guild: &Guild, edit: &ThreadCreate) -> Result<(), Verdict>
     ensures { result ≡ outcome (thread_create_verdict guild.now edit.now) }
 {
-    if guild.has_place(edit.thread) {
+    if guild.has_channel_or_thread(edit.thread) {
         return Err(Verdict::IdTaken);
     }
     rules::knows_channel(guild, edit.parent)?;

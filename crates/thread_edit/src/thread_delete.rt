@@ -20,6 +20,6 @@ pub fn apply(guild: &mut Guild, thread: Snowflake)
     requires { guild.old.opened ≡ true }
     ensures { guild.new ≡ thread_deleted guild.old thread }
 {
-    guild.messages.remove_place(thread);
+    guild.messages.remove_in(thread);
     guild.threads.remove(thread.0);
 }

@@ -3,14 +3,14 @@ use Rattle.std.proofs.Common.{ℕ, List, Option, Some, None}
 use Rattle.collections.specs.ById.{IsById}
 use Rattle.collections.proofs.Ids.{IsById-put}
 use Rattle.collections.proofs.Finds.{IsById-without}
-use Rattle.guild_model.specs.declared.presence.Activity.{Activity}
+use Rattle.guild_model.specs.declared.presence.ShownStatus.{ShownStatus}
 use Rattle.guild_model.specs.declared.presence.Presence.{Presence}
 use Rattle.guild_model.specs.declared.voice.Voice.{Voice}
 use Rattle.guild_model.specs.Record.{Record, voice_id, presence_id}
 use Rattle.guild_model.specs.Ascending.{IsAscending}
 use Rattle.voice_presence.specs.declared.voice_set.VoiceSet.{VoiceSet}
 use Rattle.voice_presence.specs.Voices.{new_voice, with_voice}
-use Rattle.voice_presence.specs.Presences.{new_presence, with_activity}
+use Rattle.voice_presence.specs.Presences.{new_presence, with_shown_status}
 
 module _ (g : Record) (a : IsAscending g) where
   with_voices : (vs : List Voice) → IsById voice_id vs → IsAscending (record g { voices = vs })
@@ -45,6 +45,6 @@ module _ (g : Record) (a : IsAscending g) where
   voice_set edit None = with_voices _ (IsById-without voice_id edit.user g.voices a.voices)
   voice_set edit (Some channel) = with_voices _ (IsById-put voice_id (new_voice edit channel) g.voices a.voices)
 
-  pub presence_set : (user : ℕ) (activity : Option Activity) → IsAscending (with_activity g user activity)
+  pub presence_set : (user : ℕ) (shown : Option ShownStatus) → IsAscending (with_shown_status g user shown)
   presence_set user None = with_presences _ (IsById-without presence_id user g.presences a.presences)
-  presence_set user (Some activity) = with_presences _ (IsById-put presence_id (new_presence user activity) g.presences a.presences)
+  presence_set user (Some shown) = with_presences _ (IsById-put presence_id (new_presence user shown) g.presences a.presences)

@@ -5,7 +5,7 @@ use Rattle.std.proofs.lemmas.Bool.Decides.{nat_tests}
 use Rattle.collections.specs.ById.{find_id, has_id}
 use Rattle.collections.proofs.Finds.{find-put, found-without}
 use Rattle.collections.proofs.Has.{has-put, has-left}
-use Rattle.guild_model.specs.declared.presence.Activity.{Activity}
+use Rattle.guild_model.specs.declared.presence.ShownStatus.{ShownStatus}
 use Rattle.guild_model.specs.declared.presence.Presence.{Presence}
 use Rattle.guild_model.specs.declared.voice.Voice.{Voice}
 use Rattle.guild_model.specs.declared.verdict.Verdict.TheVariants.{UnknownMember, UnknownChannel, WrongType}
@@ -16,7 +16,7 @@ use Rattle.guild_model.proofs.Tests.{first_passes, passed}
 use Rattle.guild_model.proofs.Kept.{voices_changed, presences_changed}
 use Rattle.voice_presence.specs.declared.voice_set.VoiceSet.{VoiceSet}
 use Rattle.voice_presence.specs.Voices.{has_voice_there, no_voice_channel, no_channel_for_voice, voice_set_verdict, new_voice, voice_joined, voice_left}
-use Rattle.voice_presence.specs.Presences.{new_presence, with_activity}
+use Rattle.voice_presence.specs.Presences.{new_presence, with_shown_status}
 
 -- what the tests let through
 member_there : (g : Record) (user : ℕ) → unknown_member g user ≡ None → has_id member_id user g.members ≡ true
@@ -59,9 +59,9 @@ module _ (g : Record) (is_open : g.opened ≡ true) (h : IsConsistent g) where
       voices_changed g is_open h _
       (λ id v found. h.voices id v (found-without voice_id user id g.voices v found).1)
 
-  pub presence_came : (user : ℕ) (activity : Activity) → unknown_member g user ≡ None → IsConsistent (with_activity g user (Some activity))
-  presence_came user activity accepted =
-      let n : Presence = new_presence user activity in
+  pub presence_came : (user : ℕ) (shown : ShownStatus) → unknown_member g user ≡ None → IsConsistent (with_shown_status g user (Some shown))
+  presence_came user shown accepted =
+      let n : Presence = new_presence user shown in
       let there = member_there g user accepted in
       presences_changed g is_open h _ (λ id found. by_test id (user == id) refl there (sym (has-put presence_id n id g.presences) ∙ found))
     where
@@ -69,6 +69,6 @@ module _ (g : Record) (is_open : g.opened ≡ true) (h : IsConsistent g) where
       by_test id true e there either = let same : user ≡ id = grind (arith, nat_tests) in subst (λ (u : ℕ). has_id member_id u g.members ≡ true) same there
       by_test id false e there either = h.presences id either
 
-  pub presence_gone : (user : ℕ) → IsConsistent (with_activity g user None)
+  pub presence_gone : (user : ℕ) → IsConsistent (with_shown_status g user None)
   presence_gone user =
       presences_changed g is_open h _ (λ id found. h.presences id (has-left presence_id user id g.presences found).1)

@@ -3,9 +3,9 @@
 
 ghost use Rattle.std.specs.Prelude.{◌≡◌, Some, None, true, OnOk, OnErr};
 ghost use Rattle.guild_model.specs.Tests.{outcome, unknown_member};
-ghost use Rattle.voice_presence.specs.Presences.{presence_set_verdict, with_activity, presence_was_set};
+ghost use Rattle.voice_presence.specs.Presences.{presence_set_verdict, with_shown_status, presence_was_set};
 
-use guild_model::{Activity, Guild, Presence, Status, Verdict, rules};
+use guild_model::{Guild, Presence, ShownStatus, Status, Verdict, rules};
 use snowflake_id::Snowflake;
 use std::alloc::AllocError;
 
@@ -23,22 +23,22 @@ pub fn check(guild: &Guild, edit: &PresenceSet) -> Result<(), Verdict>
     rules::knows_member(guild, edit.user)
 }
 
-fn show(guild: &mut Guild, user: Snowflake, activity: Activity) -> Result<(), AllocError>
+fn show(guild: &mut Guild, user: Snowflake, shown: ShownStatus) -> Result<(), AllocError>
     requires open { guild.old.opened ≡ true }
     requires member { unknown_member guild.old user ≡ None }
-    ensures ok { OnOk result (guild.new ≡ with_activity guild.old user (Some activity)) }
+    ensures ok { OnOk result (guild.new ≡ with_shown_status guild.old user (Some shown)) }
     ensures err { OnErr result (guild.new ≡ guild.old) }
 {
     guild.presences.put(Presence {
         user,
-        status: activity,
+        status: shown,
     })?;
     Ok(())
 }
 
 fn hide(guild: &mut Guild, user: Snowflake)
     requires { guild.old.opened ≡ true }
-    ensures { guild.new ≡ with_activity guild.old user None }
+    ensures { guild.new ≡ with_shown_status guild.old user None }
 {
     guild.presences.remove(user.0);
 }
@@ -50,8 +50,8 @@ pub fn apply(guild: &mut Guild, edit: PresenceSet) -> Result<(), AllocError>
     ensures ok { OnOk result (guild.new ≡ presence_was_set guild.old edit) }
     ensures err { OnErr result (guild.new ≡ guild.old) }
 {
-    match edit.status.activity() {
-        Some(activity) => show(guild, edit.user, activity)?,
+    match edit.status.shown() {
+        Some(shown) => show(guild, edit.user, shown)?,
         None => hide(guild, edit.user),
     }
     Ok(())

@@ -1,7 +1,7 @@
 //! Calls on frames, payloads and JSON.
 
 use gateway_frames::{Frame, Out};
-use json_line::Scratch;
+use json_view::Scratch;
 use std::alloc::{AllocError, Global};
 use written_json::is_written_as;
 
@@ -39,14 +39,14 @@ fn fields(alloc: Global, text: &str) -> Result<String, AllocError> {
 // The same by the reader that borrows from the text.
 fn line_fields(alloc: Global, text: &str) -> Result<String, AllocError> {
     let mut scratch = Scratch::new(alloc);
-    let Some(object) = json_line::value_of(alloc, text.as_bytes(), &mut scratch)? else {
+    let Some(object) = json_view::node_of(alloc, text.as_bytes(), &mut scratch)? else {
         return String::from_str(alloc, "no JSON");
     };
-    let id = json_line::id_of(&object, "a");
-    let number = json_line::number_of(&object, "a");
-    let flag = json_line::flag_of(&object, "a");
-    let text = json_line::text_of(&object, "a");
-    let is_given = json_line::given_of(&object, "a").is_some();
+    let id = json_view::id_of(&object, "a");
+    let number = json_view::number_of(&object, "a");
+    let flag = json_view::flag_of(&object, "a");
+    let text = json_view::text_of(&object, "a");
+    let is_given = json_view::given_of(&object, "a").is_some();
     format!(in alloc; "{id:?} {number:?} {flag:?} {text:?}, given {is_given}")
 }
 

@@ -18,7 +18,7 @@ returns-in_default-clause-kept c = rw c.pop.ensures.entries (gone_kept c.args.he
 pub returns-in-Some-clause-indexed : goal.returns-in-Some-clause-indexed
 returns-in-Some-clause-indexed c =
     let leaves = rw c.number.ensures at c.remove.ensures in
-    rw c.pop.ensures.entries (left c.args.id c.in-Some.head c.args.heads.now.entries c.args.places.now c.remove.new.self c.requires.kept.index (sym c.in-Some.ensures.value) c.requires.indexed leaves)
+    rw c.pop.ensures.entries (left c.args.id c.in-Some.head c.args.heads.now.entries c.args.index.now c.remove.new.self c.requires.kept.index (sym c.in-Some.ensures.value) c.requires.indexed leaves)
 
 pub returns-in_default-clause-indexed : goal.returns-in_default-clause-indexed
-returns-in_default-clause-indexed c = rw c.pop.ensures.entries (not_there c.args.id c.args.heads.now.entries c.args.places.now (sym c.in_default.ensures.value) c.requires.indexed)
+returns-in_default-clause-indexed c = rw c.pop.ensures.entries (not_there c.args.id c.args.heads.now.entries c.args.index.now (sym c.in_default.ensures.value) c.requires.indexed)

@@ -9,4 +9,4 @@ pub invariant_of-guild-2 : goal.invariant_of-guild-2
 invariant_of-guild-2 c =
     let is_open : c.guild.inside.opened ≡ true = cc in
     let accepted = rw (← c.guild.view_is) at c.requires.member in
-    rw c.in_ok-put.ensures.ok (presence_came _ is_open c.guild.invariant c.args.user c.args.activity accepted)
+    rw c.in_ok-put.ensures.ok (presence_came _ is_open c.guild.invariant c.args.user c.args.shown accepted)

@@ -1,5 +1,0 @@
-use Rattle.guild_model.proofs.Places.{joins}
-use Rattle.guild_model.proofs.place_index.PlaceIndex.add.Goals as goal
-
-pub returns-clause-ok : goal.returns-clause-ok
-returns-clause-ok c = rw (← c.self.view_is) (joins c.self.inside.pairs c.insert.new.self c.args.place c.args.id c.in_ok-insert.ensures.updates.0)
