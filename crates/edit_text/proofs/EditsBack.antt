@@ -13,8 +13,8 @@ use Rattle.channel_edit.specs.declared.ChannelEdit.{ChannelEdit}
 use Rattle.channel_edit.specs.declared.ChannelEdit.TheVariants.{ChannelCreate, ChannelUpdate, ChannelDelete, OverwriteSet, OverwriteDelete}
 use Rattle.guild_model.specs.declared.channel.ChannelKind.{ChannelKind}
 use Rattle.guild_model.proofs.Numbers.{channel_kind_back, overwrite_kind_back}
-use Rattle.edit_text.specs.Fits.{IdFits, NullableIdFits, NullableMomentFits, GuildEditFits, RoleMemberEditFits, ChannelEditFits, EditFits}
-use Rattle.edit_text.specs.Written.{edit_within, role_member_within, channel_within}
+use Rattle.edit_fields.specs.Fits.{IdFits, NullableIdFits, NullableMomentFits, GuildEditFits, RoleMemberEditFits, ChannelEditFits, EditFits}
+use Rattle.edit_fields.specs.Within.{edit_within, role_member_within, channel_within}
 use Rattle.edit_text.proofs.ReadsBack.{Back, PlainEdit, mask_below, mask_as_id, moment_below}
 use Rattle.edit_text.proofs.ThreadsBack.{thread_back, thread_plain}
 use Rattle.edit_text.proofs.VoicesBack.{voice_presence_back, voice_presence_plain}

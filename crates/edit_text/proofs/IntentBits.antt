@@ -3,8 +3,9 @@ use Rattle.std.proofs.Common.{◌≡◌, ℕ, Bool, true, false, Ok, Err, refl, 
 use Rattle.std.specs.Int.RustNames.{bit_and}
 use Rattle.intent_set.specs.Intents.{HasIntentsAlone}
 use Rattle.intent_set.proofs.IntentSets.{intents_alone}
-use Rattle.edit_text.specs.declared.fault.LineFault.TheVariants.{WrongType}
-use Rattle.edit_text.specs.Fields.{are_intents, within}
+use Rattle.edit_fields.specs.declared.fault.LineFault.TheVariants.{WrongType}
+use Rattle.edit_fields.specs.Fields.{within}
+use Rattle.edit_text.specs.Intents.{are_intents}
 
 pub are_if : (n : ℕ) → HasIntentsAlone n → are_intents n ≡ true
 unfolding are_intents

@@ -1,7 +1,6 @@
 pub mod EditsBack
 pub mod IntentBits
 pub mod LinesBack
-pub mod Lists
 pub mod MessagesBack
 pub mod ReadsBack
 pub mod ThreadsBack

@@ -14,20 +14,13 @@ use Rattle.snowflake_id.proofs.Texts.{id_of_decimal}
 use Rattle.edit_apply.specs.declared.Edit.{Edit}
 use Rattle.edit_text.specs.declared.line.Line.{Line}
 use Rattle.edit_text.specs.declared.line.Line.TheVariants.{Bot, Guild, Edit as EditLine, Look, Open, Frame, Lost, Closed, Tick}
-use Rattle.edit_text.specs.declared.names.StepName.{StepName}
-use Rattle.edit_text.specs.declared.names.StepName.TheVariants as step
-use Rattle.edit_text.specs.declared.names.EditName.{EditName}
-use Rattle.edit_text.specs.declared.names.EditName.TheVariants as name
-use Rattle.edit_text.specs.declared.names.GuildEditName.TheVariants.{GuildOpen, GuildRename, GuildOwner, GuildOutage, GuildBack}
-use Rattle.edit_text.specs.declared.names.RoleMemberEditName.TheVariants.{RoleCreate, RoleUpdate, RoleDelete, MemberAdd, MemberRemove, MemberNick, MemberTimeout, MemberRoleAdd, MemberRoleRemove}
-use Rattle.edit_text.specs.declared.names.ChannelEditName.TheVariants.{ChannelCreate, ChannelUpdate, ChannelDelete, OverwriteSet, OverwriteDelete}
-use Rattle.edit_text.specs.declared.names.ThreadEditName.TheVariants.{ThreadCreate, ThreadRename, ThreadArchive, ThreadUnarchive, ThreadDelete, ThreadJoin, ThreadLeave}
-use Rattle.edit_text.specs.declared.names.VoicePresenceEditName.TheVariants.{VoiceSet, PresenceSet}
-use Rattle.edit_text.specs.declared.names.MessageEditName.TheVariants.{MessageCreate, MessageUpdate, MessageDelete, ReactionAdd, ReactionRemove, Typing}
-use Rattle.edit_text.specs.declared.reader.StepReader.{StepReader}
-use Rattle.edit_text.specs.Fields.{text_at}
-use Rattle.edit_text.specs.Names.{step_named, step_text, edit_named, name_text}
-use Rattle.edit_text.specs.Edits.{edit_name}
+use Rattle.edit_text.specs.declared.step_name.StepName.{StepName}
+use Rattle.edit_text.specs.declared.step_name.StepName.TheVariants as step
+use Rattle.edit_text.specs.declared.reader_state.ReaderState.{ReaderState}
+use Rattle.edit_fields.specs.Fields.{text_at}
+use Rattle.edit_text.specs.StepNames.{step_named, step_text}
+use Rattle.edit_fields.proofs.NamesBack.{named_back}
+use Rattle.edit_fields.specs.Edits.{edit_name}
 use Rattle.edit_text.specs.Fits.{LineFits}
 use Rattle.edit_text.specs.Lines.{is_allowed, is_blank, fields_from, line_from, line_of}
 use Rattle.edit_text.specs.Written.{step_name, line_data, line_within, allows}
@@ -48,46 +41,9 @@ step_back step.Lost = refl
 step_back step.Closed = refl
 step_back step.Tick = refl
 
-pub named_back : (n : EditName) → edit_named (name_text n) ≡ Some n
-unfolding edit_named
-named_back (name.Guild GuildOpen) = refl
-named_back (name.Guild GuildRename) = refl
-named_back (name.Guild GuildOwner) = refl
-named_back (name.Guild GuildOutage) = refl
-named_back (name.Guild GuildBack) = refl
-named_back (name.RoleMember RoleCreate) = refl
-named_back (name.RoleMember RoleUpdate) = refl
-named_back (name.RoleMember RoleDelete) = refl
-named_back (name.RoleMember MemberAdd) = refl
-named_back (name.RoleMember MemberRemove) = refl
-named_back (name.RoleMember MemberNick) = refl
-named_back (name.RoleMember MemberTimeout) = refl
-named_back (name.RoleMember MemberRoleAdd) = refl
-named_back (name.RoleMember MemberRoleRemove) = refl
-named_back (name.Channel ChannelCreate) = refl
-named_back (name.Channel ChannelUpdate) = refl
-named_back (name.Channel ChannelDelete) = refl
-named_back (name.Channel OverwriteSet) = refl
-named_back (name.Channel OverwriteDelete) = refl
-named_back (name.Thread ThreadCreate) = refl
-named_back (name.Thread ThreadRename) = refl
-named_back (name.Thread ThreadArchive) = refl
-named_back (name.Thread ThreadUnarchive) = refl
-named_back (name.Thread ThreadDelete) = refl
-named_back (name.Thread ThreadJoin) = refl
-named_back (name.Thread ThreadLeave) = refl
-named_back (name.VoicePresence VoiceSet) = refl
-named_back (name.VoicePresence PresenceSet) = refl
-named_back (name.Message MessageCreate) = refl
-named_back (name.Message MessageUpdate) = refl
-named_back (name.Message MessageDelete) = refl
-named_back (name.Message ReactionAdd) = refl
-named_back (name.Message ReactionRemove) = refl
-named_back (name.Message Typing) = refl
-
 -- ---- objects
 
-stepped : (r : StepReader) (n : StepName) (d : Data) → text_at (codes "step") d ≡ Ok (step_text n) → is_allowed r n ≡ true → line_from r d ≡ fields_from r.guilds n d
+stepped : (r : ReaderState) (n : StepName) (d : Data) → text_at (codes "step") d ≡ Ok (step_text n) → is_allowed r n ≡ true → line_from r d ≡ fields_from r.guilds n d
 stepped r n d e h = rw (e, step_back n, h) refl
 
 first_true : (a b : Bool) → (a && b) ≡ true → a ≡ true
@@ -145,7 +101,7 @@ line_plain (Tick worker now) = (omega arith, refl)
 short_enough : (lines n : ℕ) → nat_lt lines 1000000 ≡ true → n ≤ 65536 → (nat_lt 65536 n || not (nat_lt lines 1000000)) ≡ false
 short_enough lines n h k = let e : nat_lt 65536 n ≡ false = grind (arith, nat_tests) in rw (e, h) refl
 
-line_at : (r : StepReader) (text : List ℕ) (line : Line) → LineFits line → allows r line ≡ true → length text ≤ 65536
+line_at : (r : ReaderState) (text : List ℕ) (line : Line) → LineFits line → allows r line ≡ true → length text ≤ 65536
     → text ≡ compact_text (line_data line) → reading text ≡ Some (line_data line) → line_of r text ≡ Ok (Some line)
 unfolding line_of
 line_at r text line f a short is e =
@@ -164,7 +120,7 @@ text_as (Err x) d line is h = tt
 
 pub reads_back : (s : Result (String Global) AllocError) (d : Data) (line : Line) → d ≡ line_data line → LineFits line
     → IfOk s (λ t. has_float d ≡ false → string_bytes t ≡ compact_text d) → IfOk s (λ t. depth d ≤ max_depth → read (string_bytes t) ≡ Some d)
-    → IfOk s (λ t. (r : StepReader) → allows r line ≡ true → length (string_bytes t) ≤ 65536 → line_of r (string_bytes t) ≡ Ok (Some line))
+    → IfOk s (λ t. (r : ReaderState) → allows r line ≡ true → length (string_bytes t) ≤ 65536 → line_of r (string_bytes t) ≡ Ok (Some line))
 reads_back (Ok t) d line is f texts reads = λ r a short.
     let plain : Plain (line_data line) = line_plain line in
     let deep : depth d ≤ max_depth = rw is (omega (arith, plain.0)) in

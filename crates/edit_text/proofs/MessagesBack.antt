@@ -9,9 +9,9 @@ use Rattle.message_edit.specs.declared.MessageEdit.{MessageEdit}
 use Rattle.message_edit.specs.declared.MessageEdit.TheVariants as message
 use Rattle.message_edit.specs.declared.message_create.MessageCreate.{MessageCreate}
 use Rattle.message_edit.specs.declared.message_update.MessageUpdate.{MessageUpdate}
-use Rattle.edit_text.specs.Fits.{IdFits, IdsFit, MessageEditFits}
-use Rattle.edit_text.specs.Written.{are_few, body_within, message_within}
-use Rattle.edit_text.proofs.Lists.{ids_back, ids_len, ids_depth, ids_float}
+use Rattle.edit_fields.specs.Fits.{IdFits, IdsFit, MessageEditFits}
+use Rattle.edit_fields.specs.Within.{are_few, body_within, message_within}
+use Rattle.edit_fields.proofs.Lists.{ids_back, ids_len, ids_depth, ids_float}
 use Rattle.edit_text.proofs.ReadsBack.{Back, PlainEdit, moment_below}
 
 -- the parts of a body are within their limits
@@ -36,7 +36,7 @@ is_small body h =
     let third = both (are_few body.attachments) (are_few body.components) second.1 in
     record { mentions = not_true _ first.0; embeds = second.0; attachments = third.0; components = third.1 }
 
-create_back : (guild : ℕ) (e : MessageCreate) → IdFits guild → IdFits e.message → IdFits e.place → IdFits e.author → IdsFit e.body.mentions → IsSmall e.body
+create_back : (guild : ℕ) (e : MessageCreate) → IdFits guild → IdFits e.message → IdFits e.channel → IdFits e.author → IdsFit e.body.mentions → IsSmall e.body
     → Back guild (edit.Message (message.MessageCreate e))
 unfolding serde_json_on_literals
 create_back guild e h m p a f s = (
@@ -45,7 +45,7 @@ create_back guild e h m p a f s = (
   refl,
   rw (
     id_of_decimal e.message m,
-    id_of_decimal e.place p,
+    id_of_decimal e.channel p,
     id_of_decimal e.author a,
     ids_len e.body.mentions,
     s.mentions,
@@ -84,7 +84,7 @@ message_back guild (message.ReactionAdd body) h k w =
 message_back guild (message.ReactionRemove body) h k w =
     (refl, rw (id_of_decimal guild h) refl, refl, rw (id_of_decimal body.message k.0, id_of_decimal body.user k.1) refl)
 message_back guild (message.Typing e) h k w =
-    (refl, rw (id_of_decimal guild h) refl, refl, rw (id_of_decimal e.place k.0, id_of_decimal e.user k.1, moment_below e.at k.2) refl)
+    (refl, rw (id_of_decimal guild h) refl, refl, rw (id_of_decimal e.channel k.0, id_of_decimal e.user k.1, moment_below e.at k.2) refl)
 
 pub message_plain : (guild : ℕ) (e : MessageEdit) → PlainEdit guild (edit.Message e)
 unfolding serde_json_on_literals

@@ -7,10 +7,10 @@ use Rattle.serde_json.specs.Written.{has_float}
 use Rattle.guild_model.specs.declared.moment.TheConstants.{END_OF_TIME}
 use Rattle.edit_apply.specs.declared.Edit.{Edit}
 use Rattle.edit_text.specs.declared.line.Line.TheVariants.{Edit as EditLine}
-use Rattle.edit_text.specs.Fields.{text_at, id_at}
-use Rattle.edit_text.specs.Fits.{IdFits, MaskFits, MomentFits}
-use Rattle.edit_text.specs.Names.{name_text}
-use Rattle.edit_text.specs.Edits.{edit_from, edit_name}
+use Rattle.edit_fields.specs.Fields.{text_at, id_at}
+use Rattle.edit_fields.specs.Fits.{IdFits, MaskFits, MomentFits}
+use Rattle.edit_fields.specs.Names.{name_text}
+use Rattle.edit_fields.specs.Edits.{edit_from, edit_name}
 use Rattle.edit_text.specs.Written.{line_data}
 
 -- the line of an edit says so, and names its guild and the edit

@@ -6,7 +6,7 @@ use Rattle.guild_model.proofs.Numbers.{thread_kind_back}
 use Rattle.edit_apply.specs.declared.Edit.TheVariants as edit
 use Rattle.thread_edit.specs.declared.ThreadEdit.{ThreadEdit}
 use Rattle.thread_edit.specs.declared.ThreadEdit.TheVariants.{ThreadCreate, ThreadRename, ThreadArchive, ThreadUnarchive, ThreadDelete, ThreadJoin, ThreadLeave}
-use Rattle.edit_text.specs.Fits.{IdFits, ThreadEditFits}
+use Rattle.edit_fields.specs.Fits.{IdFits, ThreadEditFits}
 use Rattle.edit_text.proofs.ReadsBack.{Back, PlainEdit, moment_below}
 
 pub thread_back : (guild : ℕ) (e : ThreadEdit) → IdFits guild → ThreadEditFits e → Back guild (edit.Thread e)

@@ -6,7 +6,7 @@ use Rattle.guild_model.proofs.Statuses.{status_back}
 use Rattle.edit_apply.specs.declared.Edit.TheVariants as edit
 use Rattle.voice_presence.specs.declared.VoicePresenceEdit.{VoicePresenceEdit}
 use Rattle.voice_presence.specs.declared.VoicePresenceEdit.TheVariants.{VoiceSet, PresenceSet}
-use Rattle.edit_text.specs.Fits.{IdFits, NullableIdFits, VoicePresenceEditFits}
+use Rattle.edit_fields.specs.Fits.{IdFits, NullableIdFits, VoicePresenceEditFits}
 use Rattle.edit_text.proofs.ReadsBack.{Back, PlainEdit}
 
 voice_set_back : (guild user : ℕ) (channel : Option ℕ) (mute deaf : Bool) → IdFits guild → IdFits user → NullableIdFits channel

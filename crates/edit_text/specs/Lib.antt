@@ -1,14 +1,5 @@
-pub mod Fault
-pub mod Fields
-pub mod Members
-pub mod Names
-pub mod GuildEdits
-pub mod RoleMemberEdits
-pub mod ChannelEdits
-pub mod ThreadEdits
-pub mod VoicePresenceEdits
-pub mod MessageEdits
-pub mod Edits
+pub mod StepNames
+pub mod Intents
+pub mod Fits
 pub mod Lines
 pub mod Written
-pub mod Fits

@@ -6,18 +6,20 @@ use Rattle.serde_json.specs.Data.{Data}
 use Rattle.serde_json.specs.Find.{as_object}
 use Rattle.json_view.specs.Fields.{and_then}
 use Rattle.json_view.specs.Reading.{reading}
-use Rattle.edit_text.specs.declared.fault.LineFault.{LineFault}
-use Rattle.edit_text.specs.declared.fault.LineFault.TheVariants.{NotJson, NoSuchStep, WrongType, TooLong}
+use Rattle.edit_fields.specs.declared.fault.LineFault.{LineFault}
+use Rattle.edit_fields.specs.declared.fault.LineFault.TheVariants.{NotJson, NoSuchStep, WrongType, TooLong}
 use Rattle.edit_text.specs.declared.line.FileKind.{FileKind}
 use Rattle.edit_text.specs.declared.line.FileKind.TheVariants.{Run, Script}
 use Rattle.edit_text.specs.declared.line.Line.{Line}
 use Rattle.edit_text.specs.declared.line.Line.TheVariants.{Bot, Guild, Edit, Look, Open, Frame, Lost, Closed, Tick}
-use Rattle.edit_text.specs.declared.names.StepName.{StepName}
-use Rattle.edit_text.specs.declared.names.StepName.TheVariants as step
-use Rattle.edit_text.specs.declared.reader.StepReader.{StepReader}
-use Rattle.edit_text.specs.Fields.{text_at, id_at, number_below, intents_at}
-use Rattle.edit_text.specs.Names.{step_named, is_head, edit_named}
-use Rattle.edit_text.specs.Edits.{edit_from}
+use Rattle.edit_text.specs.declared.step_name.StepName.{StepName}
+use Rattle.edit_text.specs.declared.step_name.StepName.TheVariants as step
+use Rattle.edit_text.specs.declared.reader_state.ReaderState.{ReaderState}
+use Rattle.edit_fields.specs.Fields.{text_at, id_at, number_below}
+use Rattle.edit_text.specs.Intents.{intents_at}
+use Rattle.edit_fields.specs.Names.{edit_named}
+use Rattle.edit_text.specs.StepNames.{step_named, is_head}
+use Rattle.edit_fields.specs.Edits.{edit_from}
 
 -- ---- head lines
 
@@ -125,21 +127,21 @@ is_edit step.Closed = false
 is_edit step.Tick = false
 
 -- head lines come first, and a script has no other step than edits
-abbrev pub is_allowed : StepReader → StepName → Bool
+abbrev pub is_allowed : ReaderState → StepName → Bool
 is_allowed reader name =
     if is_head name then not reader.stepped else (is_run reader.kind || is_edit name)
 
-abbrev pub step_of : StepReader → List ℕ → Option StepName
+abbrev pub step_of : ReaderState → List ℕ → Option StepName
 step_of reader text =
     option_and_then (λ name. if is_allowed reader name then Some name else None) (step_named text)
 
-abbrev pub line_from : StepReader → Data → Result Line LineFault
+abbrev pub line_from : ReaderState → Data → Result Line LineFault
 line_from reader d =
     and_then (text_at (codes "step") d) (λ text.
     and_then (ok_or (step_of reader text) NoSuchStep) (λ name.
     fields_from reader.guilds name d))
 
-abbrev pub object_line_from : StepReader → Data → Result Line LineFault
+abbrev pub object_line_from : ReaderState → Data → Result Line LineFault
 object_line_from reader d = and_then (ok_or (as_object d) WrongType) (λ members. line_from reader d)
 
 -- ---- the lines of a file
@@ -152,14 +154,14 @@ abbrev pub is_blank : List ℕ → Bool
 is_blank bytes = list_all is_blank_byte bytes
 
 -- a line has at most 65,536 bytes, and a file 1,000,000 lines
-abbrev pub is_too_long : StepReader → List ℕ → Bool
+abbrev pub is_too_long : ReaderState → List ℕ → Bool
 is_too_long reader bytes = nat_lt 65536 (length bytes) || not (nat_lt reader.lines 1000000)
 
 abbrev pub some_line : Result Line LineFault → Result (Option Line) LineFault
 some_line r = and_then r (λ line. Ok (Some line))
 
 -- the line that the bytes are, or none if they are blank
-unfoldable pub line_of : StepReader → List ℕ → Result (Option Line) LineFault
+unfoldable pub line_of : ReaderState → List ℕ → Result (Option Line) LineFault
 line_of reader bytes =
     if is_too_long reader bytes then Err TooLong
     else (if is_blank bytes then Ok None
@@ -170,7 +172,7 @@ line_of reader bytes =
 abbrev pub with_guild : ℕ → List ℕ → List ℕ
 with_guild id guilds = if has_id id guilds then guilds else guilds ++ id ∷ []
 
-abbrev pub noted : Line → StepReader → StepReader
+abbrev pub noted : Line → ReaderState → ReaderState
 noted (Bot token user name privileged) r = r
 noted (Guild id) r = record r { guilds = with_guild id r.guilds }
 noted (Edit guild edit) r = record r { stepped = true }
@@ -182,14 +184,14 @@ noted (Closed conn code) r = record r { stepped = true }
 noted (Tick worker now) r = record r { stepped = true }
 
 -- a line is counted, whatever it is; beyond the most lines that a file has, one is enough
-abbrev pub counted : StepReader → StepReader
+abbrev pub counted : ReaderState → ReaderState
 counted r = record r { lines = if nat_lt 1000000 r.lines then r.lines else r.lines + 1 }
 
 -- a refused line is counted, and changes nothing else
-abbrev pub after_line : Result (Option Line) LineFault → StepReader → StepReader
+abbrev pub after_line : Result (Option Line) LineFault → ReaderState → ReaderState
 after_line (Err fault) r = counted r
 after_line (Ok None) r = counted r
 after_line (Ok (Some line)) r = counted (noted line r)
 
-abbrev pub reader_after : StepReader → List ℕ → StepReader
+abbrev pub reader_after : ReaderState → List ℕ → ReaderState
 reader_after reader bytes = after_line (line_of reader bytes) reader

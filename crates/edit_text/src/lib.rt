@@ -1,20 +1,16 @@
 //! Reads the lines of step files, and writes them.
 #![tactic(auto)]
 
-mod edits;
-mod fault;
-mod fields;
+mod intents;
 mod line;
-mod line_reader;
-mod members;
-mod names;
 mod reader;
+mod reader_state;
+mod step_name;
 mod steps;
 mod text;
 
-pub use edits::name_of;
-pub use fault::LineFault;
+pub use edit_fields::edits::name_of;
+pub use edit_fields::{ChannelEditName, EditName, GuildEditName, LineFault, RoleMemberEditName};
 pub use line::{FileKind, Line};
-pub use line_reader::LineReader as StepReader;
-pub use names::{ChannelEditName, EditName, GuildEditName, RoleMemberEditName};
-pub use reader::{MAX_LINE_BYTES, MAX_LINES};
+pub use reader::StepReader;
+pub use reader_state::{MAX_LINE_BYTES, MAX_LINES};

@@ -1,16 +1,18 @@
 //! Reads the fields of each step.
 
 ghost use Rattle.std.specs.Prelude.{◌≡◌, ◌^◌, codes};
-ghost use Rattle.json_line.specs.View.{view};
-ghost use Rattle.edit_text.specs.Fault.{UnlessMemory};
-ghost use Rattle.edit_text.specs.Fields.{number_below};
+ghost use Rattle.json_view.specs.Nodes.{view};
+ghost use Rattle.edit_fields.specs.Fault.{UnlessMemory};
+ghost use Rattle.edit_fields.specs.Fields.{number_below};
 ghost use Rattle.edit_text.specs.Lines.{bot_from, has_id, has_room, guild_from, worker_at, connection_at, edit_line_from, look_from, open_from, frame_from, lost_from, closed_from, tick_from, fields_from};
 
-use crate::fields::{id_at, intents_at, number_below, text_at};
-use crate::names::{EditName, StepName};
-use crate::{Line, LineFault, edits};
+use crate::intents::intents_at;
+use crate::step_name::StepName;
+use crate::{Line, LineFault};
 use collections::Text;
-use json_line::Node;
+use edit_fields::fields::{id_at, number_below, text_at};
+use edit_fields::{EditName, edits};
+use json_view::Node;
 use snowflake_id::Snowflake;
 use std::alloc::Global;
 

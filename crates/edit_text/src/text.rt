@@ -3,17 +3,20 @@
 ghost use Rattle.std.specs.Prelude.{◌≡◌, ◌<◌, ◌≤◌, ◌^◌, length, true, Ok, Some, IfOk, OnOk, string_bytes};
 ghost use Rattle.serde_json.specs.View.{view};
 ghost use Rattle.serde_json.specs.Written.{compact_text};
-ghost use Rattle.edit_text.specs.declared.reader.StepReader.{StepReader};
-ghost use Rattle.edit_text.specs.Fits.{IdFits, EditFits, ConnectionFits, LineFits};
-ghost use Rattle.edit_text.specs.Members.{HasPut};
+ghost use Rattle.edit_text.specs.declared.reader_state.ReaderState.{ReaderState};
+ghost use Rattle.edit_fields.specs.Fits.{IdFits, EditFits};
+ghost use Rattle.edit_text.specs.Fits.{ConnectionFits, LineFits};
+ghost use Rattle.edit_fields.specs.Members.{HasPut};
 ghost use Rattle.edit_text.specs.Lines.{line_of};
 ghost use Rattle.edit_text.specs.Written.{step_name, line_fields, line_data, allows};
 
-use crate::members::{put_id, put_intents, put_number, put_str, put_text};
-use crate::names::StepName;
-use crate::{Line, edits};
+use crate::Line;
+use crate::intents::put_intents;
+use crate::step_name::StepName;
 use collections::Text;
 use edit_apply::Edit;
+use edit_fields::edits;
+use edit_fields::members::{put_id, put_number, put_str, put_text};
 use serde_json::{Map, Value};
 use snowflake_id::Snowflake;
 use std::alloc::{AllocError, Global};
@@ -182,7 +185,7 @@ impl Line {
     /// reads it back if the text has at most 65,536 bytes.
     pub fn text(&self, alloc: Global) -> Result<String, AllocError>
         ensures text { IfOk result (λ text. string_bytes text ≡ compact_text (line_data self.now)) }
-        ensures reads_back { IfOk result (λ text. (reader : StepReader) →
+        ensures reads_back { IfOk result (λ text. (reader : ReaderState) →
             allows reader self.now ≡ true → length (string_bytes text) ≤ 65536 →
             line_of reader (string_bytes text) ≡ Ok (Some self.now)) }
     {

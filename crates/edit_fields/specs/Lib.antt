@@ -1,0 +1,13 @@
+pub mod Fault
+pub mod Fields
+pub mod Members
+pub mod Names
+pub mod GuildEdits
+pub mod RoleMemberEdits
+pub mod ChannelEdits
+pub mod ThreadEdits
+pub mod VoicePresenceEdits
+pub mod MessageEdits
+pub mod Edits
+pub mod Fits
+pub mod Within
