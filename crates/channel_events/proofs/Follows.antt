@@ -1,8 +1,7 @@
 -- A client that is told what an edit of channels owes holds the view of the record after it.
-use Rattle.std.proofs.Common.{◌≡◌, ℕ, Bool, true, false, not, ◌||◌, List, [], ◌∷◌, Option, Some, None, if◌then◌else◌, refl, sym, ap, subst, ◌∙◌, length, arith, eq-eqb}
+use Rattle.std.proofs.Common.{◌≡◌, ℕ, Bool, true, false, not, ◌||◌, List, [], ◌∷◌, Option, Some, None, if◌then◌else◌, refl, sym, ap, subst, ◌∙◌, length, eq-eqb}
 use Rattle.std.specs.Prelude.{◌==◌, ◌++◌, flat_map, is_some, option_map, All}
 use Rattle.std.proofs.lemmas.List.Elements.{All-nil}
-use Rattle.std.proofs.lemmas.Bool.Decides.{nat_tests}
 use Rattle.collections.specs.ById.{find_id, has_id, put_id, changed_id}
 use Rattle.collections.proofs.Finds.{key-found, find-put, find-changed}
 use Rattle.collections.proofs.Has.{All-found}
@@ -12,10 +11,11 @@ use Rattle.intent_set.specs.Intents.{guilds}
 use Rattle.guild_model.specs.declared.member.Member.{Member}
 use Rattle.guild_model.specs.declared.channel.Channel.{Channel}
 use Rattle.guild_model.specs.declared.channel.ChannelKind.{ChannelKind}
+use Rattle.guild_model.specs.declared.voice.Voice.{Voice}
 use Rattle.guild_model.specs.declared.verdict.Verdict.{Verdict}
 use Rattle.guild_model.specs.declared.verdict.Verdict.TheVariants.{IdTaken, UnknownChannel}
 use Rattle.guild_model.specs.Record.{Record, channel_id, thread_id}
-use Rattle.guild_model.specs.Consistent.{is_place}
+use Rattle.guild_model.specs.Consistent.{is_channel_or_thread}
 use Rattle.guild_model.specs.Ascending.{IsWell, HasOrderedOverwrites}
 use Rattle.guild_model.specs.Tests.{refused_if, first_of, too_long, too_many, unknown_channel}
 use Rattle.guild_model.proofs.Tests.{first_passes, not_refused}
@@ -32,32 +32,26 @@ use Rattle.dispatch_types.specs.declared.channels.ChannelObject.{ChannelObject}
 use Rattle.dispatch_types.specs.Objects.{channel_object}
 use Rattle.dispatch_types.specs.Fold.{Held, set_channel, fold_from}
 use Rattle.dispatch_types.proofs.Folds.{folded-here}
-use Rattle.thread_sync.specs.Seen.{visible_to}
-use Rattle.thread_sync.specs.Sync.{sync_of, sync_if_any, sync}
-use Rattle.thread_sync.specs.InChannel.{visible_in, gained_in, sync_in}
-use Rattle.thread_sync.specs.Law.{kind_in, ChangesRights, ChangesChannel}
-use Rattle.thread_sync.proofs.OneChannel.{channel_sync_is_whole}
+use Rattle.thread_sync.specs.Shown.{shown_to}
+use Rattle.thread_sync.specs.Law.{kind_in, ChangesRights}
 use Rattle.thread_sync.proofs.Sights.{channel-created-keeps, channel-changed-keeps}
 use Rattle.event_views.specs.Has.{Has}
-use Rattle.event_views.specs.Asked.{told_if}
-use Rattle.event_views.proofs.Rights.{follows-rights}
+use Rattle.event_views.specs.Synced.{synced}
+use Rattle.event_views.proofs.Rights.{sync-of, follows-rights}
 use Rattle.event_views.proofs.Steps.{same, IsOf, asked-of, append-of}
 use Rattle.event_views.specs.Ended.{voice_ends}
 use Rattle.event_views.proofs.Voices.{ended}
-use Rattle.channel_events.specs.declared.ends.ChannelNote.{ChannelNote}
-use Rattle.channel_events.specs.declared.ends.ChannelNote.TheVariants.{Nothing, Seen, Leaving}
-use Rattle.channel_events.specs.Ends.{end_of, before_end}
 use Rattle.channel_events.specs.Law.{ChannelEditKeeps}
-use Rattle.channel_events.specs.Rows.{told_of, created, updated, gone, deleted, synced_in, rights_changed, channel_row}
+use Rattle.channel_events.specs.Dispatches.{voices_in, children_of, told_of, created, updated, gone, channel_ends, deleted, rights_changed, channel_dispatches}
 use Rattle.channel_events.proofs.Puts.{puts-channel, follows-channel_put, follows-channel_changed}
 use Rattle.channel_events.proofs.Gone.{follows-gone}
 
 -- what the tests of an edit let through
-place_free : (s : Record) (e : Create) → channel_create_verdict s e ≡ None → has_id channel_id e.channel s.channels ≡ false
-place_free s e ok =
+id_free : (s : Record) (e : Create) → channel_create_verdict s e ≡ None → has_id channel_id e.channel s.channels ≡ false
+id_free s e ok =
     let later = unknown_parent s e.parent ∷ wrong_parent s e.kind e.parent ∷ too_many 500 (length s.channels) ∷ too_long 100 e.name ∷ [] in
     no_channel (has_id channel_id e.channel s.channels)
-    (not_refused (is_place s e.channel) IdTaken (first_passes (refused_if (is_place s e.channel) IdTaken) later ok).0)
+    (not_refused (is_channel_or_thread s e.channel) IdTaken (first_passes (refused_if (is_channel_or_thread s e.channel) IdTaken) later ok).0)
   where
     no_channel : (b : Bool) → (b || has_id thread_id e.channel s.threads) ≡ false → b ≡ false
     no_channel true e = absurd (cc)
@@ -90,7 +84,7 @@ module _ (s : Record) (v : Viewer) (h : Held) (me : Member) (well : IsWell s) (a
       let found : find_id channel_id e.channel t.channels ≡ Some c = found-put c s.channels in
       let ordered : HasOrderedOverwrites c = All-found channel_id HasOrderedOverwrites e.channel t.channels c after.ascending.overwrites found in
       subst (λ o. Has t v me (fold_from v.intents s.id h (told_of t v ChannelCreate o))) (sym found)
-      (follows-channel_put s v h me c t.channels refl ordered well.ascending.threads (channel-created-keeps s me c well.consistent (place_free s e ok)) asks has)
+      (follows-channel_put s v h me c t.channels refl ordered well.ascending.threads (channel-created-keeps s me c well.consistent (id_free s e ok)) asks has)
 
   module _ (channel : ℕ) (f : Channel → Channel) (c : Channel) (same_id : (c : Channel) → (f c).id ≡ c.id) (known : find_id channel_id channel s.channels ≡ Some c) (after : IsWell (with_channel_changed s channel f)) where
     abbrev pub t : Record
@@ -112,11 +106,10 @@ module _ (s : Record) (v : Viewer) (h : Held) (me : Member) (well : IsWell s) (a
         (follows-channel_changed s v h me (f c) t.channels put ordered well.ascending.threads (channel-changed-keeps s me f channel same_id overwrites) asks has)
 
     -- with other overwrites: the sync brings the threads that the update does not
-    pub follows-overwrites : ((c : Channel) → (f c).kind ≡ c.kind) → Has s v me h → Has t v me (fold_from v.intents s.id h (rights_changed t v (Seen (visible_in s me channel)) me channel))
+    pub follows-overwrites : ((c : Channel) → (f c).kind ≡ c.kind) → Has s v me h → Has t v me (fold_from v.intents s.id h (rights_changed s me t me v channel))
     follows-overwrites kinds has =
-        subst (λ (ds : List Dispatch). Has t v me (fold_from v.intents s.id h (ds ++ told_if v (sync_in (visible_in s me channel) t me channel)))) (sym update)
-        (subst (λ (d : Option Dispatch). Has t v me (fold_from v.intents s.id h (ChannelUpdate o ∷ told_if v d))) (sym whole)
-        (follows-rights s t v h me me well rights refl asks (ChannelUpdate o) (set_channel o) same (folded-here v.intents s.id h (ChannelUpdate o) refl refl) (puts-channel s v h me (f c) t.channels put ordered h.known) has))
+        subst (λ (ds : List Dispatch). Has t v me (fold_from v.intents s.id h (ds ++ synced s me t me v))) (sym update)
+        (follows-rights s t v h me me well rights refl asks (ChannelUpdate o) (set_channel o) same (folded-here v.intents s.id h (ChannelUpdate o) refl refl) (puts-channel s v h me (f c) t.channels put ordered h.known) has)
       where
         o : ChannelObject
         o = channel_object s.id (f c)
@@ -132,29 +125,12 @@ module _ (s : Record) (v : Viewer) (h : Held) (me : Member) (well : IsWell s) (a
             by_case true (Some x) = ap (λ (k : ChannelKind). Some k) (kinds x)
             by_case false x = refl
 
-        flip : (a b : ℕ) → (a == b) ≡ false → (b == a) ≡ false
-        flip a b e = grind (arith, nat_tests)
-
-        alone : ChangesChannel s t channel
-        alone = record {
-          id = refl;
-          owner = refl;
-          roles = refl;
-          threads = refl;
-          others = λ other apart.
-              find-changed channel_id channel f same_id other s.channels
-              ∙ ap (λ here. if here then option_map f (find_id channel_id other s.channels) else find_id channel_id other s.channels) (flip other channel apart);
-        }
-
-        whole : sync_in (visible_in s me channel) t me channel ≡ sync (visible_to s me) t me
-        whole = channel_sync_is_whole s t me channel well.ascending after.ascending alone
-
   pub follows-deleted : (channel : ℕ) → channel_delete_verdict s channel ≡ None
-      → Has s v me h → Has (channel_deleted s channel) v me (fold_from v.intents s.id h (deleted (channel_deleted s channel) v (before_end s (find_id channel_id channel s.channels))))
+      → Has s v me h → Has (channel_deleted s channel) v me (fold_from v.intents s.id h (deleted s (channel_deleted s channel) v (find_id channel_id channel s.channels)))
   follows-deleted channel ok has =
       let known = there s channel ok in
-      subst (λ (o : Option Channel). Has (channel_deleted s channel) v me (fold_from v.intents s.id h (deleted (channel_deleted s channel) v (before_end s o)))) (sym known.1)
-      (subst (λ id. Has (channel_deleted s id) v me (fold_from v.intents s.id h (deleted (channel_deleted s id) v (Leaving (end_of s known.0))))) (key-found channel_id channel s.channels known.0 known.1)
+      subst (λ (o : Option Channel). Has (channel_deleted s channel) v me (fold_from v.intents s.id h (deleted s (channel_deleted s channel) v o))) (sym known.1)
+      (subst (λ id. Has (channel_deleted s id) v me (fold_from v.intents s.id h (deleted s (channel_deleted s id) v (Some known.0)))) (key-found channel_id channel s.channels known.0 known.1)
       (follows-gone s v h me known.0 well.ascending asks has))
 
 -- the first test of each is that the channel is there
@@ -188,29 +164,23 @@ module _ (s : Record) (v : Viewer) where
   each-of f of [] = All-nil (IsOf s.id)
   each-of f of (x ∷ xs) = append-of s.id (f x) (flat_map f xs) (of x) (each-of f of xs)
 
-  deleted-of : (note : ChannelNote) → All (IsOf s.id) (deleted s v note)
-  deleted-of Nothing = All-nil (IsOf s.id)
-  deleted-of (Seen was) = All-nil (IsOf s.id)
-  deleted-of (Leaving end) =
-      append-of s.id (flat_map (voice_ends s.id v) end.voices) (flat_map (updated s v) end.children ++ gone s v end.channel)
-      (each-of (voice_ends s.id v) (λ x. asked-of s.id v false (ended s x) refl) end.voices)
-      (append-of s.id (flat_map (updated s v) end.children) (gone s v end.channel) (each-of (updated s v) updated-of end.children) (asked-of s.id v false (ChannelDelete (channel_object s.id end.channel)) refl))
+  ends-of : (c : Channel) (voices : List Voice) (children : List ℕ) → All (IsOf s.id) (channel_ends s v c voices children)
+  ends-of c voices children =
+      append-of s.id (flat_map (voice_ends s.id v) voices) (flat_map (updated s v) children ++ gone s v c)
+      (each-of (voice_ends s.id v) (λ x. asked-of s.id v false (ended s x) refl) voices)
+      (append-of s.id (flat_map (updated s v) children) (gone s v c) (each-of (updated s v) updated-of children) (asked-of s.id v false (ChannelDelete (channel_object s.id c)) refl))
 
-  synced-of : (note : ChannelNote) (me : Member) (channel : ℕ) → All (IsOf s.id) (synced_in s v note me channel)
-  synced-of Nothing me channel = All-nil (IsOf s.id)
-  synced-of (Leaving end) me channel = All-nil (IsOf s.id)
-  synced-of (Seen was) me channel = by_parents (gained_in was s me channel)
-    where
-      by_parents : (ps : List ℕ) → All (IsOf s.id) (told_if v (sync_if_any s me ps))
-      by_parents [] = All-nil (IsOf s.id)
-      by_parents (p ∷ ps) = asked-of s.id v false (sync_of s me (p ∷ ps)) refl
+  module _ (before : Record) (me me' : Member) where
+    deleted-of : (o : Option Channel) → All (IsOf s.id) (deleted before s v o)
+    deleted-of None = All-nil (IsOf s.id)
+    deleted-of (Some c) = ends-of c (voices_in before c.id) (children_of before c.id)
 
-  rights-of : (note : ChannelNote) (me : Member) (channel : ℕ) → All (IsOf s.id) (rights_changed s v note me channel)
-  rights-of note me channel = append-of s.id (updated s v channel) (synced_in s v note me channel) (updated-of channel) (synced-of note me channel)
+    rights-of : (channel : ℕ) → All (IsOf s.id) (rights_changed before me s me' v channel)
+    rights-of channel = append-of s.id (updated s v channel) (synced before me s me' v) (updated-of channel) (sync-of (shown_to before me) (shown_to s me') s v me'.user.id)
 
-  pub row-of : (note : ChannelNote) (me : Member) (e : ChannelEdit) → All (IsOf s.id) (channel_row note s v me e)
-  row-of note me (edit.ChannelCreate e) = told-of ChannelCreate (λ c. refl) (find_id channel_id e.channel s.channels)
-  row-of note me (edit.ChannelUpdate e) = updated-of e.channel
-  row-of note me (edit.ChannelDelete channel) = deleted-of note
-  row-of note me (edit.OverwriteSet e) = rights-of note me e.channel
-  row-of note me (edit.OverwriteDelete e) = rights-of note me e.channel
+    pub dispatches-of : (e : ChannelEdit) → All (IsOf s.id) (channel_dispatches before me s me' v e)
+    dispatches-of (edit.ChannelCreate e) = told-of ChannelCreate (λ c. refl) (find_id channel_id e.channel s.channels)
+    dispatches-of (edit.ChannelUpdate e) = updated-of e.channel
+    dispatches-of (edit.ChannelDelete channel) = deleted-of (find_id channel_id channel before.channels)
+    dispatches-of (edit.OverwriteSet e) = rights-of e.channel
+    dispatches-of (edit.OverwriteDelete e) = rights-of e.channel

@@ -33,9 +33,7 @@ use Rattle.thread_sync.proofs.Sights.{same-sight, channel-gone}
 use Rattle.event_views.specs.Has.{Has}
 use Rattle.event_views.proofs.Steps.{same, whole, by_guilds, fold-append}
 use Rattle.event_views.proofs.Voices.{follows-voice_gone}
-use Rattle.channel_events.specs.declared.ends.ChannelNote.TheVariants.{Leaving}
-use Rattle.channel_events.specs.Ends.{speaks_in, is_child, voices_in, children_of, end_of}
-use Rattle.channel_events.specs.Rows.{told_of, updated, gone, deleted}
+use Rattle.channel_events.specs.Dispatches.{speaks_in, is_child, voices_in, children_of, told_of, updated, gone, deleted}
 use Rattle.event_views.specs.Ended.{voice_ends}
 use Rattle.channel_events.proofs.Puts.{with_channels, follows-channel_changed}
 
@@ -209,7 +207,7 @@ module _ (s : Record) (channel : ℕ) (ascends : IsAscending s) where
 -- ---- the channel itself
 
 pub follows-gone : (s : Record) (v : Viewer) (h : Held) (me : Member) (c : Channel) → IsAscending s → has_bit v.intents guilds ≡ true
-    → Has s v me h → Has (channel_deleted s c.id) v me (fold_from v.intents s.id h (deleted (channel_deleted s c.id) v (Leaving (end_of s c))))
+    → Has s v me h → Has (channel_deleted s c.id) v me (fold_from v.intents s.id h (deleted s (channel_deleted s c.id) v (Some c)))
 follows-gone s v h me c ascends asks has =
     subst (λ (k : Held). Has t v me k) (sym (fold-append v.intents s.id h silenced (orphans ++ gone t v c) ∙ fold-append v.intents s.id told_left orphans (gone t v c)))
     (by_guilds t v s.id told_orphans me false (ChannelDelete (channel_object s.id c)) asks refl

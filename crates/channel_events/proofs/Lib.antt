@@ -1,3 +1,4 @@
 pub mod Puts
 pub mod Gone
 pub mod Follows
+pub mod Noted

@@ -1,30 +1,16 @@
 -- What has to be known of the record before an edit of channels or overwrites.
-use Rattle.std.specs.Prelude.{ℕ, List, map, filter, Bool, false, ◌==◌, Option, Some, None}
-use Rattle.std.specs.Option.{option_map_or}
+use Rattle.std.specs.Prelude.{ℕ, Option, Some, None}
 use Rattle.collections.specs.ById.{find_id}
 use Rattle.guild_model.specs.declared.member.Member.{Member}
 use Rattle.guild_model.specs.declared.channel.Channel.{Channel}
-use Rattle.guild_model.specs.declared.voice.Voice.{Voice}
 use Rattle.guild_model.specs.Record.{Record, channel_id}
 use Rattle.channel_edit.specs.declared.ChannelEdit.{ChannelEdit}
 use Rattle.channel_edit.specs.declared.ChannelEdit.TheVariants.{ChannelCreate, ChannelUpdate, ChannelDelete, OverwriteSet, OverwriteDelete}
-use Rattle.thread_sync.specs.InChannel.{visible_in}
+use Rattle.thread_sync.specs.ChannelSights.{sight_of}
 use Rattle.channel_events.specs.declared.ends.ChannelEnd.{ChannelEnd}
 use Rattle.channel_events.specs.declared.ends.ChannelNote.{ChannelNote}
-use Rattle.channel_events.specs.declared.ends.ChannelNote.TheVariants.{Nothing, Seen, Leaving}
-
--- a voice state in a channel, and a channel whose parent it is
-abbrev pub speaks_in : ℕ → Voice → Bool
-speaks_in channel v = v.channel == channel
-
-abbrev pub is_child : ℕ → Channel → Bool
-is_child channel c = option_map_or (λ parent. parent == channel) c.parent false
-
-abbrev pub voices_in : Record → ℕ → List Voice
-voices_in s channel = filter (speaks_in channel) s.voices
-
-abbrev pub children_of : Record → ℕ → List ℕ
-children_of s channel = map channel_id (filter (is_child channel) s.channels)
+use Rattle.channel_events.specs.declared.ends.ChannelNote.TheVariants.{Nothing, Sight, Leaving}
+use Rattle.channel_events.specs.Dispatches.{voices_in, children_of}
 
 -- of a channel that is deleted: the channel, the voice states in it, and its children
 abbrev pub end_of : Record → Channel → ChannelEnd
@@ -34,9 +20,9 @@ abbrev pub before_end : Record → Option Channel → ChannelNote
 before_end s None = Nothing
 before_end s (Some c) = Leaving (end_of s c)
 
--- of a change of overwrites: what the viewer saw of the channel, since nothing else comes into sight
+-- of a change of overwrites: the sight of the channel, since nothing else comes into sight
 abbrev pub before_overwrites : Record → Member → ℕ → ChannelNote
-before_overwrites s me channel = Seen (visible_in s me channel)
+before_overwrites s me channel = Sight (sight_of s me channel)
 
 abbrev pub channel_note : Record → Member → ChannelEdit → ChannelNote
 channel_note s me (ChannelCreate edit) = Nothing

@@ -1,3 +1,4 @@
+pub mod Dispatches
 pub mod Ends
-pub mod Rows
+pub mod ByNote
 pub mod Law

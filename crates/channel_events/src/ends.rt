@@ -3,14 +3,15 @@
 ghost use Rattle.std.specs.Prelude.{◌≡◌, IfOk, map, filter};
 ghost use Rattle.collections.specs.ById.{find_id};
 ghost use Rattle.guild_model.specs.Record.{channel_id};
-ghost use Rattle.channel_events.specs.Ends.{speaks_in, is_child, end_of, before_end, before_overwrites, channel_note};
+ghost use Rattle.channel_events.specs.Dispatches.{speaks_in, is_child};
+ghost use Rattle.channel_events.specs.Ends.{end_of, before_end, before_overwrites, channel_note};
 
 use channel_edit::ChannelEdit;
 use collections::{Duplicate, Seq};
 use guild_model::{Channel, Guild, Member, Voice};
 use snowflake_id::Snowflake;
 use std::alloc::{AllocError, Global};
-use thread_sync::{Seen, visible_in};
+use thread_sync::{ChannelSight, sight_of};
 
 /// A channel that is deleted.
 #[derive(Drop)]
@@ -23,13 +24,13 @@ pub struct ChannelEnd {
     pub children: Seq<Snowflake>,
 }
 
-/// What [`row`](crate::row) has to know of the record before an edit.
+/// What [`add_dispatches`](crate::add_dispatches) has to know of the record before an edit.
 #[derive(Drop)]
 pub enum ChannelNote {
     /// Nothing: no channel is deleted, and no overwrites change.
     Nothing,
-    /// What the viewer saw of the channel whose overwrites change, and of its threads.
-    Seen(Seen),
+    /// What the viewer's member was granted in the channel whose overwrites change.
+    Sight(ChannelSight),
     /// The channel that is deleted.
     Leaving(ChannelEnd),
 }
@@ -80,19 +81,13 @@ fn before_end(alloc: Global, before: &Guild, channel: Snowflake) -> Result<Chann
     }
 }
 
-fn before_overwrites(
-    alloc: Global,
-    before: &Guild,
-    me: &Member,
-    channel: Snowflake,
-) -> Result<ChannelNote, AllocError>
-    ensures { IfOk result (λ note. note ≡ before_overwrites before.now me.now channel) }
+fn before_overwrites(before: &Guild, me: &Member, channel: Snowflake) -> ChannelNote
+    ensures { result ≡ before_overwrites before.now me.now channel }
 {
-    let seen = visible_in(alloc, before, me, channel)?;
-    Ok(ChannelNote::Seen(seen))
+    ChannelNote::Sight(sight_of(before, me, channel))
 }
 
-/// Keeps what [`row`](crate::row) has to know of the record before an edit, where the viewer's own
+/// Keeps what [`add_dispatches`](crate::add_dispatches) has to know of the record before an edit, where the viewer's own
 /// member is `me`.
 pub fn note(
     alloc: Global,
@@ -105,7 +100,7 @@ pub fn note(
     match edit {
         ChannelEdit::ChannelCreate(_) | ChannelEdit::ChannelUpdate(_) => Ok(ChannelNote::Nothing),
         ChannelEdit::ChannelDelete { channel } => before_end(alloc, before, *channel),
-        ChannelEdit::OverwriteSet(edit) => before_overwrites(alloc, before, me, edit.channel),
-        ChannelEdit::OverwriteDelete(edit) => before_overwrites(alloc, before, me, edit.channel),
+        ChannelEdit::OverwriteSet(edit) => Ok(before_overwrites(before, me, edit.channel)),
+        ChannelEdit::OverwriteDelete(edit) => Ok(before_overwrites(before, me, edit.channel)),
     }
 }

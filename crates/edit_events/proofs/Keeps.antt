@@ -1,6 +1,6 @@
 -- After what an edit owes, a client holds the projection of the record after it.
 use Rattle.std.proofs.Common.{◌≡◌, ℕ, Bool, true, false, List, [], ◌∷◌, ◌++◌, Option, Some, None, if◌then◌else◌, refl, sym, ap, subst, ◌∙◌}
-use Rattle.std.specs.Prelude.{◌&&◌, not, is_some}
+use Rattle.std.specs.Prelude.{◌&&◌, not}
 use Rattle.std.specs.Option.{is_none}
 use Rattle.collections.specs.ById.{find_id}
 use Rattle.perm_bits.specs.Bits.{has_bit}
@@ -22,19 +22,14 @@ use Rattle.dispatch_types.specs.Fold.{Held, if_unavailable, on_open, purged, fol
 use Rattle.dispatch_types.proofs.Folds.{folded-here}
 use Rattle.dispatch_types.proofs.Views.{projection-blind, projection-unserved, projection-open}
 use Rattle.edit_events.proofs.Out.{projection-out}
-use Rattle.guild_model.specs.Sight.{standing}
-use Rattle.thread_sync.specs.ChannelSights.{sights}
-use Rattle.thread_sync.specs.Seen.{visible_to}
-use Rattle.thread_sync.specs.Sync.{sync}
-use Rattle.thread_sync.specs.BySights.{sync_by}
-use Rattle.thread_sync.proofs.Rights.{rights_sync_is_whole}
-use Rattle.event_views.specs.Asked.{asked, told_if}
+use Rattle.event_views.specs.Asked.{asked}
+use Rattle.event_views.specs.Synced.{synced}
 use Rattle.event_views.specs.Has.{Has}
 use Rattle.event_views.proofs.Steps.{same, whole, by_guilds, by_asked_then}
 use Rattle.event_views.proofs.Rights.{follows-rights}
 use Rattle.event_views.proofs.Blind.{IsBlind, blind-fold}
-use Rattle.guild_model.specs.declared.presence.Activity.{Activity}
-use Rattle.guild_model.specs.Statuses.{status_activity}
+use Rattle.guild_model.specs.declared.presence.ShownStatus.{ShownStatus}
+use Rattle.guild_model.specs.Statuses.{status_shown}
 use Rattle.role_member_edit.specs.declared.RoleMemberEdit.{RoleMemberEdit}
 use Rattle.role_member_edit.specs.declared.RoleMemberEdit.TheVariants.{RoleCreate, RoleUpdate, RoleDelete, MemberAdd, MemberRemove, MemberNick, MemberTimeout, MemberRoleAdd, MemberRoleRemove}
 use Rattle.role_member_edit.specs.RoleMember.{role_member_verdict, role_member_applied}
@@ -42,25 +37,23 @@ use Rattle.role_member_events.proofs.Follows.{follows-role_member}
 use Rattle.channel_edit.specs.declared.ChannelEdit.{ChannelEdit}
 use Rattle.channel_edit.specs.declared.ChannelEdit.TheVariants.{ChannelCreate, ChannelUpdate, ChannelDelete, OverwriteSet, OverwriteDelete}
 use Rattle.channel_edit.specs.ChannelEdits.{channel_verdict, channel_applied}
-use Rattle.channel_events.specs.Ends.{channel_note}
-use Rattle.channel_events.specs.Rows.{channel_row}
+use Rattle.channel_events.specs.Dispatches.{channel_dispatches}
 use Rattle.channel_events.proofs.Follows.{follows-channel}
 use Rattle.thread_edit.specs.declared.ThreadEdit.{ThreadEdit}
 use Rattle.thread_edit.specs.declared.ThreadEdit.TheVariants.{ThreadCreate, ThreadRename, ThreadArchive, ThreadUnarchive, ThreadDelete, ThreadJoin, ThreadLeave}
 use Rattle.thread_edit.specs.ThreadEdits.{thread_verdict, thread_applied}
-use Rattle.thread_events.specs.Ends.{thread_note}
-use Rattle.thread_events.specs.Rows.{thread_row}
+use Rattle.thread_events.specs.Dispatches.{thread_dispatches}
 use Rattle.thread_events.proofs.Follows.{follows-thread}
 use Rattle.voice_presence.specs.declared.VoicePresenceEdit.{VoicePresenceEdit}
 use Rattle.voice_presence.specs.declared.VoicePresenceEdit.TheVariants.{VoiceSet, PresenceSet}
 use Rattle.voice_presence.specs.Voices.{with_voice}
-use Rattle.voice_presence.specs.Presences.{with_activity}
+use Rattle.voice_presence.specs.Presences.{with_shown_status}
 use Rattle.voice_presence.specs.VoicePresence.{voice_presence_verdict, voice_presence_applied}
-use Rattle.voice_presence_events.specs.Rows.{voice_presence_row}
+use Rattle.voice_presence_events.specs.Dispatches.{voice_presence_dispatches}
 use Rattle.voice_presence_events.proofs.Follows.{follows-voice_presence}
 use Rattle.message_edit.specs.MessageEdits.{message_verdict, message_applied}
 use Rattle.message_events.specs.Notes.{message_note}
-use Rattle.message_events.specs.Rows.{message_row}
+use Rattle.message_events.specs.Dispatches.{message_dispatches}
 use Rattle.message_events.proofs.Follows.{message-here, message-served, follows-message}
 use Rattle.edit_apply.specs.declared.guild.GuildOpen.{GuildOpen as Opening}
 use Rattle.edit_apply.specs.declared.guild.GuildEdit.TheVariants.{GuildOpen, GuildRename, GuildOwner, GuildOutage, GuildBack}
@@ -70,11 +63,10 @@ use Rattle.edit_apply.specs.Guilds.{out_of_service, guild_opened}
 use Rattle.edit_apply.specs.Edits.{verdict, applied, after, after_verdict}
 use Rattle.edit_apply.proofs.Well.{keeps}
 use Rattle.edit_events.specs.Greeting.{greeting}
-use Rattle.edit_events.specs.Was.{note_of}
-use Rattle.edit_events.specs.Due.{guild_gone, guild_updated, row, due_to, due, owed}
+use Rattle.edit_events.specs.Due.{guild_gone, guild_updated, dispatches, due_to, due_of_accepted, due}
 use Rattle.edit_events.specs.Law.{Agrees, EditKeeps}
 use Rattle.edit_events.proofs.Greets.{greets, served-found}
-use Rattle.edit_events.proofs.Others.{id-kept, row-of}
+use Rattle.edit_events.proofs.Others.{id-kept, dispatches-of}
 
 -- ---- what the tests of an accepted edit say
 
@@ -136,11 +128,11 @@ falls-out t v h me bot none is out = by_intents (has_bit v.intents guilds) refl
 -- what is to be shown of each edit
 abbrev Follows : Record → Viewer → Held → Edit → Type 0
 Follows s v h e = (me me' : Member) → served v s ≡ Some me → served v (applied s e) ≡ Some me' → has_bit v.intents guilds ≡ true
-    → Has s v me h → Has (applied s e) v me' (fold_from v.intents s.id h (row (note_of s (Some me) e) (applied s e) v me' e))
+    → Has s v me h → Has (applied s e) v me' (fold_from v.intents s.id h (dispatches s me (applied s e) me' v e))
 
 -- where a guild is available before and after
 in_view : (s : Record) (v : Viewer) (h : Held) (e : Edit) → IsWell (applied s e) → s.outage ≡ false → (applied s e).outage ≡ false → Follows s v h e
-    → Agrees s v h → Agrees (applied s e) v (fold_from v.intents s.id h (due s e v))
+    → Agrees s v h → Agrees (applied s e) v (fold_from v.intents s.id h (due_of_accepted s e v))
 in_view s v h e well' here here' follows agrees = by_members (served v s) (served v (applied s e)) refl refl
   where
     blind : has_bit v.intents guilds ≡ false → h.view ≡ None
@@ -150,16 +142,16 @@ in_view s v h e well' here here' follows agrees = by_members (served v s) (serve
     at_id : (ds : List Dispatch) → Agrees (applied s e) v (fold_from v.intents (applied s e).id h ds) → Agrees (applied s e) v (fold_from v.intents s.id h ds)
     at_id ds = subst (λ g. Agrees (applied s e) v (fold_from v.intents g h ds)) (id-kept s e)
 
-    by_intents : (me me' : Member) → served v s ≡ Some me → served v (applied s e) ≡ Some me' → (b : Bool) → has_bit v.intents guilds ≡ b → Agrees (applied s e) v (fold_from v.intents s.id h (row (note_of s (Some me) e) (applied s e) v me' e))
+    by_intents : (me me' : Member) → served v s ≡ Some me → served v (applied s e) ≡ Some me' → (b : Bool) → has_bit v.intents guilds ≡ b → Agrees (applied s e) v (fold_from v.intents s.id h (dispatches s me (applied s e) me' v e))
     by_intents me me' is is' true asks =
         let has = follows me me' is is' asks (record { bot = agrees.bot; view = agrees.view ∙ projection-open s v h.known me asks is here }) in
-        record { bot = has.bot; view = has.view ∙ sym (projection-open (applied s e) v (fold_from v.intents s.id h (row (note_of s (Some me) e) (applied s e) v me' e)).known me' asks is' here') }
+        record { bot = has.bot; view = has.view ∙ sym (projection-open (applied s e) v (fold_from v.intents s.id h (dispatches s me (applied s e) me' v e)).known me' asks is' here') }
     by_intents me me' is is' false lacks =
-        at_id (row (note_of s (Some me) e) (applied s e) v me' e)
-        (blind-agrees (applied s e) v (fold_from v.intents (applied s e).id h (row (note_of s (Some me) e) (applied s e) v me' e)) lacks
-        (blind-fold v.intents (applied s e).id lacks v.user (applied s e).id h (row (note_of s (Some me) e) (applied s e) v me' e) (row-of (applied s e) v (note_of s (Some me) e) me' e) (blind-before s v h lacks agrees)))
+        at_id (dispatches s me (applied s e) me' v e)
+        (blind-agrees (applied s e) v (fold_from v.intents (applied s e).id h (dispatches s me (applied s e) me' v e)) lacks
+        (blind-fold v.intents (applied s e).id lacks v.user (applied s e).id h (dispatches s me (applied s e) me' v e) (dispatches-of s me (applied s e) me' v e) (blind-before s v h lacks agrees)))
 
-    by_members : (o o' : Option Member) → served v s ≡ o → served v (applied s e) ≡ o' → Agrees (applied s e) v (fold_from v.intents s.id h (due_to (applied s e) v (is_some o) (note_of s o e) o' e))
+    by_members : (o o' : Option Member) → served v s ≡ o → served v (applied s e) ≡ o' → Agrees (applied s e) v (fold_from v.intents s.id h (due_to s o (applied s e) o' v e))
     by_members None None is is' = stays-away s (applied s e) v h is is' agrees
     by_members None (Some me') is is' = at_id (asked v false (GuildCreate (greeting (applied s e) v me'))) (comes (applied s e) v h me' well'.ascending here' agrees.bot blind is')
     by_members (Some me) None is is' = at_id (guild_gone (applied s e).id v false) (goes (applied s e) v h agrees.bot blind is')
@@ -170,7 +162,7 @@ in_view s v h e well' here here' follows agrees = by_members (served v s) (serve
 -- a guild that opens has served nobody
 keeps-opened : (s : Record) (v : Viewer) (h : Held) (opening : Opening) → IsWell s
     → IsWell (guild_opened s opening) → verdict s (edit.Guild (GuildOpen opening)) ≡ None → Agrees s v h
-    → Agrees (guild_opened s opening) v (fold_from v.intents s.id h (due s (edit.Guild (GuildOpen opening)) v))
+    → Agrees (guild_opened s opening) v (fold_from v.intents s.id h (due_of_accepted s (edit.Guild (GuildOpen opening)) v))
 keeps-opened s v h opening well after ok agrees =
     in_view s v h (edit.Guild (GuildOpen opening)) after here here (λ me me' is is' asks has. absurd (cc (shut-out, is))) agrees
   where
@@ -196,23 +188,22 @@ follows-owner s v h user well me me' is is' asks has =
     let t : Record = record s { owner = user } in
     let update : Dispatch = GuildUpdate (record { id = s.id; name = s.name; owner = user }) in
     let mine : me ≡ me' = cc in
-    subst (λ (m : Member). Has (record s { owner = user }) v m (fold_from v.intents s.id h (guild_updated (record s { owner = user }) v ++ told_if v (sync_by (sights (standing s me)) (record s { owner = user }) m)))) mine
-    (subst (λ o. Has t v me (fold_from v.intents s.id h (guild_updated t v ++ told_if v o))) (sym (rights_sync_is_whole s t me me well.ascending refl))
-    (by_asked_then t v s.id h me false update (told_if v (sync (visible_to s me) t me))
+    subst (λ (m : Member). Has (record s { owner = user }) v m (fold_from v.intents s.id h (guild_updated (record s { owner = user }) v ++ synced s me (record s { owner = user }) m v))) mine
+    (by_asked_then t v s.id h me false update (synced s me t me v)
     (λ e. follows-rights s t v h me me well (record { id = refl; channels = λ c. refl; threads = refl }) refl asks update (λ w. record w { name = s.name; owner = user }) same (folded-here v.intents s.id h update refl refl) refl has)
-    (λ e. absurd (cc))))
+    (λ e. absurd (cc)))
 
-keeps-outage : (s : Record) (v : Viewer) (h : Held) → Agrees s v h → Agrees (record s { outage = true }) v (fold_from v.intents s.id h (due s (edit.Guild GuildOutage) v))
+keeps-outage : (s : Record) (v : Viewer) (h : Held) → Agrees s v h → Agrees (record s { outage = true }) v (fold_from v.intents s.id h (due_of_accepted s (edit.Guild GuildOutage) v))
 keeps-outage s v h agrees = by_member (served v s) refl
   where
-    by_member : (o : Option Member) → served v s ≡ o → Agrees (record s { outage = true }) v (fold_from v.intents s.id h (due_to (record s { outage = true }) v (is_some o) (note_of s o (edit.Guild GuildOutage)) o (edit.Guild GuildOutage)))
+    by_member : (o : Option Member) → served v s ≡ o → Agrees (record s { outage = true }) v (fold_from v.intents s.id h (due_to s o (record s { outage = true }) o v (edit.Guild GuildOutage)))
     by_member None is = stays-away s (record s { outage = true }) v h is is agrees
     by_member (Some me) is = falls-out (record s { outage = true }) v h me agrees.bot (λ lacks. agrees.view ∙ projection-blind s v h.known lacks) is refl
 
-keeps-back : (s : Record) (v : Viewer) (h : Held) → IsWell (record s { outage = false }) → Agrees s v h → Agrees (record s { outage = false }) v (fold_from v.intents s.id h (due s (edit.Guild GuildBack) v))
+keeps-back : (s : Record) (v : Viewer) (h : Held) → IsWell (record s { outage = false }) → Agrees s v h → Agrees (record s { outage = false }) v (fold_from v.intents s.id h (due_of_accepted s (edit.Guild GuildBack) v))
 keeps-back s v h after agrees = by_member (served v s) refl
   where
-    by_member : (o : Option Member) → served v s ≡ o → Agrees (record s { outage = false }) v (fold_from v.intents s.id h (due_to (record s { outage = false }) v (is_some o) (note_of s o (edit.Guild GuildBack)) o (edit.Guild GuildBack)))
+    by_member : (o : Option Member) → served v s ≡ o → Agrees (record s { outage = false }) v (fold_from v.intents s.id h (due_to s o (record s { outage = false }) o v (edit.Guild GuildBack)))
     by_member None is = stays-away s (record s { outage = false }) v h is is agrees
     by_member (Some me) is = comes (record s { outage = false }) v h me after.ascending refl agrees.bot (λ lacks. agrees.view ∙ projection-blind s v h.known lacks) is
 
@@ -224,11 +215,11 @@ voice_presence-here s (VoiceSet set) = by_channel set.channel
     by_channel : (o : Option ℕ) → (with_voice s set o).outage ≡ s.outage
     by_channel None = refl
     by_channel (Some channel) = refl
-voice_presence-here s (PresenceSet set) = by_activity (status_activity set.status)
+voice_presence-here s (PresenceSet set) = by_shown (status_shown set.status)
   where
-    by_activity : (a : Option Activity) → (with_activity s set.user a).outage ≡ s.outage
-    by_activity None = refl
-    by_activity (Some a) = refl
+    by_shown : (a : Option ShownStatus) → (with_shown_status s set.user a).outage ≡ s.outage
+    by_shown None = refl
+    by_shown (Some a) = refl
 
 voice_presence-served : (s : Record) (e : VoicePresenceEdit) (v : Viewer) → served v (voice_presence_applied s e) ≡ served v s
 voice_presence-served s (VoiceSet set) v = by_channel set.channel
@@ -236,11 +227,11 @@ voice_presence-served s (VoiceSet set) v = by_channel set.channel
     by_channel : (o : Option ℕ) → served v (with_voice s set o) ≡ served v s
     by_channel None = refl
     by_channel (Some channel) = refl
-voice_presence-served s (PresenceSet set) v = by_activity (status_activity set.status)
+voice_presence-served s (PresenceSet set) v = by_shown (status_shown set.status)
   where
-    by_activity : (a : Option Activity) → served v (with_activity s set.user a) ≡ served v s
-    by_activity None = refl
-    by_activity (Some a) = refl
+    by_shown : (a : Option ShownStatus) → served v (with_shown_status s set.user a) ≡ served v s
+    by_shown None = refl
+    by_shown (Some a) = refl
 
 role_member-here : (s : Record) (e : RoleMemberEdit) → (role_member_applied s e).outage ≡ s.outage
 role_member-here s (RoleCreate body) = refl
@@ -260,7 +251,7 @@ channel-here s (ChannelDelete channel) = refl
 channel-here s (OverwriteSet set) = refl
 channel-here s (OverwriteDelete delete) = refl
 
-channel-served : (s : Record) (e : ChannelEdit) (v : Viewer) → served v (channel_applied s e) ≡ served v s
+pub channel-served : (s : Record) (e : ChannelEdit) (v : Viewer) → served v (channel_applied s e) ≡ served v s
 channel-served s (ChannelCreate create) v = refl
 channel-served s (ChannelUpdate update) v = refl
 channel-served s (ChannelDelete channel) v = refl
@@ -285,7 +276,7 @@ thread-served s (ThreadDelete thread) v = refl
 thread-served s (ThreadJoin join) v = refl
 thread-served s (ThreadLeave leave) v = refl
 
-keeps-applied : (s : Record) (e : Edit) (v : Viewer) (h : Held) → IsWell s → IsWell (applied s e) → verdict s e ≡ None → Agrees s v h → Agrees (applied s e) v (fold_from v.intents s.id h (due s e v))
+keeps-applied : (s : Record) (e : Edit) (v : Viewer) (h : Held) → IsWell s → IsWell (applied s e) → verdict s e ≡ None → Agrees s v h → Agrees (applied s e) v (fold_from v.intents s.id h (due_of_accepted s e v))
 keeps-applied s (edit.Guild (GuildOpen opening)) v h well after ok agrees = keeps-opened s v h opening well after ok agrees
 keeps-applied s (edit.Guild (GuildRename name)) v h well after ok agrees =
     let here = in_service s (first_passes (out_of_service s) (too_long 100 name ∷ []) ok).0 in
@@ -307,7 +298,7 @@ keeps-applied s (edit.Channel e) v h well after ok agrees =
     (λ me me' is is' asks has.
     let same_me : Some me ≡ Some me' = sym is ∙ (sym (channel-served s e v) ∙ is') in
     let mine : me ≡ me' = cc in
-    subst (λ (m : Member). Has (channel_applied s e) v m (fold_from v.intents s.id h (channel_row (channel_note s me e) (channel_applied s e) v m e))) mine
+    subst (λ (m : Member). Has (channel_applied s e) v m (fold_from v.intents s.id h (channel_dispatches s me (channel_applied s e) m v e))) mine
     (follows-channel s v h me e well after here.0 (first_passes (channel_verdict s e) [] tests.1).0 (served-found v s me is) asks has)) agrees
 keeps-applied s (edit.Thread e) v h well after ok agrees =
     let tests = first_passes (out_of_service s) (thread_verdict s e ∷ []) ok in
@@ -316,7 +307,7 @@ keeps-applied s (edit.Thread e) v h well after ok agrees =
     (λ me me' is is' asks has.
     let same_me : Some me ≡ Some me' = sym is ∙ (sym (thread-served s e v) ∙ is') in
     let mine : me ≡ me' = cc in
-    subst (λ (m : Member). Has (thread_applied s e) v m (fold_from v.intents s.id h (thread_row (thread_note s me e) (thread_applied s e) v m e))) mine
+    subst (λ (m : Member). Has (thread_applied s e) v m (fold_from v.intents s.id h (thread_dispatches s me (thread_applied s e) m v e))) mine
     (follows-thread s v h me e well after here.0 (first_passes (thread_verdict s e) [] tests.1).0 (served-found v s me is) asks has)) agrees
 keeps-applied s (edit.VoicePresence e) v h well after ok agrees =
     let tests = first_passes (out_of_service s) (voice_presence_verdict s e ∷ []) ok in
@@ -325,7 +316,7 @@ keeps-applied s (edit.VoicePresence e) v h well after ok agrees =
     (λ me me' is is' asks has.
     let same_me : Some me ≡ Some me' = sym is ∙ (sym (voice_presence-served s e v) ∙ is') in
     let mine : me ≡ me' = cc in
-    subst (λ (m : Member). Has (voice_presence_applied s e) v m (fold_from v.intents s.id h (voice_presence_row (voice_presence_applied s e) v e))) mine
+    subst (λ (m : Member). Has (voice_presence_applied s e) v m (fold_from v.intents s.id h (voice_presence_dispatches (voice_presence_applied s e) v e))) mine
     (follows-voice_presence s v h me e has)) agrees
 keeps-applied s (edit.Message e) v h well after ok agrees =
     let tests = first_passes (out_of_service s) (message_verdict s e ∷ []) ok in
@@ -334,13 +325,13 @@ keeps-applied s (edit.Message e) v h well after ok agrees =
     (λ me me' is is' asks has.
     let same_me : Some me ≡ Some me' = sym is ∙ (sym (message-served s e v) ∙ is') in
     let mine : me ≡ me' = cc in
-    subst (λ (m : Member). Has (message_applied s e) v m (fold_from v.intents s.id h (message_row (message_applied s e) v (message_note s e) e))) mine
+    subst (λ (m : Member). Has (message_applied s e) v m (fold_from v.intents s.id h (message_dispatches (message_applied s e) v (message_note s e) e))) mine
     (follows-message s v h me e has)) agrees
 
 pub edit_keeps : EditKeeps
-unfolding owed
+unfolding due
 edit_keeps s e v h well agrees = by_verdict (verdict s e) refl (keeps s e well)
   where
-    by_verdict : (o : Option Verdict) → verdict s e ≡ o → IsWell (after_verdict o s e) → Agrees (after_verdict o s e) v (fold_from v.intents s.id h (if is_none o then due s e v else []))
+    by_verdict : (o : Option Verdict) → verdict s e ≡ o → IsWell (after_verdict o s e) → Agrees (after_verdict o s e) v (fold_from v.intents s.id h (if is_none o then due_of_accepted s e v else []))
     by_verdict None ok after = keeps-applied s e v h well after ok agrees
     by_verdict (Some x) ok after = agrees

@@ -4,3 +4,4 @@ pub mod Keeps
 pub mod Others
 pub mod Messages
 pub mod SameForms
+pub mod Noted

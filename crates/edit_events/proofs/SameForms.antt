@@ -1,4 +1,4 @@
--- Viewers of one form are owed the same.
+-- Viewers of one form are due the same.
 use Rattle.std.proofs.Common.{◌≡◌, Option, Some, None, refl, sym, ◌∙◌}
 use Rattle.std.specs.Prelude.{is_some}
 use Rattle.guild_model.specs.declared.member.Member.{Member}
@@ -8,7 +8,7 @@ use Rattle.dispatch_types.specs.declared.viewer.Viewer.{Viewer}
 use Rattle.dispatch_types.specs.Serves.{served}
 use Rattle.message_events.specs.declared.forms.MessageForm.{MessageForm}
 use Rattle.message_events.specs.Notes.{message_note}
-use Rattle.message_events.specs.Rows.{message_row}
+use Rattle.message_events.specs.Dispatches.{message_dispatches}
 use Rattle.message_events.specs.Forms.{message_form}
 use Rattle.message_events.proofs.Alike.{form-decides}
 use Rattle.edit_apply.specs.declared.Edit.TheVariants as edit
@@ -16,11 +16,11 @@ use Rattle.edit_events.specs.Due.{due_to}
 use Rattle.edit_events.specs.Forms.{form_to, FormIsDue}
 use Rattle.edit_events.specs.Was.{note_of}
 
--- one with a form is owed the row of the edit
+-- one with a form is due the dispatches of the edit
 formed : (s after : Record) (v : Viewer) (e : MessageEdit) (f : MessageForm) (o o' : Option Member)
     → form_to after v (edit.Message e) (note_of s o (edit.Message e)) (is_some o) o' ≡ Some f
     → (message_form after v (message_note s e) e ≡ f)
-    × (due_to after v (is_some o) (note_of s o (edit.Message e)) o' (edit.Message e) ≡ message_row after v (message_note s e) e)
+    × (due_to s o after o' v (edit.Message e) ≡ message_dispatches after v (message_note s e) e)
 formed s after v e f (Some me) (Some me') is = (cc, refl)
 formed s after v e f (Some me) None is = absurd (cc)
 formed s after v e f None o' is = absurd (cc)

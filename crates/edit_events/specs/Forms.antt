@@ -1,5 +1,5 @@
 -- How an edit of messages is told a viewer that is served before and after it (Gateway Events, Receive
--- Events), and who is owed the same.
+-- Events), and who is due the same.
 use Rattle.std.specs.Prelude.{◌≡◌, Bool, true, Option, Some, None}
 use Rattle.guild_model.specs.declared.member.Member.{Member}
 use Rattle.guild_model.specs.Record.{Record}
@@ -12,7 +12,7 @@ use Rattle.edit_apply.specs.declared.Edit.TheVariants as edit
 use Rattle.edit_events.specs.declared.due.Before.{Before}
 use Rattle.edit_events.specs.declared.due.Before.TheVariants.{Message}
 use Rattle.edit_events.specs.declared.due.Was.{Was}
-use Rattle.edit_events.specs.Due.{due_between}
+use Rattle.edit_events.specs.Due.{due_to}
 use Rattle.edit_events.specs.Was.{was_of}
 
 abbrev pub form_to : Record → Viewer → Edit → Before → Bool → Option Member → Option MessageForm
@@ -27,8 +27,8 @@ form_between after v was me e = form_to after v e was.note was.served me
 abbrev pub form_after : Record → Record → Edit → Viewer → Option MessageForm
 form_after s after e v = form_between after v (was_of s v e) (served v after) e
 
--- viewers of one form are owed the same
+-- viewers of one form are due the same
 abbrev pub FormIsDue : Type 0
 FormIsDue = (s after : Record) (e : Edit) (v w : Viewer) (f : MessageForm)
     → form_after s after e v ≡ Some f → form_after s after e w ≡ Some f
-    → due_between after v (was_of s v e) (served v after) e ≡ due_between after w (was_of s w e) (served w after) e
+    → due_to s (served v s) after (served v after) v e ≡ due_to s (served w s) after (served w after) w e

@@ -1,6 +1,7 @@
 pub mod Greeting
 pub mod Was
 pub mod Due
+pub mod ByNote
 pub mod Law
 pub mod Messages
 pub mod Forms

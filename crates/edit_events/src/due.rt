@@ -1,11 +1,15 @@
 //! What an accepted edit owes to a viewer (Gateway Events, Receive Events).
 
 ghost use Rattle.std.specs.Prelude.{◌≡◌, ◌++◌, IfOk, OnOk, Some, false, true};
+ghost use Rattle.guild_model.specs.Record.{Record};
 ghost use Rattle.dispatch_types.specs.Serves.{served};
-ghost use Rattle.thread_sync.specs.BySights.{sync_by};
+ghost use Rattle.thread_sync.specs.ChannelSights.{by_sights};
+ghost use Rattle.thread_sync.specs.Sync.{uncovered_to};
 ghost use Rattle.event_views.specs.Asked.{asked, told_if};
+ghost use Rattle.edit_apply.specs.Edits.{accepts, applied};
 ghost use Rattle.edit_events.specs.Greeting.{greeting};
-ghost use Rattle.edit_events.specs.Due.{guild_gone, guild_updated, row, due_between};
+ghost use Rattle.edit_events.specs.Due.{guild_gone, guild_updated, due};
+ghost use Rattle.edit_events.specs.ByNote.{by_note, due_between};
 ghost use Rattle.edit_events.specs.Was.{note_of, was_of};
 
 use crate::create::greeting;
@@ -13,7 +17,7 @@ use channel_events::ChannelNote;
 use collections::ById;
 use dispatch_types::{Dispatch, GuildDelete, GuildUpdate, Viewer, served};
 use edit_apply::{Edit, GuildEdit};
-use event_views::{Recipient, add_sync};
+use event_views::{Recipient, add_list_sync};
 use guild_model::{Guild, Member};
 use intent_set::Kind;
 use message_events::MessageNote;
@@ -147,14 +151,14 @@ fn add_owner_updated(
     list: &mut Vec<Dispatch>,
 ) -> Result<(), AllocError>
     ensures { OnOk result (list.new.items ≡ list.old.items ++ (guild_updated to.now.after to.now.viewer
-        ++ told_if to.now.viewer (sync_by before.now to.now.after to.now.me))) }
+        ++ told_if to.now.viewer (uncovered_to (by_sights before.now) to.now.after to.now.me))) }
 {
     add_updated(alloc, to, list)?;
-    add_sync(alloc, before, to, list)
+    add_list_sync(alloc, before, to, list)
 }
 
 // The dispatches of an edit for a viewer that is served before and after it.
-fn add_row(
+fn add_dispatches(
     alloc: Global,
     note: &Before,
     to: &Recipient<'_>,
@@ -162,7 +166,7 @@ fn add_row(
     list: &mut Vec<Dispatch>,
 ) -> Result<(), AllocError>
     ensures { OnOk result (list.new.items ≡ list.old.items
-        ++ row note.now to.now.after to.now.viewer to.now.me edit.now) }
+        ++ by_note note.now to.now.after to.now.viewer to.now.me edit.now) }
 {
     match (note, edit) {
         (_, Edit::Guild(GuildEdit::GuildRename { .. })) => add_updated(alloc, to, list),
@@ -172,27 +176,24 @@ fn add_row(
         (_, Edit::Guild(GuildEdit::GuildOutage)) => add_gone(to.guild(), to.viewer, true, list),
         (_, Edit::Guild(GuildEdit::GuildBack)) => add_created(alloc, to, list),
         (Before::RoleMember(note), Edit::RoleMember(edit)) => {
-            role_member_events::row(alloc, note, to, edit, list)
+            role_member_events::add_dispatches(alloc, note, to, edit, list)
         }
         (Before::Channel(note), Edit::Channel(edit)) => {
-            channel_events::row(alloc, note, to, edit, list)
+            channel_events::add_dispatches(alloc, note, to, edit, list)
         }
         (Before::Thread(note), Edit::Thread(edit)) => {
-            thread_events::row(alloc, note, to, edit, list)
+            thread_events::add_dispatches(alloc, note, to, edit, list)
         }
-        (_, Edit::VoicePresence(edit)) => voice_presence_events::row(to, edit, list),
+        (_, Edit::VoicePresence(edit)) => voice_presence_events::add_dispatches(to, edit, list),
         (Before::Message(note), Edit::Message(edit)) => {
-            message_events::row(alloc, note, to, edit, list)
+            message_events::add_dispatches(alloc, note, to, edit, list)
         }
         _ => Ok(()),
     }
 }
 
-/// What an accepted edit owes to a viewer, by the record after it and what was noted before it: the
-/// edit's own dispatches to one that is served before and after it, GUILD_CREATE alone to one that is
-/// served after it alone, GUILD_DELETE alone to one that was served before it alone, and nothing to
-/// any other. Each only if the viewer's intents ask for it (Gateway, Gateway Intents).
-pub fn events(
+// What an edit owes, by what was noted before it.
+fn noted_events(
     alloc: Global,
     after: &Guild,
     edit: &Edit,
@@ -209,8 +210,29 @@ pub fn events(
         (true, None) => add_gone(after.id, viewer, false, &mut list)?,
         (true, Some(me)) => {
             let to = Recipient { after, viewer, me };
-            add_row(alloc, &was.note, &to, edit, &mut list)?
+            add_dispatches(alloc, &was.note, &to, edit, &mut list)?
         }
     }
+    Ok(list)
+}
+
+/// What an accepted edit owes to a viewer, by the record after it and what [`note`] kept of the record
+/// before it: the edit's own dispatches to one that is served before and after it, GUILD_CREATE alone to
+/// one that is served after it alone, GUILD_DELETE alone to one that was served before it alone, and
+/// nothing to any other. Each only if the viewer's intents ask for it (Gateway, Gateway Intents).
+pub fn events(
+    alloc: Global,
+    after: &Guild,
+    edit: &Edit,
+    was: &Was,
+    viewer: &Viewer,
+) -> Result<Vec<Dispatch>, AllocError>
+    ensures noted { IfOk result (λ list. list.items
+        ≡ due_between after.now viewer.now was.now (served viewer.now after.now) edit.now) }
+    ensures due { IfOk result (λ list. (before : Record) → was.now ≡ was_of before viewer.now edit.now
+        → after.now ≡ applied before edit.now → accepts before edit.now ≡ true
+        → list.items ≡ due before edit.now viewer.now) }
+{
+    let list = noted_events(alloc, after, edit, was, viewer)?;
     Ok(list)
 }

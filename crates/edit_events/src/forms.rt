@@ -11,15 +11,15 @@ use guild_model::Guild;
 use message_events::MessageForm;
 
 /// How an edit of messages, reactions or typing is told a viewer that is served before and after it;
-/// nothing exactly where it is another edit or the viewer is not. Takes no memory.
-pub fn form(after: &Guild, edit: &Edit, was: &Was, viewer: &Viewer) -> Option<MessageForm>
+/// `None` exactly if it is another edit or the viewer is not. Does not allocate.
+pub fn form_for(after: &Guild, edit: &Edit, was: &Was, viewer: &Viewer) -> Option<MessageForm>
     ensures { result ≡ form_between after.now viewer.now was.now (served viewer.now after.now) edit.now }
 {
     let (Edit::Message(edit), Before::Message(note)) = (edit, &was.note) else {
         return None;
     };
     match (was.served, served(after, viewer)) {
-        (true, Some(_)) => Some(message_events::form(note, after, viewer, edit)),
+        (true, Some(_)) => Some(message_events::form_for(note, after, viewer, edit)),
         _ => None,
     }
 }

@@ -1,6 +1,14 @@
-ghost use Rattle.edit_events.specs.Law.{EditKeeps, ProjectionStays, OthersStay, GreetingHolds, GreetingStays};
+//! The laws of what an edit owes.
+
+ghost use Rattle.edit_events.specs.Law.{NoteIsEnough, EditKeeps, ProjectionStays, OthersStay, GreetingHolds, GreetingStays};
 ghost use Rattle.edit_events.specs.Forms.{FormIsDue};
 ghost use Rattle.edit_events.specs.Messages.{MessagesAreShown};
+
+/// What is given by what [`note`](crate::note) kept of the record before an accepted edit is what is due
+/// by that record.
+pub fn note_is_enough()
+    ensures { NoteIsEnough }
+{}
 
 /// After what an edit owes, a client holds the projection of the record after it.
 pub fn edit_keeps()
@@ -27,12 +35,12 @@ pub fn greeting_stays()
     ensures { GreetingStays }
 {}
 
-/// The dispatch of an accepted edit of messages is owed exactly where it is shown after that very edit.
+/// The dispatch of an accepted edit of messages is due exactly if it is shown after that very edit.
 pub fn messages_are_shown()
     ensures { MessagesAreShown }
 {}
 
-/// Viewers to which an edit of messages is told in one form are owed the same.
+/// Viewers to which an edit of messages is told in one form are due the same.
 pub fn form_is_due()
     ensures { FormIsDue }
 {}

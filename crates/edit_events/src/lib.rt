@@ -8,4 +8,4 @@ pub mod law;
 
 pub use create::greeting;
 pub use due::{Before, Was, events, note};
-pub use forms::form;
+pub use forms::form_for;

@@ -74,7 +74,7 @@ pub fold-append : (intents g : ℕ) (h : Held) (ds es : List Dispatch) → fold_
 fold-append intents g h [] es = refl
 fold-append intents g h (d ∷ ds) es = fold-append intents g (folded intents g h d) ds es
 
--- each dispatch that is owed is of the guild
+-- each dispatch that is due is of the guild
 abbrev pub IsOf : ℕ → Dispatch → Type 0
 IsOf guild d = guild_of d ≡ Some guild
 

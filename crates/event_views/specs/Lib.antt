@@ -1,4 +1,5 @@
 pub mod Asked
+pub mod Synced
 pub mod Has
 pub mod Ended
 pub mod Threads

@@ -9,7 +9,7 @@ use guild_model::Voice;
 use intent_set::Kind;
 use std::alloc::AllocError;
 
-/// A voice state that ended, as it is sent: without a channel, with the flags that it had (Voice
+/// A voice state that ended, in wire form: without a channel, with the flags that it had (Voice
 /// Resource, Voice State Object).
 pub fn voice_end(voice: &Voice) -> VoiceObject
     ensures { result ≡ voice_end voice.now }

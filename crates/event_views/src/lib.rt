@@ -2,10 +2,10 @@
 #![tactic(auto)]
 
 pub mod ends;
+pub mod list_sync;
 pub mod recipient;
-pub mod synced;
 pub mod thread_told;
 
 pub use ends::{add_voice_end, voice_end};
+pub use list_sync::add_list_sync;
 pub use recipient::Recipient;
-pub use synced::add_sync;

@@ -1,9 +1,8 @@
 -- A client that is told what an edit of roles or members owes holds the view of the record after it.
-use Rattle.std.proofs.Common.{◌≡◌, ℕ, ◌<◌, ◌-◌, ◌^◌, Bool, true, false, not, List, [], ◌∷◌, ◌++◌, Option, Some, None, if◌then◌else◌, refl, sym, ap, subst, ◌∙◌, eq-eqb, arith}
+use Rattle.std.proofs.Common.{◌≡◌, ℕ, ◌<◌, ◌-◌, ◌^◌, Bool, true, false, not, [], ◌∷◌, ◌++◌, Option, Some, None, if◌then◌else◌, refl, sym, ap, subst, ◌∙◌, eq-eqb, arith}
 use Rattle.std.specs.Prelude.{◌==◌, nat_lt, length, is_some, option_map}
 use Rattle.std.proofs.lemmas.Bool.{eqb-true}
 use Rattle.std.proofs.lemmas.Bool.Decides.{nat_tests}
-use Rattle.std.proofs.lemmas.List.{append-nil}
 use Rattle.collections.specs.ById.{find_id, has_id, IsById}
 use Rattle.collections.proofs.Finds.{key-found, find-put, find-map, find-changed, find-without}
 use Rattle.collections.proofs.Has.{All-found}
@@ -15,28 +14,23 @@ use Rattle.guild_model.specs.Record.{Record, own_id, role_id, member_id}
 use Rattle.guild_model.specs.Changes.{without_role}
 use Rattle.guild_model.specs.Tests.{refused_if, first_of, too_long, too_many, unknown_role, unknown_member}
 use Rattle.guild_model.specs.Ascending.{IsAscending, IsWell, HoldsInOrder}
-use Rattle.guild_model.specs.Sight.{standing}
 use Rattle.guild_model.proofs.Tests.{first_passes, not_refused}
 use Rattle.dispatch_types.specs.declared.viewer.Viewer.{Viewer}
-use Rattle.dispatch_types.specs.declared.dispatch.Dispatch.{Dispatch}
 use Rattle.dispatch_types.specs.declared.dispatch.Dispatch.TheVariants.{GuildMemberAdd}
 use Rattle.dispatch_types.specs.Fold.{Held, fold_from}
-use Rattle.thread_sync.specs.ChannelSights.{sights}
-use Rattle.thread_sync.specs.BySights.{sync_by}
 use Rattle.role_member_edit.specs.declared.role_body.RoleBody.{RoleBody}
 use Rattle.role_member_edit.specs.declared.member_add.MemberAdd.{MemberAdd as Addition}
 use Rattle.role_member_edit.specs.Roles.{role_taken, everyone_role, role_of, role_create_verdict, role_created}
 use Rattle.role_member_edit.specs.Members.{new_member, member_added, member_add_verdict, owner_stays, member_removed, nick_verdict, with_member_changed, with_nick, with_timeout}
 use Rattle.role_member_edit.specs.HeldRoles.{holds, with_role}
-use Rattle.event_views.specs.Asked.{asked, told_if}
+use Rattle.event_views.specs.Asked.{asked}
+use Rattle.event_views.specs.Synced.{synced}
 use Rattle.event_views.specs.Has.{Has}
 use Rattle.role_member_edit.specs.declared.RoleMemberEdit.{RoleMemberEdit}
 use Rattle.role_member_edit.specs.declared.RoleMemberEdit.TheVariants.{RoleCreate, RoleUpdate, RoleDelete, MemberAdd, MemberRemove, MemberNick, MemberTimeout, MemberRoleAdd, MemberRoleRemove}
 use Rattle.role_member_edit.specs.RoleMember.{role_member_verdict, role_member_applied}
-use Rattle.role_member_events.specs.declared.ends.RoleMemberNote.TheVariants.{Nothing, Leaving}
-use Rattle.role_member_events.specs.Ends.{end_of, before_end, before_rights, before_own_rights, role_member_note}
-use Rattle.role_member_events.specs.Rows.{added_member, member_told, member_updated, member_ended, roles_changed, role_member_row}
-use Rattle.role_member_events.proofs.Membership.{follows-member_changed, follows-other, follows-member_add}
+use Rattle.role_member_events.specs.Dispatches.{added_member, member_told, member_updated, member_ended, roles_changed, role_member_dispatches}
+use Rattle.role_member_events.proofs.Membership.{follows-member_changed, follows-member_add}
 use Rattle.role_member_events.proofs.Gone.{follows-gone}
 use Rattle.role_member_events.proofs.Rights.{created, follows-role_create, follows-role_update, follows-role_delete, follows-member_roles}
 
@@ -89,28 +83,12 @@ module _ (s : Record) (v : Viewer) (h : Held) (me : Member) (well : IsWell s) (o
         subst (λ (o : Option Member). Has (with_member_changed s user f) v me' (fold_from v.intents s.id h (member_told (with_member_changed s user f) v o))) (sym (told-changed user f found.0 same found.1))
         (follows-member_changed s v user f found.0 me me' same well.ascending found.1 own own' h (roles-ordered user f found.0 same after found.1) held has)
 
-    abbrev t : Record
-    t = with_member_changed s user f
-
-    -- the own roles may change what is seen, and those of others do not
-    pub follows-roles : Has s v me h → Has t v me' (fold_from v.intents s.id h (roles_changed (before_own_rights s me user) t v me' user))
-    follows-roles has = by_own (user == me.user.id) refl
-      where
-        found : (x : Member) × (find_id member_id user s.members ≡ Some x)
-        found = member_there s user known
-
-        ordered : IsById own_id (f found.0).roles
-        ordered = roles-ordered user f found.0 same after found.1
-
-        by_own : (b : Bool) → (user == me.user.id) ≡ b → Has t v me' (fold_from v.intents s.id h (roles_changed (if b then before_rights s me else Nothing) t v me' user))
-        by_own true is =
-            subst (λ (o : Option Member). Has t v me' (fold_from v.intents s.id h (member_told t v o ++ told_if v (sync_by (sights (standing s me)) t me')))) (sym (told-changed user f found.0 same found.1))
-            (follows-member_roles s v user f found.0 me me' same well found.1 own own' h ordered asks has)
-        by_own false is =
-            let other : (user == v.user) ≡ false = ap (λ u. user == u) (sym (key-found member_id v.user s.members me own)) ∙ is in
-            subst (λ (ds : List Dispatch). Has t v me' (fold_from v.intents s.id h ds)) (sym (append-nil (member_updated t v user)))
-            (subst (λ (o : Option Member). Has t v me' (fold_from v.intents s.id h (member_told t v o))) (sym (told-changed user f found.0 same found.1))
-            (follows-other s v user f found.0 me me' same well.ascending found.1 own own' h ordered other has))
+    -- what is seen may change with the own roles
+    pub follows-roles : Has s v me h → Has (with_member_changed s user f) v me' (fold_from v.intents s.id h (roles_changed s me (with_member_changed s user f) me' v user))
+    follows-roles has =
+        let found = member_there s user known in
+        subst (λ (o : Option Member). Has (with_member_changed s user f) v me' (fold_from v.intents s.id h (member_told (with_member_changed s user f) v o ++ synced s me (with_member_changed s user f) me' v))) (sym (told-changed user f found.0 same found.1))
+        (follows-member_roles s v user f found.0 me me' same well found.1 own own' h (roles-ordered user f found.0 same after found.1) asks has)
 
   -- one that is added is not the viewer's bot, which is there
   pub follows-add : (e : Addition) (me' : Member) → find_id member_id v.user (member_added s e).members ≡ Some me' → member_add_verdict s e ≡ None
@@ -142,11 +120,11 @@ module _ (s : Record) (v : Viewer) (h : Held) (me : Member) (well : IsWell s) (o
 
   -- nor is one that is removed, who is there after it
   pub follows-remove : (user : ℕ) (me' : Member) → find_id member_id v.user (member_removed s user).members ≡ Some me' → unknown_member s user ≡ None → IsAscending (member_removed s user)
-      → Has s v me h → Has (member_removed s user) v me' (fold_from v.intents s.id h (member_ended (member_removed s user) v (before_end s me (find_id member_id user s.members))))
+      → Has s v me h → Has (member_removed s user) v me' (fold_from v.intents s.id h (member_ended s me (member_removed s user) v (find_id member_id user s.members)))
   follows-remove user me' own' known after has =
-      subst (λ (m : Member). Has (member_removed s user) v m (fold_from v.intents s.id h (member_ended (member_removed s user) v (before_end s me (find_id member_id user s.members))))) stays
-      (subst (λ (o : Option Member). Has (member_removed s user) v me (fold_from v.intents s.id h (member_ended (member_removed s user) v (before_end s me o)))) (sym found.1)
-      (subst (λ (u : ℕ). Has (member_removed s u) v me (fold_from v.intents s.id h (member_ended (member_removed s u) v (Leaving (end_of s me found.0))))) at
+      subst (λ (m : Member). Has (member_removed s user) v m (fold_from v.intents s.id h (member_ended s me (member_removed s user) v (find_id member_id user s.members)))) stays
+      (subst (λ (o : Option Member). Has (member_removed s user) v me (fold_from v.intents s.id h (member_ended s me (member_removed s user) v o))) (sym found.1)
+      (subst (λ (u : ℕ). Has (member_removed s u) v me (fold_from v.intents s.id h (member_ended s me (member_removed s u) v (Some found.0)))) at
       (follows-gone s v me found.0 well.ascending (key-found member_id v.user s.members me own) asks
       (subst (λ (u : ℕ). IsAscending (member_removed s u)) (sym at) after) h
       (subst (λ (u : ℕ). find_id member_id u s.members ≡ Some found.0) (sym at) found.1) has)))
@@ -166,7 +144,7 @@ module _ (s : Record) (v : Viewer) (h : Held) (me : Member) (well : IsWell s) (o
 
 -- what holds of each edit
 abbrev pub Follows : Record → Viewer → Held → Member → Member → RoleMemberEdit → Type 0
-Follows s v h me me' e = Has (role_member_applied s e) v me' (fold_from v.intents s.id h (role_member_row (role_member_note s me e) (role_member_applied s e) v me' e))
+Follows s v h me me' e = Has (role_member_applied s e) v me' (fold_from v.intents s.id h (role_member_dispatches s me (role_member_applied s e) me' v e))
 
 pub follows-role_member : (s : Record) (v : Viewer) (h : Held) (me me' : Member) (e : RoleMemberEdit) → IsWell s → IsWell (role_member_applied s e) → s.opened ≡ true → role_member_verdict s e ≡ None
     → find_id member_id v.user s.members ≡ Some me → find_id member_id v.user (role_member_applied s e).members ≡ Some me' → has_bit v.intents guilds ≡ true

@@ -22,9 +22,7 @@ use Rattle.event_views.proofs.Steps.{fold-append}
 use Rattle.event_views.proofs.Voices.{follows-voice_gone}
 use Rattle.event_views.proofs.Left.{follows-user_left}
 use Rattle.voice_presence_events.proofs.Follows.{follows-presence}
-use Rattle.role_member_events.specs.declared.ends.RoleMemberNote.TheVariants.{Leaving}
-use Rattle.role_member_events.specs.Ends.{end_of}
-use Rattle.role_member_events.specs.Rows.{presence_ended, voice_ended, member_ended}
+use Rattle.role_member_events.specs.Dispatches.{presence_ended, voice_ended, member_ended}
 use Rattle.role_member_events.proofs.Membership.{follows-member_gone}
 
 -- a list without one that is not there
@@ -77,7 +75,7 @@ module _ (s : Record) (v : Viewer) (me x : Member) (ascends : IsAscending s) (ow
     }
 
     pub follows-gone : (h : Held) → find_id member_id user s.members ≡ Some x → Has s v me h
-        → Has (member_removed s user) v me (fold_from v.intents s.id h (member_ended (member_removed s user) v (Leaving (end_of s me x))))
+        → Has (member_removed s user) v me (fold_from v.intents s.id h (member_ended s me (member_removed s user) v (Some x)))
     follows-gone h found has =
         let first : List Dispatch = presence_ended s v user (has_id presence_id user s.presences) in
         let second : List Dispatch = voice_ended s v (find_id voice_id user s.voices) in

@@ -3,3 +3,4 @@ pub mod Rights
 pub mod Gone
 pub mod Follows
 pub mod Of
+pub mod Noted

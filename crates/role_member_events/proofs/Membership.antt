@@ -27,7 +27,7 @@ use Rattle.thread_sync.proofs.Sights.{threads_stay, members-changed-keep}
 use Rattle.event_views.specs.Asked.{asked}
 use Rattle.event_views.specs.Has.{Has}
 use Rattle.event_views.proofs.Steps.{whole, untold, by_asked}
-use Rattle.role_member_events.specs.Rows.{guild_member}
+use Rattle.role_member_events.specs.Dispatches.{guild_member}
 use Rattle.event_views.proofs.Lists.{known-put, known-without, length-changed, length-put, length-without, listed-same, told-same, listed-again, same-parts}
 
 -- the same view with other threads
@@ -138,11 +138,6 @@ module _ (s : Record) (v : Viewer) (user : ℕ) (f : Member → Member) (x me me
       by_own : (b : Bool) → (user == v.user) ≡ b → me'.roles ≡ me.roles
       by_own true is = let e = own-changed is in ap (λ (m : Member). m.roles) e.1 ∙ (held x ∙ ap (λ (m : Member). m.roles) (sym e.0))
       by_own false other = ap (λ (m : Member). m.roles) (own-stays other)
-
-  -- and where those of another member do
-  pub follows-other : (h : Held) → IsById own_id (f x).roles → (user == v.user) ≡ false
-      → Has s v me h → Has after v me' (fold_from v.intents s.id h (asked v ((f x).user.id == v.user) (GuildMemberUpdate (guild_member s.id (f x)))))
-  follows-other h ordered other has = follows-held h ordered (ap (λ (m : Member). m.roles) (own-stays other)) has
 
 -- ---- a member that is added
 

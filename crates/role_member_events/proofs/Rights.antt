@@ -1,5 +1,5 @@
 -- Roles that are created, replaced and deleted, and members that are given and lose them.
-use Rattle.std.proofs.Common.{◌≡◌, ℕ, Bool, true, false, List, [], ◌∷◌, ◌++◌, map, Option, Some, None, if◌then◌else◌, refl, sym, ap, subst, ◌∙◌}
+use Rattle.std.proofs.Common.{◌≡◌, ℕ, Bool, true, false, List, [], ◌∷◌, ◌++◌, map, Option, Some, None, if◌then◌else◌, refl, sym, ap, ◌∙◌}
 use Rattle.std.specs.Prelude.{◌==◌, filter, length, option_map}
 use Rattle.std.proofs.lemmas.Bool.{or_parts}
 use Rattle.collections.specs.ById.{find_id, has_id, put_id, IsById}
@@ -12,7 +12,6 @@ use Rattle.guild_model.specs.declared.channel.Channel.{Channel}
 use Rattle.guild_model.specs.Record.{Record, own_id, role_id, member_id, channel_id}
 use Rattle.guild_model.specs.Changes.{without_role, without_role_overwrite}
 use Rattle.guild_model.specs.Ascending.{IsWell}
-use Rattle.guild_model.specs.Sight.{standing}
 use Rattle.dispatch_types.specs.declared.viewer.Viewer.{Viewer}
 use Rattle.dispatch_types.specs.declared.view.ThreadView.{ThreadView}
 use Rattle.dispatch_types.specs.declared.dispatch.Dispatch.{Dispatch}
@@ -24,20 +23,16 @@ use Rattle.dispatch_types.proofs.Objects.{member-back}
 use Rattle.dispatch_types.proofs.Folds.{folded-here}
 use Rattle.role_member_edit.specs.Roles.{with_role_set, role_deleted}
 use Rattle.role_member_edit.specs.Members.{with_member_changed}
-use Rattle.thread_sync.specs.ChannelSights.{sights}
-use Rattle.thread_sync.specs.Seen.{visible_to}
-use Rattle.thread_sync.specs.Sync.{sync}
-use Rattle.thread_sync.specs.BySights.{sync_by}
 use Rattle.thread_sync.specs.Law.{ChangesRights, told_plainly, kind_in}
 use Rattle.thread_sync.proofs.Lists.{filter-map}
 use Rattle.thread_sync.proofs.Sights.{threads_stay, role-created-keeps}
-use Rattle.thread_sync.proofs.Rights.{rights_sync_is_whole}
-use Rattle.event_views.specs.Asked.{asked, told_if}
+use Rattle.event_views.specs.Asked.{asked}
+use Rattle.event_views.specs.Synced.{synced}
 use Rattle.event_views.specs.Has.{Has}
 use Rattle.event_views.proofs.Steps.{same, whole, by_guilds, by_asked_then}
 use Rattle.event_views.proofs.Lists.{same-parts}
 use Rattle.event_views.proofs.Rights.{follows-rights, follows-unsaid}
-use Rattle.role_member_events.specs.Rows.{guild_member}
+use Rattle.role_member_events.specs.Dispatches.{guild_member}
 use Rattle.role_member_events.proofs.Membership.{updates, silent, own-user, other-user}
 
 -- the dispatches of a role
@@ -63,25 +58,23 @@ follows-role_create s v h me r well opened found asks new has =
 
 -- one that is replaced may change what is seen
 pub follows-role_update : (s : Record) (v : Viewer) (h : Held) (me : Member) (r : Role) → IsWell s → has_bit v.intents guilds ≡ true
-    → Has s v me h → Has (with_role_set s r) v me (fold_from v.intents s.id h (asked v false (replaced s r) ++ told_if v (sync_by (sights (standing s me)) (with_role_set s r) me)))
+    → Has s v me h → Has (with_role_set s r) v me (fold_from v.intents s.id h (asked v false (replaced s r) ++ synced s me (with_role_set s r) me v))
 follows-role_update s v h me r well asks has =
     let t : Record = with_role_set s r in
     let rights : ChangesRights s t = record { id = refl; channels = λ c. refl; threads = refl } in
-    subst (λ o. Has t v me (fold_from v.intents s.id h (asked v false (replaced s r) ++ told_if v o))) (sym (rights_sync_is_whole s t me me well.ascending refl))
-    (by_asked_then t v s.id h me false (replaced s r) (told_if v (sync (visible_to s me) t me))
+    by_asked_then t v s.id h me false (replaced s r) (synced s me t me v)
     (λ e. follows-rights s t v h me me well rights refl asks (replaced s r) (set_role r) same (folded-here v.intents s.id h (replaced s r) refl refl) refl has)
-    (λ e. absurd (cc)))
+    (λ e. absurd (cc))
 
 -- and so may one that is deleted
 pub follows-role_delete : (s : Record) (v : Viewer) (h : Held) (me : Member) (role : ℕ) → IsWell s → has_bit v.intents guilds ≡ true
-    → Has s v me h → Has (role_deleted s role) v (without_role role me) (fold_from v.intents s.id h (asked v false (deleted s role) ++ told_if v (sync_by (sights (standing s me)) (role_deleted s role) (without_role role me))))
+    → Has s v me h → Has (role_deleted s role) v (without_role role me) (fold_from v.intents s.id h (asked v false (deleted s role) ++ synced s me (role_deleted s role) (without_role role me) v))
 follows-role_delete s v h me role well asks has =
     let t : Record = role_deleted s role in
     let rights : ChangesRights s t = record { id = refl; channels = kinds; threads = refl } in
-    subst (λ o. Has t v (without_role role me) (fold_from v.intents s.id h (asked v false (deleted s role) ++ told_if v o))) (sym (rights_sync_is_whole s t me (without_role role me) well.ascending refl))
-    (by_asked_then t v s.id h (without_role role me) false (deleted s role) (told_if v (sync (visible_to s me) t (without_role role me)))
+    by_asked_then t v s.id h (without_role role me) false (deleted s role) (synced s me t (without_role role me) v)
     (λ e. follows-rights s t v h me (without_role role me) well rights refl asks (deleted s role) (drop_role role) same (folded-here v.intents s.id h (deleted s role) refl refl) drops has)
-    (λ e. absurd (cc)))
+    (λ e. absurd (cc))
   where
     kinds : (channel : ℕ) → option_map kind_in (find_id channel_id channel (map (without_role_overwrite role) s.channels)) ≡ option_map kind_in (find_id channel_id channel s.channels)
     kinds channel = ap (option_map kind_in) (find-map channel_id channel_id (without_role_overwrite role) (λ c. refl) channel s.channels) ∙ by_case (find_id channel_id channel s.channels)
@@ -108,13 +101,12 @@ follows-role_delete s v h me role well asks has =
 pub follows-member_roles : (s : Record) (v : Viewer) (user : ℕ) (f : Member → Member) (x me me' : Member) → ((m : Member) → (f m).user.id ≡ m.user.id) → IsWell s
     → find_id member_id user s.members ≡ Some x → find_id member_id v.user s.members ≡ Some me → find_id member_id v.user (with_member_changed s user f).members ≡ Some me'
     → (h : Held) → IsById own_id (f x).roles → has_bit v.intents guilds ≡ true
-    → Has s v me h → Has (with_member_changed s user f) v me' (fold_from v.intents s.id h (asked v ((f x).user.id == v.user) (GuildMemberUpdate (guild_member s.id (f x))) ++ told_if v (sync_by (sights (standing s me)) (with_member_changed s user f) me')))
+    → Has s v me h → Has (with_member_changed s user f) v me' (fold_from v.intents s.id h (asked v ((f x).user.id == v.user) (GuildMemberUpdate (guild_member s.id (f x))) ++ synced s me (with_member_changed s user f) me' v))
 follows-member_roles s v user f x me me' same_user well found own own' h ordered asks has =
     let t : Record = with_member_changed s user f in
     let rights : ChangesRights s t = record { id = refl; channels = λ c. refl; threads = refl } in
     let mine = own-user s v user f x me me' same_user well.ascending found own own' in
-    subst (λ o. Has t v me' (fold_from v.intents s.id h (asked v ((f x).user.id == v.user) (GuildMemberUpdate (guild_member s.id (f x))) ++ told_if v o))) (sym (rights_sync_is_whole s t me me' well.ascending refl))
-    (by_asked_then t v s.id h me' ((f x).user.id == v.user) (GuildMemberUpdate (guild_member s.id (f x))) (told_if v (sync (visible_to s me) t me'))
+    by_asked_then t v s.id h me' ((f x).user.id == v.user) (GuildMemberUpdate (guild_member s.id (f x))) (synced s me t me' v)
     (λ e. follows-rights s t v h me me' well rights mine asks (GuildMemberUpdate (guild_member s.id (f x))) (update_member v.intents h.bot (member_of (member_object (f x)))) (put_id own_id (f x).user.id)
     (folded-here v.intents s.id h (GuildMemberUpdate (guild_member s.id (f x))) refl refl)
     (ap (λ (m : Member). update_member v.intents h.bot m (open_view s v.intents h.known me)) (member-back (f x) ordered)
@@ -122,4 +114,4 @@ follows-member_roles s v user f x me me' same_user well found own own' h ordered
     ∙ updates s v user f x me me' same_user well.ascending found own own' h.known)) has)
     (λ blind. let parts = or_parts ((f x).user.id == v.user) (has_bit v.intents guild_members) blind in
     follows-unsaid s t v h me me' well rights mine asks
-    (silent s v user f x me me' same_user well.ascending found own own' h.known (other-user s v user f x me me' same_user well.ascending found own own' parts.0) parts.1) has))
+    (silent s v user f x me me' same_user well.ascending found own own' h.known (other-user s v user f x me me' same_user well.ascending found own own' parts.0) parts.1) has)

@@ -1,2 +1,4 @@
 pub mod Ends
-pub mod Rows
+pub mod Dispatches
+pub mod ByNote
+pub mod Law

@@ -26,7 +26,7 @@ pub struct MemberEnd {
     pub threads: Seq<Snowflake>,
 }
 
-/// What [`row`](crate::row) has to know of the record before an edit.
+/// What [`add_dispatches`](crate::add_dispatches) has to know of the record before an edit.
 #[derive(Drop)]
 pub enum RoleMemberNote {
     /// Nothing: no member is removed, and what the viewer may do stays as it is.
@@ -110,7 +110,7 @@ fn before_own_rights(
     }
 }
 
-/// Keeps what [`row`](crate::row) has to know of the record before an edit, where the viewer's own
+/// Keeps what [`add_dispatches`](crate::add_dispatches) has to know of the record before an edit, where the viewer's own
 /// member is `me`.
 pub fn note(
     alloc: Global,

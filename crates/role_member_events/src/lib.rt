@@ -2,10 +2,11 @@
 //! (Gateway Events, Guild Role Create to Guild Member Remove).
 #![tactic(auto)]
 
+pub mod dispatches;
 pub mod ends;
+pub mod law;
 pub mod members;
 pub mod roles;
-pub mod rows;
 
+pub use dispatches::add_dispatches;
 pub use ends::{MemberEnd, RoleMemberNote, note};
-pub use rows::row;

@@ -3,7 +3,8 @@
 
 ghost use Rattle.std.specs.Prelude.{◌≡◌, ◌++◌, OnOk, IfOk};
 ghost use Rattle.event_views.specs.Threads.{user_leaves};
-ghost use Rattle.role_member_events.specs.Rows.{added_member, member_adds, member_removes, member_updated, presence_ended, voice_ended, member_ended};
+ghost use Rattle.role_member_events.specs.Dispatches.{added_member, member_adds, member_removes, member_updated, presence_ended, voice_ended};
+ghost use Rattle.role_member_events.specs.ByNote.{ended_by_note};
 
 use crate::ends::RoleMemberNote;
 use collections::{Duplicate, Seq};
@@ -164,7 +165,7 @@ pub fn add_ended(
     list: &mut Vec<Dispatch>,
 ) -> Result<(), AllocError>
     ensures { OnOk result (list.new.items
-        ≡ list.old.items ++ member_ended to.now.after to.now.viewer note.now) }
+        ≡ list.old.items ++ ended_by_note to.now.after to.now.viewer note.now) }
 {
     if let RoleMemberNote::Leaving(end) = note {
         let user = end.user.id;

@@ -2,7 +2,7 @@
 //! Role Update and Guild Role Delete).
 
 ghost use Rattle.std.specs.Prelude.{◌≡◌, ◌++◌, OnOk, IfOk};
-ghost use Rattle.role_member_events.specs.Rows.{guild_role, role_creates, role_updates, role_deletes};
+ghost use Rattle.role_member_events.specs.Dispatches.{guild_role, role_creates, role_updates, role_deletes};
 
 use dispatch_types::{Dispatch, GuildRole, GuildRoleDelete};
 use event_views::Recipient;

@@ -15,7 +15,7 @@ use Rattle.guild_model.specs.declared.verdict.Verdict.{Verdict}
 use Rattle.guild_model.specs.declared.verdict.Verdict.TheVariants.{UnknownThread, IdTaken, Archived, NotArchived, InThread, NotInThread}
 use Rattle.guild_model.specs.Record.{Record, member_id, channel_id, thread_id}
 use Rattle.guild_model.specs.Ascending.{IsWell}
-use Rattle.guild_model.specs.Consistent.{is_place}
+use Rattle.guild_model.specs.Consistent.{is_channel_or_thread}
 use Rattle.guild_model.specs.Sight.{member_sees}
 use Rattle.guild_model.specs.Tests.{refused_if, first_of, too_long, too_many, unknown_member, unknown_channel}
 use Rattle.guild_model.proofs.Tests.{first_passes, not_refused, passed}
@@ -39,11 +39,8 @@ use Rattle.event_views.specs.Threads.{membership, members_update, seen_thread, t
 use Rattle.event_views.proofs.Steps.{IsOf, asked-of, append-of}
 use Rattle.event_views.proofs.Threads.{shows, unseen, follows-thread_comes, follows-thread_renamed, follows-thread_archived, follows-thread_goes, goes_unseen, follows-thread_joined, follows-thread_entered, follows-thread_left, left_unseen}
 use Rattle.event_views.proofs.Unarchived.{follows-thread_unarchived}
-use Rattle.thread_events.specs.declared.sight.ThreadNote.{ThreadNote}
-use Rattle.thread_events.specs.declared.sight.ThreadNote.TheVariants.{Nothing, Unseen, Seen}
-use Rattle.thread_events.specs.Ends.{note_of}
 use Rattle.thread_events.specs.Law.{ThreadEditKeeps}
-use Rattle.thread_events.specs.Rows.{unarchived, deleted, joined, left, thread_row}
+use Rattle.thread_events.specs.Dispatches.{unarchived, deleted, joined, left, thread_dispatches}
 
 -- the thread that is found, and whether it is active
 record Found (s : Record) (thread : ℕ) (active : Bool) : Type 0 where
@@ -101,8 +98,8 @@ module _ (s : Record) (v : Viewer) (h : Held) (me : Member) (well : IsWell s) (a
       finds : find_id thread_id e.thread (put_id thread_id t s.threads) ≡ Some t
       finds = find-put thread_id t e.thread s.threads ∙ ap (λ b. if b then Some t else find_id thread_id e.thread s.threads) (eq-eqb e.thread e.thread refl)
 
-      free : is_place s e.thread ≡ false
-      free = not_refused (is_place s e.thread) IdTaken (first_passes (refused_if (is_place s e.thread) IdTaken) (unknown_channel s e.parent ∷ wrong_kind s e.parent e.kind ∷ unknown_member s e.owner ∷ too_many_active s ∷ too_many 4096 (length s.threads) ∷ too_long 100 e.name ∷ []) accepted).0
+      free : is_channel_or_thread s e.thread ≡ false
+      free = not_refused (is_channel_or_thread s e.thread) IdTaken (first_passes (refused_if (is_channel_or_thread s e.thread) IdTaken) (unknown_channel s e.parent ∷ wrong_kind s e.parent e.kind ∷ unknown_member s e.owner ∷ too_many_active s ∷ too_many 4096 (length s.threads) ∷ too_long 100 e.name ∷ []) accepted).0
 
       new : (a b : Bool) → (a || b) ≡ false → b ≡ false
       new true b is = absurd (cc)
@@ -136,36 +133,36 @@ module _ (s : Record) (v : Viewer) (h : Held) (me : Member) (well : IsWell s) (a
       changes thread (with_archived false) one.there (λ (o : Option Thread). thread_updates s.id v (keep_if (member_sees s me) o) ++ thread_joins s.id v v.user (keep_if (member_sees s me) o)) (λ t. refl) one.found
       (follows-thread_unarchived s v h me own asks well.ascending.threads one.there (by_its_id thread one.there one.found) one.is has)
 
-  follows-delete : (thread : ℕ) → Has (thread_deleted s thread) v me (fold_from v.intents s.id h (deleted (note_of (seen_thread s me thread)) s.id v thread))
+  follows-delete : (thread : ℕ) → Has (thread_deleted s thread) v me (fold_from v.intents s.id h (deleted (seen_thread s me thread) s.id v thread))
   follows-delete thread = let gone = by_case (find_id thread_id thread s.threads) refl in record { bot = gone.bot; view = gone.view }
     where
       after : Record
       after = record s { threads = without_id thread_id thread s.threads }
 
-      by_case : (o : Option Thread) → find_id thread_id thread s.threads ≡ o → Has after v me (fold_from v.intents s.id h (deleted (note_of (keep_if (member_sees s me) o)) s.id v thread))
+      by_case : (o : Option Thread) → find_id thread_id thread s.threads ≡ o → Has after v me (fold_from v.intents s.id h (deleted (keep_if (member_sees s me) o) s.id v thread))
       by_case None e = goes_unseen s v h me own asks well.ascending.threads thread (ap (keep_if (shows s v h me)) e) has
       by_case (Some x) e = by_sight (member_sees s me x) refl
         where
-          by_sight : (b : Bool) → member_sees s me x ≡ b → Has after v me (fold_from v.intents s.id h (deleted (note_of (if b then Some x else None)) s.id v thread))
+          by_sight : (b : Bool) → member_sees s me x ≡ b → Has after v me (fold_from v.intents s.id h (deleted (if b then Some x else None) s.id v thread))
           by_sight true seen = follows-thread_goes s v h me own asks well.ascending.threads thread x.parent x.kind has
           by_sight false hidden =
               goes_unseen s v h me own asks well.ascending.threads thread
               (ap (keep_if (shows s v h me)) e ∙ ap (λ b. if b then Some x else None) (unseen s v h me own asks well.ascending.threads x hidden)) has
 
   follows-join : (e : ThreadJoin) → thread_join_verdict s e ≡ None
-      → Has (thread_joined s e) v me (fold_from v.intents s.id h (joined (note_of (seen_thread s me e.thread)) (thread_joined s e) v me e))
+      → Has (thread_joined s e) v me (fold_from v.intents s.id h (joined (seen_thread s me e.thread) (thread_joined s e) v me e))
   follows-join e accepted =
       let tests = known s e.thread (unknown_member s e.user ∷ not_active s e.thread ∷ refused_if (is_in_thread s e.thread e.user) InThread ∷ []) accepted in
       let rest = first_passes (unknown_member s e.user) (not_active s e.thread ∷ refused_if (is_in_thread s e.thread e.user) InThread ∷ []) tests.1 in
       let one = found_one s e.thread true tests.0 (active_now s e.thread (refused_if (is_in_thread s e.thread e.user) InThread ∷ []) rest.1) in
-      subst (λ (o : Option Thread). Has (thread_joined s e) v me (fold_from v.intents s.id h (joined (note_of (keep_if (member_sees s me) o)) (thread_joined s e) v me e))) (sym one.found)
+      subst (λ (o : Option Thread). Has (thread_joined s e) v me (fold_from v.intents s.id h (joined (keep_if (member_sees s me) o) (thread_joined s e) v me e))) (sym one.found)
       (by_sight one.there one.found one.is (member_sees s me one.there) refl)
     where
       m : ThreadMember
       m = new_thread_member e.user e.at
 
       by_sight : (x : Thread) → find_id thread_id e.thread s.threads ≡ Some x → is_active x ≡ true → (b : Bool) → member_sees s me x ≡ b
-          → Has (thread_joined s e) v me (fold_from v.intents s.id h (joined (note_of (if b then Some x else None)) (thread_joined s e) v me e))
+          → Has (thread_joined s e) v me (fold_from v.intents s.id h (joined (if b then Some x else None) (thread_joined s e) v me e))
       by_sight x found active true seen =
           changes e.thread (with_joined e.user e.at) x (λ (o : Option Thread). thread_joins s.id v e.user o) (λ t. refl) found
           (follows-thread_joined s v h me own asks well.ascending.threads x (by_its_id e.thread x found) has.bot (new_thread_member e.user e.at) active seen has)
@@ -174,15 +171,15 @@ module _ (s : Record) (v : Viewer) (h : Held) (me : Member) (well : IsWell s) (a
           (follows-thread_entered s v h me own asks well.ascending.threads x (by_its_id e.thread x found) has.bot (new_thread_member e.user e.at) active hidden has)
 
   follows-leave : (e : ThreadLeave) → thread_leave_verdict s e ≡ None
-      → Has (thread_left s e) v me (fold_from v.intents s.id h (left (note_of (seen_thread s me e.thread)) (thread_left s e) v e))
+      → Has (thread_left s e) v me (fold_from v.intents s.id h (left (seen_thread s me e.thread) (thread_left s e) v e))
   follows-leave e accepted =
       let tests = known s e.thread (not_active s e.thread ∷ refused_if (not (is_in_thread s e.thread e.user)) NotInThread ∷ []) accepted in
       let one = found_one s e.thread true tests.0 (active_now s e.thread (refused_if (not (is_in_thread s e.thread e.user)) NotInThread ∷ []) tests.1) in
-      subst (λ (o : Option Thread). Has (thread_left s e) v me (fold_from v.intents s.id h (left (note_of (keep_if (member_sees s me) o)) (thread_left s e) v e))) (sym one.found)
+      subst (λ (o : Option Thread). Has (thread_left s e) v me (fold_from v.intents s.id h (left (keep_if (member_sees s me) o) (thread_left s e) v e))) (sym one.found)
       (by_sight one.there one.found one.is (member_sees s me one.there) refl)
     where
       by_sight : (x : Thread) → find_id thread_id e.thread s.threads ≡ Some x → is_active x ≡ true → (b : Bool) → member_sees s me x ≡ b
-          → Has (thread_left s e) v me (fold_from v.intents s.id h (left (note_of (if b then Some x else None)) (thread_left s e) v e))
+          → Has (thread_left s e) v me (fold_from v.intents s.id h (left (if b then Some x else None) (thread_left s e) v e))
       by_sight x found active true seen =
           changes e.thread (with_left e.user) x (λ (o : Option Thread). thread_leaves s.id v e.user o) (λ t. refl) found
           (follows-thread_left s v h me own asks well.ascending.threads x (by_its_id e.thread x found) has.bot e.user active seen has)
@@ -222,19 +219,26 @@ leaves-of : (guild : ℕ) (v : Viewer) (user : ℕ) (o : Option Thread) → All 
 leaves-of guild v user None = All-nil (IsOf guild)
 leaves-of guild v user (Some t) = asked-of guild v (user == v.user) (dispatch.ThreadMembersUpdate (members_update guild t [] (user ∷ []))) refl
 
-pub row-of : (n : ThreadNote) (after : Record) (v : Viewer) (me : Member) (e : ThreadEdit) → All (IsOf after.id) (thread_row n after v me e)
-row-of n after v me (edit.ThreadCreate e) = creates-of after.id v true (seen_thread after me e.thread)
-row-of n after v me (edit.ThreadRename e) = updates-of after.id v (seen_thread after me e.thread)
-row-of n after v me (edit.ThreadArchive thread) = updates-of after.id v (seen_thread after me thread)
-row-of n after v me (edit.ThreadUnarchive thread) =
-    append-of after.id (thread_updates after.id v (seen_thread after me thread)) (thread_joins after.id v v.user (seen_thread after me thread))
-    (updates-of after.id v (seen_thread after me thread)) (joins-of after.id v v.user (seen_thread after me thread))
-row-of Nothing after v me (edit.ThreadDelete thread) = All-nil (IsOf after.id)
-row-of Unseen after v me (edit.ThreadDelete thread) = All-nil (IsOf after.id)
-row-of (Seen parent kind) after v me (edit.ThreadDelete thread) = asked-of after.id v false (dispatch.ThreadDelete (record { guild = after.id; id = thread; parent = parent; kind = kind })) refl
-row-of Nothing after v me (edit.ThreadJoin e) = creates-of after.id v false (seen_thread after me e.thread)
-row-of Unseen after v me (edit.ThreadJoin e) = creates-of after.id v false (seen_thread after me e.thread)
-row-of (Seen parent kind) after v me (edit.ThreadJoin e) = joins-of after.id v e.user (find_id thread_id e.thread after.threads)
-row-of Nothing after v me (edit.ThreadLeave e) = All-nil (IsOf after.id)
-row-of Unseen after v me (edit.ThreadLeave e) = All-nil (IsOf after.id)
-row-of (Seen parent kind) after v me (edit.ThreadLeave e) = leaves-of after.id v e.user (find_id thread_id e.thread after.threads)
+deleted-of : (guild : ℕ) (v : Viewer) (thread : ℕ) (o : Option Thread) → All (IsOf guild) (deleted o guild v thread)
+deleted-of guild v thread None = All-nil (IsOf guild)
+deleted-of guild v thread (Some was) = asked-of guild v false (dispatch.ThreadDelete (record { guild = guild; id = thread; parent = was.parent; kind = was.kind })) refl
+
+module _ (before : Record) (me : Member) (after : Record) (me' : Member) (v : Viewer) where
+  joined-of : (e : ThreadJoin) (o : Option Thread) → All (IsOf after.id) (joined o after v me' e)
+  joined-of e None = creates-of after.id v false (seen_thread after me' e.thread)
+  joined-of e (Some was) = joins-of after.id v e.user (find_id thread_id e.thread after.threads)
+
+  left-of : (e : ThreadLeave) (o : Option Thread) → All (IsOf after.id) (left o after v e)
+  left-of e None = All-nil (IsOf after.id)
+  left-of e (Some was) = leaves-of after.id v e.user (find_id thread_id e.thread after.threads)
+
+  pub dispatches-of : (e : ThreadEdit) → All (IsOf after.id) (thread_dispatches before me after me' v e)
+  dispatches-of (edit.ThreadCreate e) = creates-of after.id v true (seen_thread after me' e.thread)
+  dispatches-of (edit.ThreadRename e) = updates-of after.id v (seen_thread after me' e.thread)
+  dispatches-of (edit.ThreadArchive thread) = updates-of after.id v (seen_thread after me' thread)
+  dispatches-of (edit.ThreadUnarchive thread) =
+      append-of after.id (thread_updates after.id v (seen_thread after me' thread)) (thread_joins after.id v v.user (seen_thread after me' thread))
+      (updates-of after.id v (seen_thread after me' thread)) (joins-of after.id v v.user (seen_thread after me' thread))
+  dispatches-of (edit.ThreadDelete thread) = deleted-of after.id v thread (seen_thread before me thread)
+  dispatches-of (edit.ThreadJoin e) = joined-of e (seen_thread before me e.thread)
+  dispatches-of (edit.ThreadLeave e) = left-of e (seen_thread before me e.thread)

@@ -2,9 +2,9 @@
 //! Thread Create to Thread Members Update).
 #![tactic(auto)]
 
+pub mod dispatches;
 pub mod law;
-pub mod rows;
 pub mod sight;
 
-pub use rows::row;
+pub use dispatches::add_dispatches;
 pub use sight::{ThreadNote, note};

@@ -48,7 +48,7 @@ fn seen_before(before: &Guild, me: &Member, thread: Snowflake) -> ThreadNote
     }
 }
 
-/// Keeps what [`row`](crate::row) has to know of the record before an edit.
+/// Keeps what [`add_dispatches`](crate::add_dispatches) has to know of the record before an edit.
 pub fn note(before: &Guild, me: &Member, edit: &ThreadEdit) -> ThreadNote
     ensures { result ≡ thread_note before.now me.now edit.now }
 {

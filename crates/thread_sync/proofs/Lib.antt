@@ -4,8 +4,7 @@ pub mod Sights
 pub mod Saw
 pub mod Synced
 pub mod ChannelSights
+pub mod Part
 pub mod Steps
-pub mod Gains
-pub mod OneChannel
 pub mod Grown
-pub mod Rights
+pub mod Enough

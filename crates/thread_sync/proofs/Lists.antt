@@ -65,6 +65,47 @@ module _ {T U : Type 0} (key : T → ℕ) (as_key : U → ℕ) (f g : T → U) (
       same_by_id as_key _ _ (IsById-map key as_key f by_f xs h) (IsById-map key as_key g by_g xs h)
       (λ id. find-map key as_key f by_f id xs ∙ (agree (find_id key id xs) (same id) ∙ sym (find-map key as_key g by_g id xs)))
 
+module _ {T : Type 0} (key : T → ℕ) (p : T → Bool) where
+  -- a test that goes by the key: what it lets through is found where it passes
+  pub find-kept : (q : ℕ → Bool) → ((x : T) → p x ≡ q (key x)) → (id : ℕ) (xs : List T) → find_id key id (filter p xs) ≡ keep_if p (find_id key id xs)
+  find-kept q same id [] = refl
+  find-kept q same id (x ∷ xs) = by_tests (key x == id) (p x) refl refl (find-kept q same id xs)
+    where
+      hidden : p x ≡ false → key x ≡ id → (o : Option T) → find_id key id xs ≡ o → keep_if p o ≡ None
+      hidden gone at None there = refl
+      hidden gone at (Some y) there = ap (λ b. if b then Some y else None) (same y ∙ (ap q (key-found key id xs y there ∙ sym at) ∙ (sym (same x) ∙ gone)))
+
+      by_tests : (here passes : Bool) → (key x == id) ≡ here → p x ≡ passes → find_id key id (filter p xs) ≡ keep_if p (find_id key id xs)
+          → find_id key id (cond passes (x ∷ filter p xs) (filter p xs)) ≡ keep_if p (if here then Some x else find_id key id xs)
+      by_tests true true at is rest = ap (λ b. if b then Some x else find_id key id (filter p xs)) at ∙ sym (ap (λ b. if b then Some x else None) is)
+      by_tests true false at is rest = rest ∙ (hidden is (eqb-true (key x) id at) (find_id key id xs) refl ∙ sym (ap (λ b. if b then Some x else None) is))
+      by_tests false true at is rest = ap (λ b. if b then Some x else find_id key id (filter p xs)) at ∙ rest
+      by_tests false false at is rest = rest
+
+  -- an id among those of the items that pass is that of an item that does
+  pub among-passed : (id : ℕ) (xs : List T) → has_id own_id id (map key (filter p xs)) ≡ true → (x : T) × (key x ≡ id) × (p x ≡ true)
+  among-passed id [] among = absurd (cc)
+  among-passed id (x ∷ xs) among = by_test (p x) refl among (among-passed id xs)
+    where
+      by_id : (here : Bool) → (key x == id) ≡ here → p x ≡ true → is_some (if here then Some (key x) else find_id own_id id (map key (filter p xs))) ≡ true
+          → (has_id own_id id (map key (filter p xs)) ≡ true → (y : T) × (key y ≡ id) × (p y ≡ true)) → (y : T) × (key y ≡ id) × (p y ≡ true)
+      by_id true at passes e rest = (x, eqb-true (key x) id at, passes)
+      by_id false at passes e rest = rest e
+
+      by_test : (b : Bool) → p x ≡ b → has_id own_id id (map key (cond b (x ∷ filter p xs) (filter p xs))) ≡ true
+          → (has_id own_id id (map key (filter p xs)) ≡ true → (y : T) × (key y ≡ id) × (p y ≡ true)) → (y : T) × (key y ≡ id) × (p y ≡ true)
+      by_test true passes e rest = by_id (key x == id) refl passes e rest
+      by_test false passes e rest = rest e
+
+-- where no item passes
+pub filter-nothing : {T : Type 0} (p : T → Bool) → ((x : T) → p x ≡ false) → (xs : List T) → filter p xs ≡ []
+filter-nothing p none [] = refl
+filter-nothing p none (x ∷ xs) = ap (λ b. cond b (x ∷ filter p xs) (filter p xs)) (none x) ∙ filter-nothing p none xs
+
+pub any-nothing : {T : Type 0} (p : T → Bool) → ((x : T) → p x ≡ false) → (xs : List T) → list_any p xs ≡ false
+any-nothing p none [] = refl
+any-nothing p none (x ∷ xs) = ap (λ b. b || list_any p xs) (none x) ∙ any-nothing p none xs
+
 -- the first item of a key is the item of that key
 pub find-first : {T : Type 0} (key : T → ℕ) (id : ℕ) (xs : List T) → find (λ x. key x == id) xs ≡ find_id key id xs
 find-first key id [] = refl
@@ -115,15 +156,3 @@ module _ {T : Type 0} (key : T → ℕ) (p : T → Bool) where
       let here : p x ≡ q x = same (key x) x (ap (λ b. if b then Some x else find_id key (key x) xs) (eq-eqb (key x) (key x) refl)) in
       let rest : list_any p xs ≡ list_any q xs = any-same q xs h.1 (λ id y found. same id y (later x xs h.0 id y found)) in
       ap (λ b. b || list_any p xs) here ∙ ap (λ b. q x || b) rest
-
-  -- an id among those of the items that pass is that of an item that does
-  pub among-passed : (id : ℕ) (xs : List T) → IsById key xs → has_id own_id id (map key (filter p xs)) ≡ true → (x : T) × (key x ≡ id) × (p x ≡ true)
-  among-passed id xs h among = by_case (find_id key id xs) (λ x there. key-found key id xs x there) (sym (ap (λ o. is_some o) (find-map key own_id key (λ x. refl) id (filter p xs) ∙ ap (option_map key) (find-filter key p id xs h))) ∙ among)
-    where
-      by_test : (x : T) (b : Bool) → is_some (option_map key (if b then Some x else None)) ≡ true → b ≡ true
-      by_test x true e = refl
-      by_test x false e = e
-
-      by_case : (o : Option T) → ((x : T) → o ≡ Some x → key x ≡ id) → is_some (option_map key (keep_if p o)) ≡ true → (x : T) × (key x ≡ id) × (p x ≡ true)
-      by_case None is e = absurd (cc)
-      by_case (Some x) is e = (x, is x refl, by_test x (p x) e)

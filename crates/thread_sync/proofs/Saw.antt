@@ -13,9 +13,9 @@ use Rattle.guild_model.specs.Consistent.{has_threads, is_parent}
 use Rattle.guild_model.specs.Ascending.{IsWell}
 use Rattle.guild_model.specs.Sight.{Standing, standing, granted, sees, is_private, is_in, member_sees}
 use Rattle.overwrite_eval.proofs.Grants.{granted_missing}
-use Rattle.dispatch_types.specs.Projection.{is_active, seen_threads}
-use Rattle.thread_sync.specs.declared.seen.Seen.{Seen}
-use Rattle.thread_sync.specs.Seen.{is_among, shows_channel, sees_channel, visible_to}
+use Rattle.dispatch_types.specs.Projection.{is_active}
+use Rattle.thread_sync.specs.Shown.{Shown, shown_to}
+use Rattle.thread_sync.specs.Seen.{is_among, shows_channel, visible_to}
 use Rattle.thread_sync.specs.Sync.{is_new, uncovers, is_gained, gained_parents}
 use Rattle.thread_sync.specs.Law.{kind_in, ChangesRights}
 use Rattle.thread_sync.proofs.Lists.{unless, none-passes, has-passed, among-kept}
@@ -45,33 +45,30 @@ parent-stays (Some c) None same is = absurd (cc)
 parent-stays (Some c) (Some d) same is = (d, refl, (let kind : d.kind ≡ c.kind = cc in ap has_threads kind ∙ is))
 
 -- an active thread that is seen now and stands under no gained parent was seen before
-pub saw-before : (s t : Record) (me me' : Member) → IsWell s → ChangesRights s t → me'.user.id ≡ me.user.id → (id : ℕ) (x : Thread) → find_id thread_id id s.threads ≡ Some x
-    → (is_active x && member_sees t me' x) ≡ true → is_among (gained_parents (visible_to s me) t me') x.parent ≡ false → (is_active x && member_sees s me x) ≡ true
-saw-before s t me me' well changes user id x found now not_listed =
-    let was : Seen = visible_to s me in
-    let hides : ℕ → Bool = uncovers was (standing t me') t.threads in
+pub saw-before : (s t : Record) (me me' : Member) → IsWell s → ChangesRights s t → (id : ℕ) (x : Thread) → find_id thread_id id s.threads ≡ Some x
+    → (is_active x && member_sees t me' x) ≡ true → is_among (gained_parents (shown_to s me) (shown_to t me') t) x.parent ≡ false → (is_active x && member_sees s me x) ≡ true
+saw-before s t me me' well changes id x found shown not_listed =
+    let before : Shown = shown_to s me in
+    let now : Shown = shown_to t me' in
+    let hides : ℕ → Bool = uncovers before now t.threads in
     let parent = parent-stays (find_id channel_id x.parent s.channels) (find_id channel_id x.parent t.channels) (changes.channels x.parent) (well.consistent.parents id x found) in
     let is : parent.0.id ≡ x.parent = key-found channel_id x.parent t.channels parent.0 parent.1 in
-    let not_gained : is_gained was hides (standing t me') parent.0 ≡ false = unless _ (λ gained. absurd (cc (has-passed channel_id (is_gained was hides (standing t me')) x.parent parent.0 t.channels parent.1 gained))) in
-    let views : sees_channel t me' parent.0 ≡ true = ap (sees (standing t me')) is ∙ (and_parts _ _ (and_parts _ _ now).1).0 in
-    let parts = missed (has_threads parent.0.kind) (sees_channel t me' parent.0) (is_among was.channels parent.0.id) (hides parent.0.id) parent.2 views not_gained in
-    let viewed : sees (standing s me) x.parent ≡ true = sym (among-seen (standing s me) x.parent well.ascending.channels) ∙ (sym (ap (is_among was.channels) is) ∙ parts.0) in
-    let seen : find_id thread_id id (seen_threads t me') ≡ Some x = subst (λ ts. find_id thread_id id (filter sees_now ts) ≡ Some x) (sym changes.threads) (find-filter thread_id sees_now id s.threads well.ascending.threads ∙ (ap (keep_if sees_now) found ∙ ap (λ b. if b then Some x else None) now)) in
-    let none = none-passes thread_id (λ (x : Thread). x.parent == parent.0.id && is_new was x) id x (seen_threads t me') parts.1 seen in
-    let saw : is_among was.threads x.id ≡ (is_active x && member_sees s me x) = ap (is_among was.threads) (key-found thread_id id s.threads x found) ∙ saw-thread s me id x well.ascending.threads found in
-    conclude (x.parent == parent.0.id) (is_active x) (is_private x.kind) (is_among was.threads x.id) (sees (standing s me) x.parent) (is_in me.user.id x) (granted (standing s me) x.parent manage_threads)
-    (eq-eqb x.parent parent.0.id (sym is)) (and_parts _ _ now).0 viewed saw none
+    let not_gained : is_gained before now hides parent.0 ≡ false = unless _ (λ gained. absurd (cc (has-passed channel_id (is_gained before now hides) x.parent parent.0 t.channels parent.1 gained))) in
+    let views : sees (standing t me') parent.0.id ≡ true = ap (sees (standing t me')) is ∙ (and_parts _ _ (and_parts _ _ shown).1).0 in
+    let parts = missed (has_threads parent.0.kind) (sees (standing t me') parent.0.id) (sees (standing s me) parent.0.id) (hides parent.0.id) parent.2 views not_gained in
+    let viewed : sees (standing s me) x.parent ≡ true = ap (sees (standing s me)) (sym is) ∙ parts.0 in
+    let there : find_id thread_id id t.threads ≡ Some x = subst (λ ts. find_id thread_id id ts ≡ Some x) (sym changes.threads) found in
+    let none = none-passes thread_id (λ (x : Thread). x.parent == parent.0.id && (now.thread x && is_new before x)) id x t.threads parts.1 there in
+    conclude (x.parent == parent.0.id) (is_active x && member_sees t me' x) (is_active x) (is_private x.kind) (sees (standing s me) x.parent) (is_in me.user.id x) (granted (standing s me) x.parent manage_threads)
+    (eq-eqb x.parent parent.0.id (sym is)) shown (and_parts _ _ shown).0 viewed none
   where
-    sees_now : Thread → Bool
-    sees_now x = is_active x && member_sees t me' x
-
     missed : (threads sees saw uncovers : Bool) → threads ≡ true → sees ≡ true → (threads && (sees && (not saw || uncovers))) ≡ false → (saw ≡ true) × (uncovers ≡ false)
     missed true true true uncovers e k none = (refl, none)
     missed true true false uncovers e k none = absurd (cc)
     missed true false saw uncovers e k none = absurd (cc)
     missed false sees saw uncovers e k none = absurd (cc)
 
-    conclude : (same active private saw views joined manages : Bool) → same ≡ true → active ≡ true → views ≡ true → saw ≡ (active && (views && (not private || joined || manages)))
-        → (same && (private && not saw)) ≡ false → (active && (views && (not private || joined || manages))) ≡ true
-    conclude same active true saw views joined manages e a v is none = grind arith
-    conclude same active false saw views joined manages e a v is none = grind arith
+    conclude : (same shown active private views joined manages : Bool) → same ≡ true → shown ≡ true → active ≡ true → views ≡ true
+        → (same && (shown && (private && not (active && (views && (not private || joined || manages)))))) ≡ false → (active && (views && (not private || joined || manages))) ≡ true
+    conclude same shown active true views joined manages e k a v none = grind arith
+    conclude same shown active false views joined manages e k a v none = grind arith

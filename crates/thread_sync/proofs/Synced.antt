@@ -11,7 +11,6 @@ use Rattle.guild_model.specs.declared.thread.ThreadMember.{ThreadMember}
 use Rattle.guild_model.specs.Record.{Record, own_id, thread_id, thread_member_id}
 use Rattle.guild_model.specs.Ascending.{IsWell}
 use Rattle.guild_model.specs.Sight.{member_sees}
-use Rattle.dispatch_types.specs.declared.threads.ThreadObject.{ThreadObject}
 use Rattle.dispatch_types.specs.declared.threads.ThreadMemberObject.{ThreadMemberObject}
 use Rattle.dispatch_types.specs.declared.threads.ThreadListSync.{ThreadListSync as ListSync}
 use Rattle.dispatch_types.specs.declared.view.GuildView.{GuildView}
@@ -21,12 +20,13 @@ use Rattle.dispatch_types.specs.declared.view.ThreadView.{ThreadView}
 use Rattle.dispatch_types.specs.declared.dispatch.Dispatch.TheVariants.{ThreadListSync}
 use Rattle.dispatch_types.specs.Objects.{thread_object, thread_member_object, thread_member_of}
 use Rattle.dispatch_types.specs.Projection.{is_active, thread_view, seen_threads, open_view}
-use Rattle.dispatch_types.specs.Fold.{Held, thread_view_id, contains, thread_of, synced_thread, sync_threads, on_open, view_sees, purged, purge, folded, fold_from}
+use Rattle.dispatch_types.specs.Fold.{Held, thread_view_id, contains, thread_of, synced_thread, sync_threads, on_open, view_sees, purged, folded, fold_from}
 use Rattle.dispatch_types.proofs.Folds.{folded-here}
-use Rattle.thread_sync.specs.Seen.{is_among, visible_to}
-use Rattle.thread_sync.specs.Sync.{gained_parents, threads_in, own_membership, listed_sync, sync_if_any}
+use Rattle.thread_sync.specs.Shown.{Shown, shown_to}
+use Rattle.thread_sync.specs.Seen.{is_among}
+use Rattle.thread_sync.specs.Sync.{gained_parents, threads_in, own_membership, listed_sync, listing_if_any}
 use Rattle.thread_sync.specs.Law.{ChangesRights, told_plainly, SyncRestores}
-use Rattle.thread_sync.proofs.Lists.{filter-map, map-same, find-first}
+use Rattle.thread_sync.proofs.Lists.{filter-both, filter-map, map-same, find-first}
 use Rattle.thread_sync.proofs.Saw.{saw-before}
 
 -- the client's word and the sync's for an id among some
@@ -150,6 +150,12 @@ module _ (intents user : ℕ) (saw sees : Thread → Bool) (vs : ThreadView → 
 
 -- what a client holds then is the view of the record after the change
 module _ (s t : Record) (me me' : Member) (intents : ℕ) (known : List ℕ) (well : IsWell s) (changes : ChangesRights s t) (user : me'.user.id ≡ me.user.id) where
+  abbrev pub before : Shown
+  before = shown_to s me
+
+  abbrev pub now : Shown
+  now = shown_to t me'
+
   abbrev pub saw : Thread → Bool
   saw x = member_sees s me x
 
@@ -172,23 +178,24 @@ module _ (s t : Record) (me me' : Member) (intents : ℕ) (known : List ℕ) (we
   seen-after = ap (λ xs. views (filter (λ (x : Thread). is_active x && sees x) xs)) (sym changes.threads)
 
   -- where no parent is gained, the client's own losses are all
-  pub without-sync : gained_parents (visible_to s me) t me' ≡ [] → purged intents t.id (told_plainly s me t me' intents known) ≡ open_view t intents known me'
+  pub without-sync : gained_parents before now t ≡ [] → purged intents t.id (told_plainly s me t me' intents known) ≡ open_view t intents known me'
   without-sync none =
       ap with_threads
       (ap (filter shown) held-before
       ∙ (lost intents me'.user.id saw sees shown (λ x. refl) s.threads well.ascending.threads
-      (λ id x found now. saw-before s t me me' well changes user id x found now (ap (λ parents. is_among parents x.parent) none))
+      (λ id x found shown. saw-before s t me me' well changes id x found shown (ap (λ parents. is_among parents x.parent) none))
       ∙ seen-after))
 
-  pub with-sync : (parents : List ℕ) → gained_parents (visible_to s me) t me' ≡ parents
-      → purged intents t.id (sync_threads intents (listed_sync t.id me'.user.id parents (threads_in t me' parents)) (purged intents t.id (told_plainly s me t me' intents known))) ≡ open_view t intents known me'
+  pub with-sync : (parents : List ℕ) → gained_parents before now t ≡ parents
+      → purged intents t.id (sync_threads intents (listed_sync t.id me'.user.id parents (threads_in now parents t.threads)) (purged intents t.id (told_plainly s me t me' intents known))) ≡ open_view t intents known me'
   with-sync parents is =
-      ap with_threads
-      (ap (λ threads. filter shown (put_all thread_view_id (filter others (filter shown (map (thread_view intents me.user.id) (seen_threads s me)))) threads)) (synced-back t.id intents me'.user.id (threads_in t me' parents) ascends)
-      ∙ (ap (λ threads. filter shown (put_all thread_view_id (filter others (filter shown threads)) (views (threads_in t me' parents)))) held-before
+      ap (λ ts. purged intents t.id (sync_threads intents (listed_sync t.id me'.user.id parents ts) (purged intents t.id (told_plainly s me t me' intents known)))) (sym (filter-both listed now.thread t.threads))
+      ∙ ap with_threads
+      (ap (λ threads. filter shown (put_all thread_view_id (filter others (filter shown (map (thread_view intents me.user.id) (seen_threads s me)))) threads)) (synced-back t.id intents me'.user.id (filter listed (seen_threads t me')) ascends)
+      ∙ (ap (λ threads. filter shown (put_all thread_view_id (filter others (filter shown threads)) (views (filter listed (seen_threads t me'))))) held-before
       ∙ (ap (λ xs. filter shown (put_all thread_view_id (filter others (filter shown (views (seen_threads s me)))) (views (filter listed (filter (λ (x : Thread). is_active x && sees x) xs))))) changes.threads
       ∙ (regained intents me'.user.id saw sees shown (λ x. refl) s.threads well.ascending.threads parents
-      (λ id x found now other. saw-before s t me me' well changes user id x found now (ap (λ parents. is_among parents x.parent) is ∙ other))
+      (λ id x found shown other. saw-before s t me me' well changes id x found shown (ap (λ parents. is_among parents x.parent) is ∙ other))
       ∙ seen-after))))
     where
       others : ThreadView → Bool
@@ -197,7 +204,7 @@ module _ (s t : Record) (me me' : Member) (intents : ℕ) (known : List ℕ) (we
       listed : Thread → Bool
       listed x = is_among parents x.parent
 
-      ascends : IsById thread_id (threads_in t me' parents)
+      ascends : IsById thread_id (filter listed (seen_threads t me'))
       ascends = IsById-filter thread_id listed _ (subst (λ xs. IsById thread_id (filter (λ (x : Thread). is_active x && sees x) xs)) (sym changes.threads) (IsById-filter thread_id (λ (x : Thread). is_active x && sees x) s.threads well.ascending.threads))
 
 -- what a client makes of a sync
@@ -206,12 +213,12 @@ folded-sync : (intents : ℕ) (h : Held) (guild : ℕ) (sync : ListSync) → syn
 folded-sync intents h guild sync of = folded-here intents guild h (ThreadListSync sync) (ap Some of) refl
 
 pub sync_restores : SyncRestores
-sync_restores s t me me' intents h well changes user held = by_parents (gained_parents (visible_to s me) t me') refl
+sync_restores s t me me' intents h well changes user held = by_parents (gained_parents (shown_to s me) (shown_to t me') t) refl
   where
-    by_parents : (parents : List ℕ) → gained_parents (visible_to s me) t me' ≡ parents → fold_from intents t.id h (option_to_list (sync_if_any t me' parents)) ≡ record h { view = Some (Open (open_view t intents h.known me')) }
+    by_parents : (parents : List ℕ) → gained_parents (shown_to s me) (shown_to t me') t ≡ parents → fold_from intents t.id h (option_to_list (listing_if_any (shown_to t me') t me'.user.id parents)) ≡ record h { view = Some (Open (open_view t intents h.known me')) }
     by_parents [] is = ap (λ (view : Option GuildView). record h { view = view }) (held ∙ ap (λ (v : OpenView). Some (Open v)) (without-sync s t me me' intents h.known well changes user is))
     by_parents (p ∷ ps) is =
-        let sync : ListSync = listed_sync t.id me'.user.id (p ∷ ps) (threads_in t me' (p ∷ ps)) in
+        let sync : ListSync = listed_sync t.id me'.user.id (p ∷ ps) (threads_in (shown_to t me') (p ∷ ps) t.threads) in
         folded-sync intents h t.id sync refl
         ∙ (ap (λ (view : Option GuildView). record h { view = on_open (purged intents t.id) (on_open (sync_threads intents sync) view) }) held
         ∙ ap (λ (v : OpenView). record h { view = Some (Open v) }) (with-sync s t me me' intents h.known well changes user (p ∷ ps) is))

@@ -12,15 +12,15 @@ use Rattle.dispatch_types.specs.declared.view.OpenView.{OpenView}
 use Rattle.dispatch_types.specs.Projection.{open_view}
 use Rattle.dispatch_types.specs.Fold.{Held, purged, fold_from}
 use Rattle.thread_sync.specs.Sight.{KeepsGrants}
-use Rattle.thread_sync.specs.Seen.{visible_to}
-use Rattle.thread_sync.specs.Sync.{sync}
-use Rattle.thread_sync.specs.InChannel.{visible_in, sync_in}
-use Rattle.thread_sync.specs.ChannelSights.{sights}
-use Rattle.thread_sync.specs.BySights.{sync_by}
+use Rattle.thread_sync.specs.Shown.{shown_to}
+use Rattle.thread_sync.specs.Seen.{by_lists, visible_to}
+use Rattle.thread_sync.specs.Sync.{list_sync, uncovered_to}
+use Rattle.thread_sync.specs.ChannelSights.{sight_of, sights, by_sight, by_sights}
 
 -- one that is granted what it was, wherever threads stand, holds the threads that it held
 abbrev pub ThreadsStay : Type 0
-ThreadsStay = (s t : Record) (me me' : Member) (intents : ℕ) (known known' : List ℕ) → IsAscending s → t.threads ≡ s.threads → me'.user.id ≡ me.user.id
+ThreadsStay = (s t : Record) (me me' : Member) (intents : ℕ) (known known' : List ℕ) → IsAscending s
+    → t.threads ≡ s.threads → me'.user.id ≡ me.user.id
     → KeepsGrants s me t me' → (open_view t intents known' me').threads ≡ (open_view s intents known me).threads
 
 abbrev pub kind_in : Channel → ChannelKind
@@ -29,33 +29,46 @@ kind_in c = c.kind
 -- the same channels, of the same types, with the same threads: owner, roles, members and overwrites may be others
 pub record ChangesRights (s t : Record) : Type 0 where
   pub id : t.id ≡ s.id
-  pub channels : (channel : ℕ) → option_map kind_in (find_id channel_id channel t.channels) ≡ option_map kind_in (find_id channel_id channel s.channels)
+  pub channels : (channel : ℕ) → option_map kind_in (find_id channel_id channel t.channels)
+      ≡ option_map kind_in (find_id channel_id channel s.channels)
   pub threads : t.threads ≡ s.threads
 
 -- what a client has made of the plain event: all is as it is after the change, but the threads
 abbrev pub told_plainly : Record → Member → Record → Member → ℕ → List ℕ → OpenView
-told_plainly s me t me' intents known = record (open_view t intents known me') { threads = (open_view s intents known me).threads }
+told_plainly s me t me' intents known =
+    record (open_view t intents known me') { threads = (open_view s intents known me).threads }
 
 -- THE LAW OF PERMISSION CHANGES: the client's own losses and the gains of the sync, where there is one,
 -- make up the whole difference. It holds what the bot then sees.
 abbrev pub SyncRestores : Type 0
-SyncRestores = (s t : Record) (me me' : Member) (intents : ℕ) (h : Held) → IsWell s → ChangesRights s t → me'.user.id ≡ me.user.id
+SyncRestores = (s t : Record) (me me' : Member) (intents : ℕ) (h : Held) → IsWell s → ChangesRights s t
+    → me'.user.id ≡ me.user.id
     → h.view ≡ Some (Open (purged intents t.id (told_plainly s me t me' intents h.known)))
-    → fold_from intents t.id h (option_to_list (sync (visible_to s me) t me')) ≡ record h { view = Some (Open (open_view t intents h.known me')) }
+    → fold_from intents t.id h (option_to_list (uncovered_to (shown_to s me) t me'))
+    ≡ record h { view = Some (Open (open_view t intents h.known me')) }
 
--- records that differ in one channel alone, as after an edit of its overwrites
+-- ---- what has to be kept of the record before a change, for the sync after it
+
+-- the lists of what was seen are enough, where the threads are as they were
+abbrev pub ListsAreEnough : Type 0
+ListsAreEnough = (s t : Record) (me me' : Member) → IsAscending s → t.threads ≡ s.threads
+    → uncovered_to (by_lists (visible_to s me)) t me' ≡ uncovered_to (shown_to s me) t me'
+
+-- the sights of the channels are enough after any change
+abbrev pub SightsAreEnough : Type 0
+SightsAreEnough = (s t : Record) (me me' : Member)
+    → uncovered_to (by_sights (sights (standing s me))) t me' ≡ uncovered_to (shown_to s me) t me'
+
+-- records in which a member's sight may differ in one channel alone, as after an edit of its overwrites
 pub record ChangesChannel (s t : Record) (channel : ℕ) : Type 0 where
   pub id : t.id ≡ s.id
   pub owner : t.owner ≡ s.owner
   pub roles : t.roles ≡ s.roles
-  pub threads : t.threads ≡ s.threads
-  pub others : (other : ℕ) → (other == channel) ≡ false → find_id channel_id other t.channels ≡ find_id channel_id other s.channels
+  pub others : (other : ℕ) → (other == channel) ≡ false
+      → find_id channel_id other t.channels ≡ find_id channel_id other s.channels
 
--- then what the member saw of that channel is all that has to be kept: the sync of it is the sync of all
-abbrev pub ChannelSyncIsWhole : Type 0
-ChannelSyncIsWhole = (s t : Record) (me : Member) (channel : ℕ) → IsAscending s → IsAscending t → ChangesChannel s t channel
-    → sync_in (visible_in s me channel) t me channel ≡ sync (visible_to s me) t me
-
--- where the threads are as they were, the sights of the channels are all that has to be kept: the sync by them is the sync by all that was seen
-abbrev pub RightsSyncIsWhole : Type 0
-RightsSyncIsWhole = (s t : Record) (me me' : Member) → IsAscending s → t.threads ≡ s.threads → sync_by (sights (standing s me)) t me' ≡ sync (visible_to s me) t me'
+-- then the sight of that channel before, and the one after, are enough
+abbrev pub OneSightIsEnough : Type 0
+OneSightIsEnough = (s t : Record) (me : Member) (channel : ℕ) → ChangesChannel s t channel
+    → list_sync (by_sight (sight_of s me channel)) (by_sight (sight_of t me channel)) t me.user.id
+    ≡ uncovered_to (shown_to s me) t me

@@ -9,66 +9,70 @@ use Rattle.guild_model.specs.declared.channel.Channel.{Channel}
 use Rattle.guild_model.specs.declared.thread.Thread.{Thread}
 use Rattle.guild_model.specs.Record.{Record, member_id, channel_id, thread_member_id}
 use Rattle.guild_model.specs.Consistent.{has_threads}
-use Rattle.guild_model.specs.Sight.{Standing, standing, sees, is_private}
+use Rattle.guild_model.specs.Sight.{is_private}
 use Rattle.dispatch_types.specs.declared.threads.ThreadMemberObject.{ThreadMemberObject}
 use Rattle.dispatch_types.specs.declared.threads.ThreadListSync.{ThreadListSync as ListSync}
 use Rattle.dispatch_types.specs.declared.dispatch.Dispatch.{Dispatch}
 use Rattle.dispatch_types.specs.declared.dispatch.Dispatch.TheVariants.{ThreadListSync}
 use Rattle.dispatch_types.specs.Objects.{thread_object, thread_member_object}
-use Rattle.dispatch_types.specs.Projection.{seen_threads}
-use Rattle.thread_sync.specs.declared.seen.Seen.{Seen}
-use Rattle.thread_sync.specs.Seen.{is_among, shows}
+use Rattle.thread_sync.specs.Seen.{is_among}
+use Rattle.thread_sync.specs.Shown.{Shown, shown_to}
 
--- a private thread that was not seen before
-abbrev pub is_new : Seen → Thread → Bool
-is_new was t = is_private t.kind && not (is_among was.threads t.id)
+-- a private thread that was not shown before
+abbrev pub is_new : Shown → Thread → Bool
+is_new before t = is_private t.kind && not (before.thread t)
 
--- there is such a thread in a channel, and it is seen
-abbrev pub uncovers_where : Seen → (Thread → Bool) → List Thread → ℕ → Bool
-uncovers_where was shown threads channel = list_any (λ (t : Thread). t.parent == channel && is_new was t) (filter shown threads)
+-- such a thread is shown now in a channel
+abbrev pub uncovers : Shown → Shown → List Thread → ℕ → Bool
+uncovers before now threads channel =
+    list_any (λ (t : Thread). t.parent == channel && (now.thread t && is_new before t)) threads
 
-abbrev pub uncovers : Seen → Standing → List Thread → ℕ → Bool
-uncovers was s threads channel = uncovers_where was (shows s) threads channel
+-- a parent is gained if it is shown now, and either was not shown before or a thread in it is uncovered
+abbrev pub is_gained : Shown → Shown → (ℕ → Bool) → Channel → Bool
+is_gained before now uncovered c =
+    has_threads c.kind && (now.channel c.id && (not (before.channel c.id) || uncovered c.id))
 
--- a parent is gained where it is seen, and either was not seen before or has such a thread
-abbrev pub is_gained_where : Seen → (ℕ → Bool) → (ℕ → Bool) → Channel → Bool
-is_gained_where was uncovered sees c = has_threads c.kind && (sees c.id && (not (is_among was.channels c.id) || uncovered c.id))
+abbrev pub gained_parents : Shown → Shown → Record → List ℕ
+gained_parents before now s =
+    map channel_id (filter (is_gained before now (uncovers before now s.threads)) s.channels)
 
-abbrev pub is_gained : Seen → (ℕ → Bool) → Standing → Channel → Bool
-is_gained was uncovered s c = is_gained_where was uncovered (sees s) c
+-- the active threads in some parents that are shown
+abbrev pub threads_in : Shown → List ℕ → List Thread → List Thread
+threads_in now parents threads = filter (λ (t : Thread). is_among parents t.parent && now.thread t) threads
 
-abbrev pub gained_parents : Seen → Record → Member → List ℕ
-gained_parents was s me = map channel_id (filter (is_gained was (uncovers was (standing s me) s.threads) (standing s me)) s.channels)
-
--- the active threads in some parents that the member sees, and its own memberships in some threads
-abbrev pub threads_in : Record → Member → List ℕ → List Thread
-threads_in s me parents = filter (λ (t : Thread). is_among parents t.parent) (seen_threads s me)
-
+-- a user's membership in a thread, if the user is in it
 abbrev pub own_membership : ℕ → Thread → Option ThreadMemberObject
 own_membership user t = option_map (thread_member_object t.id) (find_id thread_member_id user t.members)
 
 -- the sync of some parents to a user, with these threads
 abbrev pub listed_sync : ℕ → ℕ → List ℕ → List Thread → ListSync
-listed_sync guild user parents ts = record { guild = guild; channels = parents; threads = map (thread_object guild) ts; members = filter_map (own_membership user) ts }
+listed_sync guild user parents ts = record {
+  guild = guild;
+  channels = parents;
+  threads = map (thread_object guild) ts;
+  members = filter_map (own_membership user) ts;
+}
 
 abbrev pub listing : ℕ → ℕ → List ℕ → List Thread → Dispatch
 listing guild user parents ts = ThreadListSync (listed_sync guild user parents ts)
 
-abbrev pub sync_of : Record → Member → List ℕ → Dispatch
-sync_of s me parents = listing s.id me.user.id parents (threads_in s me parents)
+-- a sync is sent exactly if some parent is gained
+abbrev pub listing_if_any : Shown → Record → ℕ → List ℕ → Option Dispatch
+listing_if_any now s user [] = None
+listing_if_any now s user (p ∷ ps) = Some (listing s.id user (p ∷ ps) (threads_in now (p ∷ ps) s.threads))
 
--- a sync is sent exactly where some parent is gained
-abbrev pub sync_if_any : Record → Member → List ℕ → Option Dispatch
-sync_if_any s me [] = None
-sync_if_any s me (p ∷ ps) = Some (sync_of s me (p ∷ ps))
+-- the sync of what is shown now of a record, and was not shown before
+abbrev pub list_sync : Shown → Shown → Record → ℕ → Option Dispatch
+list_sync before now s user = listing_if_any now s user (gained_parents before now s)
 
-abbrev pub sync : Seen → Record → Member → Option Dispatch
-sync was s me = sync_if_any s me (gained_parents was s me)
+-- the sync of what a member sees of a record, and was not shown before
+abbrev pub uncovered_to : Shown → Record → Member → Option Dispatch
+uncovered_to before s me = list_sync before (shown_to s me) s me.user.id
 
 -- a user that is no member gains nothing
-abbrev pub uncovered_of : Seen → Record → Option Member → Option Dispatch
-uncovered_of was s None = None
-uncovered_of was s (Some me) = sync was s me
+abbrev pub uncovered_of : Shown → Record → Option Member → Option Dispatch
+uncovered_of before s None = None
+uncovered_of before s (Some me) = uncovered_to before s me
 
-abbrev pub uncovered : Seen → Record → ℕ → Option Dispatch
-uncovered was s user = uncovered_of was s (find_id member_id user s.members)
+abbrev pub uncovered : Shown → Record → ℕ → Option Dispatch
+uncovered before s user = uncovered_of before s (find_id member_id user s.members)

@@ -3,8 +3,9 @@
 ghost use Rattle.std.specs.Prelude.{◌≡◌, IfOk};
 ghost use Rattle.collections.specs.ById.{IsById};
 ghost use Rattle.guild_model.specs.Record.{channel_id};
-ghost use Rattle.thread_sync.specs.ChannelSights.{sight_in, shows_under, seen_in, shows_among, covers};
+ghost use Rattle.thread_sync.specs.ChannelSights.{sight_in, seen_in, covers, by_sight, by_sights};
 
+use crate::shown::Shows;
 use collections::{ById, Keyed};
 use guild_model::{Channel, Thread};
 use overwrite_eval::StandingRef;
@@ -44,21 +45,47 @@ pub(crate) fn sight_in(standing: &StandingRef, user: Snowflake, channel: Snowfla
 }
 
 impl ChannelSight {
-    // Whether a thread is an active one of the channel that is seen. Most stand elsewhere.
-    pub(crate) fn shows(&self, thread: &Thread) -> bool
-        ensures { result ≡ shows_under self.now thread.now }
-    {
-        self.views
-            && thread.parent == self.channel
-            && !thread.archived
-            && (!thread.kind.is_private() || self.manages || thread.members.contains(self.user.0))
-    }
-
     // Whether this sight shows all that another one of the channel does.
     pub(crate) fn covers(&self, other: &ChannelSight) -> bool
         ensures { result ≡ covers self.now other.now }
     {
         self.views && self.user == other.user && (self.manages || !other.manages)
+    }
+}
+
+/// By the sight of one channel: the channel itself, and the threads in it.
+impl Shows for ChannelSight {
+    ghost shown = { by_sight };
+
+    fn shows_channel(&self, channel: Snowflake) -> bool {
+        self.views && self.channel == channel
+    }
+
+    // Most threads stand elsewhere.
+    fn shows_thread(&self, thread: &Thread) -> bool {
+        self.views
+            && thread.parent == self.channel
+            && !thread.archived
+            && (!thread.kind.is_private() || self.manages || thread.members.contains(self.user.0))
+    }
+}
+
+/// By the sights of the channels that the member sees.
+impl Shows for ById<ChannelSight> {
+    ghost shown = { by_sights };
+
+    fn shows_channel(&self, channel: Snowflake) -> bool {
+        self.contains(channel.0)
+    }
+
+    fn shows_thread(&self, thread: &Thread) -> bool {
+        if thread.archived {
+            return false;
+        }
+        match self.get(thread.parent.0) {
+            Some(sight) => sight.shows_thread(thread),
+            None => false,
+        }
     }
 }
 
@@ -89,17 +116,4 @@ pub(crate) fn sights(
 {
     let seen = seen_in(alloc, standing, user, channels)?;
     Ok(ById::from_ascending(seen))
-}
-
-// Whether a thread is active and seen, by the sights of the member.
-pub(crate) fn shows_among(sights: &ById<ChannelSight>, thread: &Thread) -> bool
-    ensures { result ≡ shows_among sights.now thread.now }
-{
-    if thread.archived {
-        return false;
-    }
-    match sights.get(thread.parent.0) {
-        Some(sight) => sight.shows(thread),
-        None => false,
-    }
 }

@@ -1,4 +1,6 @@
-ghost use Rattle.thread_sync.specs.Law.{ThreadsStay, SyncRestores, ChannelSyncIsWhole, RightsSyncIsWhole};
+//! The laws of what a change of permissions uncovers.
+
+ghost use Rattle.thread_sync.specs.Law.{ThreadsStay, SyncRestores, ListsAreEnough, SightsAreEnough, OneSightIsEnough};
 
 /// THE LAW OF PERMISSION CHANGES: after any change of owner, roles, members and overwrites, a client's
 /// own losses and the gains of the sync make up the whole difference.
@@ -11,14 +13,19 @@ pub fn threads_stay()
     ensures { ThreadsStay }
 {}
 
-/// After a change of one channel alone, the sync that looks at that channel and its threads is the sync
-/// that looks at all.
-pub fn channel_sync_is_whole()
-    ensures { ChannelSyncIsWhole }
+/// The sync by the lists of what was seen before is the sync by the record before, if the threads are
+/// as they were.
+pub fn lists_are_enough()
+    ensures { ListsAreEnough }
 {}
 
-/// After a change of owner, roles or members, the sync by the sights of the channels before it is the
-/// sync by all channels and threads that were seen.
-pub fn rights_sync_is_whole()
-    ensures { RightsSyncIsWhole }
+/// The sync by the sights of the channels before is the sync by the record before.
+pub fn sights_are_enough()
+    ensures { SightsAreEnough }
+{}
+
+/// After a change of one channel alone, the sync by the sights of that channel before and after is the
+/// sync by the records before and after.
+pub fn one_sight_is_enough()
+    ensures { OneSightIsEnough }
 {}

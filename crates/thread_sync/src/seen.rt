@@ -1,11 +1,12 @@
-//! What a viewer sees of a guild.
+//! What a viewer sees of a guild, as lists of ids.
 
 ghost use Rattle.std.specs.Prelude.{◌≡◌, IfOk, map, filter};
 ghost use Rattle.guild_model.specs.Record.{thread_id};
 ghost use Rattle.thread_sync.specs.ChannelSights.{sight_id, shows_among};
-ghost use Rattle.thread_sync.specs.Seen.{visible_to, visible};
+ghost use Rattle.thread_sync.specs.Seen.{by_lists, visible_to, visible};
 
-use crate::channel_sight::{ChannelSight, shows_among, sights};
+use crate::channel_sight::{ChannelSight, sights};
+use crate::shown::Shows;
 use collections::ById;
 use dispatch_types::Viewer;
 use guild_model::{Guild, Member, Thread};
@@ -18,6 +19,19 @@ use std::alloc::{AllocError, Global};
 pub struct Seen {
     pub channels: ById<Snowflake>,
     pub threads: ById<Snowflake>,
+}
+
+/// By the lists of what the viewer saw.
+impl Shows for Seen {
+    ghost shown = { by_lists };
+
+    fn shows_channel(&self, channel: Snowflake) -> bool {
+        self.channels.contains(channel.0)
+    }
+
+    fn shows_thread(&self, thread: &Thread) -> bool {
+        self.threads.contains(thread.id.0)
+    }
 }
 
 fn seen_channels(alloc: Global, sights: &[ChannelSight]) -> Result<Vec<Snowflake>, AllocError>
@@ -35,7 +49,7 @@ fn seen_threads(
 {
     threads
         .iter()
-        .filter(|thread| shows_among(sights, thread))
+        .filter(|thread| sights.shows_thread(thread))
         .map(|thread| thread.id)
         .collect(alloc)
 }
@@ -55,7 +69,7 @@ pub fn visible_to(alloc: Global, guild: &Guild, me: &Member) -> Result<Seen, All
 }
 
 /// The channels and the active threads that a viewer's user sees (Permissions, VIEW_CHANNEL; Threads,
-/// Private Threads): none where it is no member.
+/// Private Threads): none if it is no member.
 pub fn visible(alloc: Global, guild: &Guild, viewer: &Viewer) -> Result<Seen, AllocError>
     ensures { IfOk result (λ seen. seen ≡ visible guild.now viewer.now.user) }
 {

@@ -7,9 +7,9 @@ use Rattle.intent_set.specs.Intents.{guild_voice_states, guild_presences}
 use Rattle.guild_model.specs.declared.member.Member.{Member}
 use Rattle.guild_model.specs.declared.voice.Voice.{Voice}
 use Rattle.guild_model.specs.declared.presence.Presence.{Presence}
-use Rattle.guild_model.specs.declared.presence.Activity.{Activity}
+use Rattle.guild_model.specs.declared.presence.ShownStatus.{ShownStatus}
 use Rattle.guild_model.specs.Record.{Record, voice_id, presence_id}
-use Rattle.guild_model.specs.Statuses.{status_activity}
+use Rattle.guild_model.specs.Statuses.{status_shown}
 use Rattle.dispatch_types.specs.declared.viewer.Viewer.{Viewer}
 use Rattle.dispatch_types.specs.declared.view.OpenView.{OpenView}
 use Rattle.dispatch_types.specs.declared.dispatch.Dispatch.{Dispatch}
@@ -20,14 +20,14 @@ use Rattle.voice_presence.specs.declared.VoicePresenceEdit.{VoicePresenceEdit}
 use Rattle.voice_presence.specs.declared.VoicePresenceEdit.TheVariants as edit
 use Rattle.voice_presence.specs.declared.voice_set.VoiceSet.{VoiceSet}
 use Rattle.voice_presence.specs.Voices.{new_voice, with_voice, voice_was_set}
-use Rattle.voice_presence.specs.Presences.{with_activity}
+use Rattle.voice_presence.specs.Presences.{with_shown_status}
 use Rattle.voice_presence.specs.VoicePresence.{voice_presence_applied}
 use Rattle.dispatch_types.proofs.Folds.{folded-here}
 use Rattle.event_views.specs.Asked.{asked}
 use Rattle.event_views.specs.Has.{Has}
 use Rattle.event_views.proofs.Steps.{same, IsOf, asked-of, whole, untold, by_asked}
 use Rattle.event_views.proofs.Lists.{listed-same}
-use Rattle.voice_presence_events.specs.Rows.{voice_told, presence_told, voice_update, voice_presence_row}
+use Rattle.voice_presence_events.specs.Dispatches.{voice_told, presence_told, voice_update, voice_presence_dispatches}
 
 -- a list that an intent asks for is held whole
 listed-whole : {T : Type 0} (intents bit : ℕ) (xs : List T) → has_bit intents bit ≡ true → listed intents bit xs ≡ xs
@@ -64,45 +64,45 @@ follows-voice s v h me set has = by_channel set.channel
     by_channel : (channel : Option ℕ) → Has (with_voice s set channel) v me (fold_from v.intents s.id h (asked v false (d channel)))
     by_channel channel = by_asked (with_voice s set channel) v s.id h me false (d channel) (tells channel) (keeps_silent channel)
 
-pub follows-presence : (s : Record) (v : Viewer) (h : Held) (me : Member) (user : ℕ) (activity : Option Activity)
-    → Has s v me h → Has (with_activity s user activity) v me (fold_from v.intents s.id h (asked v false (PresenceUpdate (presence_told s.id user activity))))
-follows-presence s v h me user activity has =
-    by_asked (with_activity s user activity) v s.id h me false (PresenceUpdate (presence_told s.id user activity)) (tells activity) (keeps_silent activity)
+pub follows-presence : (s : Record) (v : Viewer) (h : Held) (me : Member) (user : ℕ) (shown : Option ShownStatus)
+    → Has s v me h → Has (with_shown_status s user shown) v me (fold_from v.intents s.id h (asked v false (PresenceUpdate (presence_told s.id user shown))))
+follows-presence s v h me user shown has =
+    by_asked (with_shown_status s user shown) v s.id h me false (PresenceUpdate (presence_told s.id user shown)) (tells shown) (keeps_silent shown)
   where
     with-presences : List Presence → OpenView
     with-presences ps = record (open_view s v.intents h.known me) { presences = ps }
 
-    tells : (activity : Option Activity) → has_bit v.intents guild_presences ≡ true → Has (with_activity s user activity) v me (folded v.intents s.id h (PresenceUpdate (presence_told s.id user activity)))
+    tells : (shown : Option ShownStatus) → has_bit v.intents guild_presences ≡ true → Has (with_shown_status s user shown) v me (folded v.intents s.id h (PresenceUpdate (presence_told s.id user shown)))
     tells None asks =
-        whole s (with_activity s user None) v h me me (PresenceUpdate (presence_told s.id user None)) (set_presence user None) same refl
+        whole s (with_shown_status s user None) v h me me (PresenceUpdate (presence_told s.id user None)) (set_presence user None) same refl
         (folded-here v.intents s.id h (PresenceUpdate (presence_told s.id user None)) refl refl)
         (ap with-presences (ap (without_id presence_id user) (listed-whole v.intents guild_presences s.presences asks) ∙ sym (listed-whole v.intents guild_presences (without_id presence_id user s.presences) asks))) has
     tells (Some a) asks =
         let p : Presence = record { user = user; status = a } in
-        whole s (with_activity s user (Some a)) v h me me (PresenceUpdate (presence_told s.id user (Some a))) (set_presence user (Some p)) same refl
+        whole s (with_shown_status s user (Some a)) v h me me (PresenceUpdate (presence_told s.id user (Some a))) (set_presence user (Some p)) same refl
         (folded-here v.intents s.id h (PresenceUpdate (presence_told s.id user (Some a))) refl refl)
         (ap with-presences (ap (put_id presence_id p) (listed-whole v.intents guild_presences s.presences asks) ∙ sym (listed-whole v.intents guild_presences (put_id presence_id p s.presences) asks))) has
 
-    keeps_silent : (activity : Option Activity) → has_bit v.intents guild_presences ≡ false → Has (with_activity s user activity) v me h
-    keeps_silent None blind = untold s (with_activity s user None) v h me me (ap with-presences (listed-same v.intents guild_presences s.presences (without_id presence_id user s.presences) (λ e. absurd (cc)))) has
+    keeps_silent : (shown : Option ShownStatus) → has_bit v.intents guild_presences ≡ false → Has (with_shown_status s user shown) v me h
+    keeps_silent None blind = untold s (with_shown_status s user None) v h me me (ap with-presences (listed-same v.intents guild_presences s.presences (without_id presence_id user s.presences) (λ e. absurd (cc)))) has
     keeps_silent (Some a) blind =
         let p : Presence = record { user = user; status = a } in
-        untold s (with_activity s user (Some a)) v h me me (ap with-presences (listed-same v.intents guild_presences s.presences (put_id presence_id p s.presences) (λ e. absurd (cc)))) has
+        untold s (with_shown_status s user (Some a)) v h me me (ap with-presences (listed-same v.intents guild_presences s.presences (put_id presence_id p s.presences) (λ e. absurd (cc)))) has
 
 pub follows-voice_presence : (s : Record) (v : Viewer) (h : Held) (me : Member) (e : VoicePresenceEdit)
-    → Has s v me h → Has (voice_presence_applied s e) v me (fold_from v.intents s.id h (voice_presence_row (voice_presence_applied s e) v e))
+    → Has s v me h → Has (voice_presence_applied s e) v me (fold_from v.intents s.id h (voice_presence_dispatches (voice_presence_applied s e) v e))
 follows-voice_presence s v h me (edit.VoiceSet set) has =
     subst (λ (g : ℕ). Has (voice_was_set s set) v me (fold_from v.intents s.id h (voice_update g v set))) (sym (same_guild set.channel)) (follows-voice s v h me set has)
   where
     same_guild : (channel : Option ℕ) → (with_voice s set channel).id ≡ s.id
     same_guild None = refl
     same_guild (Some channel) = refl
-follows-voice_presence s v h me (edit.PresenceSet set) has = by_activity (status_activity set.status)
+follows-voice_presence s v h me (edit.PresenceSet set) has = by_shown (status_shown set.status)
   where
-    by_activity : (a : Option Activity) → Has (with_activity s set.user a) v me (fold_from v.intents s.id h (asked v false (PresenceUpdate (presence_told (with_activity s set.user a).id set.user a))))
-    by_activity None = follows-presence s v h me set.user None has
-    by_activity (Some a) = follows-presence s v h me set.user (Some a) has
+    by_shown : (a : Option ShownStatus) → Has (with_shown_status s set.user a) v me (fold_from v.intents s.id h (asked v false (PresenceUpdate (presence_told (with_shown_status s set.user a).id set.user a))))
+    by_shown None = follows-presence s v h me set.user None has
+    by_shown (Some a) = follows-presence s v h me set.user (Some a) has
 
-pub row-of : (after : Record) (v : Viewer) (e : VoicePresenceEdit) → All (IsOf after.id) (voice_presence_row after v e)
-row-of after v (edit.VoiceSet set) = asked-of after.id v false (VoiceStateUpdate (record { guild = after.id; voice = voice_told set })) refl
-row-of after v (edit.PresenceSet set) = asked-of after.id v false (PresenceUpdate (presence_told after.id set.user (status_activity set.status))) refl
+pub dispatches-of : (after : Record) (v : Viewer) (e : VoicePresenceEdit) → All (IsOf after.id) (voice_presence_dispatches after v e)
+dispatches-of after v (edit.VoiceSet set) = asked-of after.id v false (VoiceStateUpdate (record { guild = after.id; voice = voice_told set })) refl
+dispatches-of after v (edit.PresenceSet set) = asked-of after.id v false (PresenceUpdate (presence_told after.id set.user (status_shown set.status))) refl

@@ -3,7 +3,7 @@
 #![tactic(auto)]
 
 ghost use Rattle.std.specs.Prelude.{◌≡◌, ◌++◌, OnOk};
-ghost use Rattle.voice_presence_events.specs.Rows.{voice_update, presence_update, voice_presence_row};
+ghost use Rattle.voice_presence_events.specs.Dispatches.{voice_update, presence_update, voice_presence_dispatches};
 
 use dispatch_types::{Dispatch, PresenceObject, VoiceObject, VoiceStateUpdate};
 use event_views::Recipient;
@@ -49,19 +49,19 @@ fn add_presence(
     list.push(Dispatch::PresenceUpdate(PresenceObject {
         guild: to.guild(),
         user: edit.user,
-        status: edit.status.activity(),
+        status: edit.status.shown(),
     }))?;
     Ok(())
 }
 
 /// Adds the dispatches of an edit, by the record after it.
-pub fn row(
+pub fn add_dispatches(
     to: &Recipient<'_>,
     edit: &VoicePresenceEdit,
     list: &mut Vec<Dispatch>,
 ) -> Result<(), AllocError>
     ensures { OnOk result (list.new.items
-        ≡ list.old.items ++ voice_presence_row to.now.after to.now.viewer edit.now) }
+        ≡ list.old.items ++ voice_presence_dispatches to.now.after to.now.viewer edit.now) }
 {
     match edit {
         VoicePresenceEdit::VoiceSet(edit) => add_voice(to, edit, list),

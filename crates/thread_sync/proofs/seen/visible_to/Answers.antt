@@ -2,7 +2,7 @@ use Rattle.std.proofs.Common.{◌≡◌, map, refl, sym, ap, subst, ◌∙◌}
 use Rattle.std.specs.Prelude.{filter}
 use Rattle.collections.specs.ById.{IsById}
 use Rattle.collections.proofs.Finds.{IsById-filter, IsById-map}
-use Rattle.guild_model.specs.Record.{Record, own_id, channel_id, thread_id}
+use Rattle.guild_model.specs.Record.{Record, own_id, thread_id}
 use Rattle.guild_model.specs.Sight.{Standing, standing}
 use Rattle.thread_sync.specs.ChannelSights.{sight_id, seen_in, sights, shows_among}
 use Rattle.thread_sync.proofs.Steps.{visible-parts}
@@ -27,7 +27,7 @@ returns c =
     let found : c.in_ok-sights.sights ≡ sights s =
     c.in_ok-sights.ensures ∙ (ap (λ u. seen_in u c.args.me.now.user.id c.as_slice.result.now) c.in_guild-standing.ensures
     ∙ ap (λ cs. seen_in s c.args.me.now.user.id cs) (c.as_slice.ensures.items ∙ channels)) in
-    visible-parts g c.args.me.now (subst (IsById channel_id) channels c.as_slice.ensures.ascending)
+    visible-parts g c.args.me.now
     c.from_ascending-channels.result c.from_ascending-threads.result
     (c.from_ascending-channels.ensures ∙ (c.in_ok-channels.ensures ∙ ap (map sight_id) (c.as_slice-2.ensures.items ∙ found)))
     (c.from_ascending-threads.ensures ∙ (c.in_ok-threads.ensures
