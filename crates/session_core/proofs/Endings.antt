@@ -1,5 +1,5 @@
 -- Connections and sessions that end.
-use Rattle.std.proofs.Common.{◌≡◌, ℕ, ◌+◌, List, [], ◌∷◌, ◌++◌, map, filter, not, true, false, Bool, cond, Option, Some, None, refl, sym, ap, ◌∙◌, arith, nat_eq, inl, inr, drop, slice_get, zero, suc}
+use Rattle.std.proofs.Common.{◌≡◌, ℕ, ◌+◌, List, [], ◌∷◌, ◌++◌, map, filter, not, true, false, Bool, cond, Option, Some, None, refl, sym, ap, subst, ◌∙◌, arith, nat_eq, inl, inr, drop, slice_get, zero, suc}
 use Rattle.std.specs.Prelude.{flat_map, if◌then◌else◌}
 use Rattle.std.specs.Option.{option_and_then, option_map}
 use Rattle.std.specs.List.{IsDistinct}
@@ -16,8 +16,8 @@ use Rattle.session_core.specs.declared.kept.Condition.{Condition as KeptConditio
 use Rattle.session_core.specs.declared.kept.Condition.TheVariants as condition
 use Rattle.replay_ring.specs.Replay.{Replay}
 use Rattle.session_core.specs.State.{Connection, Session, is_on}
-use Rattle.session_core.specs.Ends.{is_silent, is_overdue, left_of, kept_for}
-use Rattle.session_core.specs.Kept.{condition_of, conn_of, connection_of, session_of, session_at, conn_at, IsKept}
+use Rattle.session_core.specs.Ends.{is_overdue, left_of, kept_for}
+use Rattle.session_core.specs.Kept.{condition_of, conn_of, connection_of, session_of, session_at, conn_at, IsKept, IsHeld, AreHeld}
 use Rattle.session_core.proofs.Entries.{absent-same, once-after, on-conn, conn-on, conn_at-here, conn_at-later}
 use Rattle.session_core.proofs.Sides.{only-kept, there-kept, on-kept}
 use Rattle.session_core.proofs.Changes.{Agree-same, Agree-cut, IsSetAt, session_at-set, conn_at-set}
@@ -125,19 +125,31 @@ IsKept-expired made now connections es kept =
       small = kept.small;
     }
 
--- ---- silent connections
+pub AreHeld-expired : (worker now : ℕ) (es : List (ℕ × KeptSession)) → IsDistinct nat_eq (keys_of es) → AreHeld worker es → AreHeld worker (filter (λ e. is_due now e.1) es)
+AreHeld-expired worker now es once held n =
+    subst (IsHeld worker n) (sym (lookup-filter-values nat_eq_equiv (is_due now) n es once)) (by_found (lookup (nat_eq n) es) (held n))
+  where
+    by_test : (x : KeptSession) (b : Bool) → IsHeld worker n (Some x) → IsHeld worker n (cond b (Some x) None)
+    by_test x true own = own
+    by_test x false own = tt
 
-silent-step : (ls : List Connection) (i now : ℕ) (l : Connection) → slice_get ls i ≡ Some l
-    → filter (is_silent now) (drop i ls) ≡ (if is_silent now l then l ∷ filter (is_silent now) (drop (suc i) ls) else filter (is_silent now) (drop (suc i) ls))
-silent-step [] i now l at = absurd (none-some l at)
-silent-step (k ∷ ls) zero now l at = let same : k ≡ l = cc in rw same refl
-silent-step (k ∷ ls) (suc i) now l at = silent-step ls i now l at
+    by_found : (o : Option KeptSession) → IsHeld worker n o → IsHeld worker n (option_filter (is_due now) o)
+    by_found None own = tt
+    by_found (Some x) own = by_test x (is_due now x) own
 
-pub silent-next : (ls : List Connection) (i now : ℕ) (l : Connection) → slice_get ls i ≡ Some l
-    → filter (is_silent now) (drop i ls) ≡ (if is_silent now l then l ∷ filter (is_silent now) (drop (i + 1) ls) else filter (is_silent now) (drop (i + 1) ls))
-silent-next ls i now l at =
+-- ---- connections that pass a test, one after another
+
+filter-step : (p : Connection → Bool) (ls : List Connection) (i : ℕ) (l : Connection) → slice_get ls i ≡ Some l
+    → filter p (drop i ls) ≡ (if p l then l ∷ filter p (drop (suc i) ls) else filter p (drop (suc i) ls))
+filter-step p [] i l at = absurd (none-some l at)
+filter-step p (k ∷ ls) zero l at = let same : k ≡ l = cc in rw same refl
+filter-step p (k ∷ ls) (suc i) l at = filter-step p ls i l at
+
+pub filter-next : (p : Connection → Bool) (ls : List Connection) (i : ℕ) (l : Connection) → slice_get ls i ≡ Some l
+    → filter p (drop i ls) ≡ (if p l then l ∷ filter p (drop (i + 1) ls) else filter p (drop (i + 1) ls))
+filter-next p ls i l at =
     let one : i + 1 ≡ suc i = omega arith in
-    rw one (silent-step ls i now l at)
+    rw one (filter-step p ls i l at)
 
 pub connection-at : (connections : List (ℕ × KeptConnection)) (i k : ℕ) (l : KeptConnection) → slice_get connections i ≡ Some (k, l) → slice_get (map connection_of connections) i ≡ Some (connection_of (k, l))
 connection-at connections i k l at = slice_get-map connection_of connections i ∙ ap (option_map connection_of) at

@@ -7,6 +7,7 @@ use Rattle.std.proofs.lemmas.List.{map-append}
 use Rattle.std.proofs.lemmas.Bool.{cases_Bool, false_from_ne_true}
 use Rattle.std.proofs.lemmas.Bool.Decides.{nat_tests}
 use Rattle.std.proofs.lemmas.Map.{lookup-none, NonePasses}
+use Rattle.std.proofs.lemmas.Option.{none-some}
 use Rattle.std.proofs.lemmas.Map.Keys.{IsDistinct-head, IsDistinct-tail}
 use Rattle.session_core.specs.declared.kept.Connection.{Connection as KeptConnection}
 use Rattle.session_core.specs.declared.kept.Session.{Session as KeptSession}
@@ -29,6 +30,15 @@ pub absent-same : {V : Type 0} (c : ℕ) (e : ℕ × V) (es : List (ℕ × V)) �
 absent-same {V} c e es once same =
     let P : ℕ → Type 0 = λ k. lookup (nat_eq k) es ≡ None in
     subst P (sym (eqb-true c e.0 same)) (absent-after e es once)
+
+pub lookup-here : {V : Type 0} (e : ℕ × V) (es : List (ℕ × V)) → lookup (nat_eq e.0) (e ∷ es) ≡ Some e.1
+lookup-here e es = rw (eq-eqb e.0 e.0 refl) refl
+
+pub lookup-later : {V : Type 0} (e : ℕ × V) (es : List (ℕ × V)) (k : ℕ) (v : V) → IsDistinct nat_eq (keys_of (e ∷ es)) → lookup (nat_eq k) es ≡ Some v → lookup (nat_eq k) (e ∷ es) ≡ Some v
+lookup-later e es k v once there = elim (cases_Bool (nat_eq k e.0)) [
+  | inl same ↦ absurd (none-some v (sym (absent-same k e es once same) ∙ there))
+  | inr apart ↦ rw apart there
+]
 
 pub once-after : {V : Type 0} (e : ℕ × V) (es : List (ℕ × V)) → IsDistinct nat_eq (keys_of (e ∷ es)) → IsDistinct nat_eq (keys_of es)
 once-after e es once = IsDistinct-tail nat_eq e.0 (keys_of es) once
@@ -185,7 +195,7 @@ number-on (e ∷ es) c n once only on =
           rw off (number-on es c n (once-after e es once) (λ m is. only m (conn_at-later e es m c once is)) later)
     ]
 
-is_live-condition : (h : KeptCondition) → is_live (condition_of h) ≡ true
+pub is_live-condition : (h : KeptCondition) → is_live (condition_of h) ≡ true
 is_live-condition (condition.Attached conn) = refl
 is_live-condition (condition.Detached since) = refl
 

@@ -18,8 +18,9 @@ use Rattle.session_core.specs.declared.kept.Condition.{Condition as KeptConditio
 use Rattle.session_core.specs.declared.kept.Condition.TheVariants as condition
 use Rattle.replay_ring.specs.Replay.{Replay}
 use Rattle.session_core.specs.State.{Session, attached}
-use Rattle.session_core.specs.Kept.{session_of, condition_of, conn_of, IsKept}
+use Rattle.session_core.specs.Kept.{session_of, condition_of, conn_of, IsKept, AreHeld}
 use Rattle.session_core.proofs.Changes.{IsKept-session}
+use Rattle.session_core.proofs.Held.{AreHeld-set, held-at}
 
 pub set-same : (es : List (ℕ × KeptSession)) (i k : ℕ) (x : KeptSession) → slice_get es i ≡ Some (k, x) → set_value_at es i x ≡ es
 set-same [] i k x at = refl
@@ -52,6 +53,14 @@ IsKept-counted made connections old i k x y kept at same =
     let P : List ℕ → Type 0 = IsDistinct nat_eq in
     let once : IsDistinct nat_eq (keys_of (set_value_at old.entries i y)) = subst P (sym (keys-with_value_at old i y)) kept.sessions_once in
     IsKept-session made connections old.entries (set_value_at old.entries i y) k y kept once new.0 (rw there refl) (rw (there, same) refl)
+
+-- and is for whom it was
+pub AreHeld-counted : {S : Type 0} (worker : ℕ) (old : IndexMap ℕ KeptSession S) (i k : ℕ) (x y : KeptSession) → IsDistinct nat_eq (keys_of old.entries) → AreHeld worker old.entries
+    → slice_get old.entries i ≡ Some (k, x) → y.holder ≡ x.holder → y.viewer ≡ x.viewer → AreHeld worker (set_value_at old.entries i y)
+AreHeld-counted worker old i k x y once held at same viewed =
+    let new = updates-with_value_at old i y nat_eq_equiv once k x at in
+    let there : lookup (nat_eq k) old.entries ≡ Some x = lookup_from_place nat_eq_equiv old.entries i k x once at in
+    AreHeld-set worker old.entries (set_value_at old.entries i y) k (Some y) held new.0 (rw (same, viewed) (held-at worker old.entries k x held there))
 
 pub attached-kept : (h : KeptCondition) → attached (condition_of h) ≡ conn_of h
 attached-kept (condition.Attached conn) = refl

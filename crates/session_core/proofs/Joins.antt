@@ -12,7 +12,6 @@ use Rattle.std.proofs.lemmas.Slice.Eq.{bytes_eq-Decides}
 use Rattle.replay_ring.specs.Replay.{Replay}
 use Rattle.session_core.specs.declared.kept.Connection.{Connection as KeptConnection}
 use Rattle.session_core.specs.declared.kept.Session.{Session as KeptSession}
-use Rattle.session_core.specs.declared.kept.Condition.{Condition as KeptCondition}
 use Rattle.session_core.specs.declared.kept.Condition.TheVariants as condition
 use Rattle.session_core.specs.declared.resume.ResumeAnswer.{ResumeAnswer as GivenAnswer}
 use Rattle.session_core.specs.declared.resume.ResumeAnswer.TheVariants as given
@@ -20,7 +19,7 @@ use Rattle.session_core.specs.Resumption.{IsOwn, IsThere}
 use Rattle.session_core.specs.State.{State, Connection, Session, Condition, Attached, Detached, Ended, is_on, is_live, attached, released, has_connection, has_session, gone}
 use Rattle.session_core.specs.Resume.{session_id, joined}
 use Rattle.session_core.specs.Kept.{condition_of, conn_of, session_of, session_at, conn_at, IsKept}
-use Rattle.session_core.proofs.Entries.{absent-same, once-after}
+use Rattle.session_core.proofs.Entries.{absent-same, once-after, is_live-condition}
 use Rattle.session_core.proofs.Indexes.{attached-kept}
 use Rattle.session_core.proofs.Changes.{Agree-tie, IsSetAt, session_at-set, conn_at-set, is_apart}
 
@@ -35,10 +34,6 @@ find-kept (e ∷ es) n = elim (cases_Bool (nat_eq n e.0)) [
   | inl same ↦ grind (arith, nat_tests, same, find-kept es n)
   | inr apart ↦ grind (arith, nat_tests, apart, find-kept es n)
 ]
-
-is_live-condition : (h : KeptCondition) → is_live (condition_of h) ≡ true
-is_live-condition (condition.Attached conn) = refl
-is_live-condition (condition.Detached since) = refl
 
 abbrev pub is_named : ℕ → List ℕ → Session Replay → Bool
 is_named worker id x = is_live x.condition && bytes_eq (session_id worker x.number) id

@@ -1,10 +1,13 @@
 pub mod Entries
 pub mod Changes
+pub mod Held
 pub mod Intents
 pub mod Sides
 pub mod Starts
 pub mod Indexes
 pub mod Endings
+pub mod AllEnded
 pub mod Rates
 pub mod Joins
+pub mod Numbered
 pub mod Numbers

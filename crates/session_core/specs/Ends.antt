@@ -4,7 +4,7 @@ use Rattle.std.specs.Prelude.{ℕ, ◌+◌, List, [], ◌∷◌, Bool, false, no
 use Rattle.collections.specs.ById.{put_all}
 use Rattle.session_core.specs.declared.reply.Reply.{Reply}
 use Rattle.session_core.specs.declared.reply.Reply.TheVariants.{Close}
-use Rattle.session_core.specs.State.{State, Session, Connection, Condition, Attached, Detached, Ended, is_on, has_connection, gone}
+use Rattle.session_core.specs.State.{State, Session, Connection, Condition, Attached, Detached, Ended, is_on, is_live, has_connection, has_session, gone}
 
 -- the codes by which a client says that it will not resume
 abbrev pub is_final : ℕ → Bool
@@ -45,6 +45,14 @@ module _ {A : Type 0} where
   abbrev pub tick_replies : ℕ → State A → List Reply
   tick_replies now s = closes (silent_of now s.connections)
 
+  -- the connections that have a session, in order of arrival
+  abbrev pub session_conns : State A → List ℕ
+  session_conns s = map connection_number (filter (λ (l : Connection). has_session l.number s) s.connections)
+
+  -- each of them is closed where all sessions end
+  abbrev pub end_all_replies : State A → List Reply
+  end_all_replies s = closes (session_conns s)
+
 module _ {A : Type 0} (ended : Session A → List (Session A)) where
   -- what is left of a session on a connection that its client has closed for good
   abbrev pub left_of : ℕ → Session A → List (Session A)
@@ -67,3 +75,14 @@ module _ {A : Type 0} (ended : Session A → List (Session A)) where
   -- time has passed: silent connections are closed, and then sessions end
   abbrev pub ticked : ℕ → State A → State A
   ticked now s = expired now (all_gone (silent_of now s.connections) now s)
+
+  -- what is left of a session where all live sessions end
+  abbrev pub ended_if_live : Session A → List (Session A)
+  ended_if_live x = if is_live x.condition then ended x else x ∷ []
+
+  -- all live sessions end, and the connections that have one are removed
+  abbrev pub all_ended : State A → State A
+  all_ended s = record s {
+    connections = filter (λ (l : Connection). not (has_session l.number s)) s.connections;
+    sessions = flat_map ended_if_live s.sessions;
+  }

@@ -3,13 +3,14 @@ use Rattle.std.specs.Prelude.{◌≡◌, ℕ, ◌<◌, ◌^◌, List, Option, So
 use Rattle.std.specs.List.{IsDistinct}
 use Rattle.std.specs.Map.{lookup, keys_of}
 use Rattle.dispatch_types.specs.declared.viewer.Viewer.{Viewer}
-use Rattle.session_core.specs.declared.bot.Bot.{Bot}
+use Rattle.session_core.specs.declared.holder.Holder.{Holder}
 use Rattle.session_core.specs.declared.kept.Connection.{Connection as KeptConnection}
 use Rattle.session_core.specs.declared.kept.Session.{Session as KeptSession}
 use Rattle.session_core.specs.declared.kept.Condition.{Condition as KeptCondition}
 use Rattle.session_core.specs.declared.kept.Condition.TheVariants as condition
 use Rattle.replay_ring.specs.Replay.{Replay, fresh}
 use Rattle.session_core.specs.State.{Connection, Session, Condition, Attached, Detached}
+use Rattle.session_core.specs.Holders.{holder_of}
 
 -- whether a session has a connection
 abbrev pub condition_of : KeptCondition → Condition
@@ -26,11 +27,11 @@ abbrev pub connection_of : ℕ × KeptConnection → Connection
 connection_of e = record { number = e.0; last_heartbeat_ms = e.1.last_heartbeat_ms; times = e.1.times }
 
 abbrev pub session_of : ℕ × KeptSession → Session Replay
-session_of e = record { number = e.0; token = e.1.token; name = e.1.name; viewer = e.1.viewer; condition = condition_of e.1.condition; sent = e.1.sent }
+session_of e = record { number = e.0; token = e.1.token; name = e.1.holder.name; viewer = e.1.viewer; condition = condition_of e.1.condition; sent = e.1.sent }
 
 -- what is kept of a session on a connection that had no dispatch yet
-abbrev pub new_session : Bot → Viewer → ℕ → KeptSession
-new_session bot viewer conn = record { token = bot.token; name = bot.name; viewer = viewer; condition = condition.Attached conn; sent = fresh 1024 4194304 }
+abbrev pub new_session : List ℕ → Holder → Viewer → ℕ → KeptSession
+new_session token holder viewer conn = record { token = token; holder = holder; viewer = viewer; condition = condition.Attached conn; sent = fresh 1024 4194304 }
 
 -- the session of a connection
 abbrev pub session_at : List (ℕ × KeptConnection) → ℕ → Option ℕ
@@ -53,3 +54,11 @@ pub record IsKept (made : ℕ) (connections : List (ℕ × KeptConnection)) (ses
   pub agree : Agree (session_at connections) (conn_at sessions)
   -- each number is one of 32 bits
   pub small : made < 2 ^ 32
+
+-- a session of this number is kept with whom it is for
+abbrev pub IsHeld : (worker number : ℕ) → Option KeptSession → Type 0
+IsHeld worker number None = Unit {0}
+IsHeld worker number (Some x) = x.holder ≡ holder_of worker (session_of (number, x))
+
+abbrev pub AreHeld : ℕ → List (ℕ × KeptSession) → Type 0
+AreHeld worker sessions = (number : ℕ) → IsHeld worker number (lookup (nat_eq number) sessions)

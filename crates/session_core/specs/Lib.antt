@@ -2,6 +2,7 @@ pub mod State
 pub mod Identify
 pub mod Rate
 pub mod Resume
+pub mod Holders
 pub mod Frames
 pub mod Kept
 pub mod Pushes

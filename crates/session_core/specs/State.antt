@@ -1,6 +1,6 @@
 -- The connections and sessions of one worker (Gateway, Connection Lifecycle). What is kept of the
 -- dispatches of a session is a parameter: all of them in the model, what a resume needs in the code.
-use Rattle.std.specs.Prelude.{ℕ, ◌+◌, List, [], ◌∷◌, ◌++◌, Bool, true, false, not, ◌==◌, nat_lt, Option, Some, None, is_some, option_map, if◌then◌else◌, length, map, filter}
+use Rattle.std.specs.Prelude.{ℕ, ◌+◌, List, [], ◌∷◌, ◌++◌, Bool, true, false, not, ◌==◌, ◌&&◌, nat_lt, Option, Some, None, is_some, option_map, if◌then◌else◌, length, map, filter}
 use Rattle.std.specs.List.{find, list_any}
 use Rattle.dispatch_types.specs.declared.viewer.Viewer.{Viewer}
 use Rattle.gateway_frames.specs.declared.out.Out.TheVariants.{Hello}
@@ -70,6 +70,13 @@ module _ {A : Type 0} where
 
   abbrev pub live : State A → List (Session A)
   live s = filter (λ (x : Session A). is_live x.condition) s.sessions
+
+  abbrev pub session_number : Session A → ℕ
+  session_number x = x.number
+
+  -- the live session of a number
+  abbrev pub session_numbered : ℕ → State A → Option (Session A)
+  session_numbered number s = find (λ (x : Session A). is_live x.condition && (x.number == number)) s.sessions
 
   abbrev pub released : ℕ → Condition → Session A → Session A
   released conn next x = if is_on conn x.condition then record x { condition = next } else x

@@ -1,10 +1,11 @@
 //! How connections and sessions end (Gateway, Disconnecting; Sending Heartbeats).
 
-ghost use Rattle.std.specs.Prelude.{◌≡◌, [], IfOk, OnOk, OnErr};
-ghost use Rattle.session_core.specs.Ends.{is_final, lost, client_closed, all_gone, ticked, tick_replies, closes};
+ghost use Rattle.std.specs.Prelude.{◌≡◌, [], not, is_some, IfOk, OnOk, OnErr};
+ghost use Rattle.session_core.specs.Ends.{is_final, lost, client_closed, all_gone, ticked, tick_replies, closes, session_conns, end_all_replies, all_ended};
 
 use crate::Reply;
 use crate::conn::Conn;
+use crate::kept::Connection;
 use crate::sessions::Sessions;
 use collections::ById;
 use gateway_frames::close::UNKNOWN_ERROR;
@@ -71,6 +72,47 @@ impl Sessions {
         let replies = closes(self.alloc(), silent.as_slice())?;
         self.detach_all(silent.as_slice(), now);
         self.expire(now);
+        Ok(replies)
+    }
+
+    /// The connections that have a session, in order of arrival.
+    fn session_conns(&self) -> Result<Vec<Conn>, AllocError>
+        ensures { IfOk result (λ conns. conns.items ≡ session_conns self.now) }
+    {
+        let mut conns = Vec::new(self.alloc());
+        for index in 0..self.connections.len() {
+            let Some((conn, connection)) = self.connections.get_index(index) else {
+                break;
+            };
+            if connection.session.is_some() {
+                conns.push(Conn(*conn))?;
+            }
+        }
+        Ok(conns)
+    }
+
+    /// Removes all sessions, and the connections that have one.
+    fn remove_sessions(&mut self)
+        ensures { self.new ≡ all_ended (λ x. []) self.old }
+    {
+        self.connections.retain(
+            |_conn: &u32, connection: &mut Connection| -> bool
+                ensures { (result ≡ not (is_some connection.old.session)) × (connection.new ≡ connection.old) }
+            { connection.session.is_none() },
+        );
+        self.sessions.clear();
+    }
+
+    /// Ends each session, attached or not. Closes each connection that has one with code 4000, in order
+    /// of arrival. An `Err` changes nothing.
+    pub fn end_all(&mut self) -> Result<Vec<Reply>, AllocError>
+        ensures replies { IfOk result (λ replies. replies.items ≡ end_all_replies self.old) }
+        ensures ended { OnOk result (self.new ≡ all_ended (λ x. []) self.old) }
+        ensures err { OnErr result (self.new ≡ self.old) }
+    {
+        let conns = self.session_conns()?;
+        let replies = closes(self.alloc(), conns.as_slice())?;
+        self.remove_sessions();
         Ok(replies)
     }
 }

@@ -2,7 +2,7 @@
 
 ghost use Rattle.std.specs.Prelude.{◌≡◌, ℕ, IfOk};
 
-use crate::Bot;
+use crate::Holder;
 use crate::window::Window;
 use collections::Text;
 use dispatch_types::Viewer;
@@ -34,9 +34,9 @@ pub enum Condition {
 pub struct Session {
     /// The token of its bot.
     pub token: Text,
-    /// The name of its bot.
-    pub name: Text,
-    /// Whom its dispatches are for.
+    /// Whom it is for.
+    pub holder: Holder,
+    /// The same, as its dispatches go by.
     pub viewer: Viewer,
     pub condition: Condition,
     /// The buffer for Resume.
@@ -71,12 +71,18 @@ impl Session {
     ghost use Rattle.session_core.specs.Kept.{new_session};
 
     /// A session without dispatches, on a connection.
-    pub fn new(alloc: Global, bot: Bot, viewer: Viewer, conn: u32) -> Result<Session, AllocError>
-        ensures { IfOk result (λ session. session ≡ new_session bot viewer conn) }
+    pub fn new(
+        alloc: Global,
+        token: Text,
+        holder: Holder,
+        viewer: Viewer,
+        conn: u32,
+    ) -> Result<Session, AllocError>
+        ensures { IfOk result (λ session. session ≡ new_session token holder viewer conn) }
     {
         Ok(Session {
-            token: bot.token,
-            name: bot.name,
+            token,
+            holder,
             viewer,
             condition: Condition::Attached(conn),
             sent: Ring::new(alloc, HELD_ITEMS, HELD_BYTES)?,

@@ -4,9 +4,11 @@
 mod authorize;
 mod bot;
 mod conn;
+mod dispatches;
 mod ends;
 mod fault;
 mod frames;
+mod holder;
 mod ids;
 mod kept;
 mod reply;
@@ -16,6 +18,7 @@ mod window;
 
 pub use bot::Bot;
 pub use fault::{SessionFault, Spent};
+pub use holder::Holder;
 pub use ids::session_id;
 pub use reply::{Mark, Reply};
 pub use sessions::Sessions;

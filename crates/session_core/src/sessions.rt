@@ -17,7 +17,7 @@ use crate::conn::Conn;
 use crate::ids::number_of;
 use crate::kept::{Condition, Connection, Session};
 use crate::window::Window;
-use crate::{Bot, Reply, Spent};
+use crate::{Bot, Holder, Reply, Spent};
 use collections::ById;
 use dispatch_types::Viewer;
 use gateway_frames::close::{AUTHENTICATION_FAILED, UNKNOWN_ERROR};
@@ -40,8 +40,8 @@ pub struct Sessions {
     worker: u8,
     bots: Vec<Bot>,
     made: u32,
-    connections: IndexMap<u32, Connection>,
-    sessions: IndexMap<u32, Session>,
+    pub(crate) connections: IndexMap<u32, Connection>,
+    pub(crate) sessions: IndexMap<u32, Session>,
 }
 
 impl Model for Sessions {
@@ -51,11 +51,11 @@ impl Model for Sessions {
 
     ghost Value = { State Replay };
 
-    ghost use Rattle.session_core.specs.Kept.{connection_of, session_of, IsKept};
+    ghost use Rattle.session_core.specs.Kept.{connection_of, session_of, IsKept, AreHeld};
 
     ghost view = { λ s. record { worker = s.worker; bots = s.bots.items; made = s.made; connections = map connection_of s.connections.entries; sessions = map session_of s.sessions.entries } };
 
-    ghost invariant = { λ s. IsKept s.made s.connections.entries s.sessions.entries };
+    ghost invariant = { λ s. IsKept s.made s.connections.entries s.sessions.entries × AreHeld s.worker s.sessions.entries };
 }
 
 /// A list of one reply.
@@ -318,7 +318,8 @@ impl Sessions {
         ensures err { OnErr result (self.new ≡ self.old) }
     {
         let number = self.made + 1;
-        let session = Session::new(self.alloc, bot, viewer, conn)?;
+        let holder = Holder::new(self.alloc, self.worker, number, bot.name, &viewer)?;
+        let session = Session::new(self.alloc, bot.token, holder, viewer, conn)?;
         self.sessions.insert(number, session)?;
         self.made = number;
         let Some(connection) = self.connections.get_mut(&conn) else {
@@ -348,7 +349,7 @@ impl Sessions {
         ensures { option_map (λ name. name.now) result ≡ option_map (λ x. x.name) (slice_get self.now.sessions index) }
     {
         let (_, session) = self.sessions.get_index(index)?;
-        Some(session.name.as_str())
+        Some(session.holder.name.as_str())
     }
 
     /// The viewer of the live session at an index.

@@ -12,9 +12,11 @@ invariant_of-self-2 c =
     let h = c.in_ok-insert.ensures in
     let l : KeptConnection = record { last_heartbeat_ms = c.args.now; times = c.in_ok-times.times; session = None } in
     let absent : lookup (nat_eq c.args.conn) c.self.inside.connections.entries ≡ None =
-    absent-connection c.self.inside.connections.entries c.args.conn (rw (← c.self.view_is) at c.requires) in
-    IsKept-connection c.self.inside.made c.self.inside.connections.entries c.insert.new.self.entries c.self.inside.sessions.entries c.args.conn (Some l)
-    c.self.invariant h.unique h.updates.0 (rw absent refl)
+    absent-connection c.self.inside.connections.entries c.args.conn (rw (← c.self.view_is) at c.requires) in (
+      IsKept-connection c.self.inside.made c.self.inside.connections.entries c.insert.new.self.entries c.self.inside.sessions.entries c.args.conn (Some l)
+          c.self.invariant.0 h.unique h.updates.0 (rw absent refl),
+      c.self.invariant.1,
+    )
 
 pub returns-clause-ok : goal.returns-clause-ok
 returns-clause-ok c =

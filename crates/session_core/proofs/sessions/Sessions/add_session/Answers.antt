@@ -6,6 +6,7 @@ use Rattle.session_core.specs.Kept.{session_of, session_at}
 use Rattle.session_core.proofs.Entries.{open-absent, added-kept, tied-kept}
 use Rattle.session_core.proofs.Changes.{IsKept-tie}
 use Rattle.session_core.proofs.Sides.{free-kept}
+use Rattle.session_core.proofs.Held.{AreHeld-set}
 use Rattle.session_core.proofs.sessions.Sessions.add_session.Goals as goal
 
 pub invariant_of-self-in_default : goal.invariant_of-self-in_default
@@ -23,11 +24,14 @@ invariant_of-self-2 c =
     let w = c.get_mut.follows.holds l in
     let h = c.in_ok-insert.ensures in
     let free : session_at c.self.inside.connections.entries c.args.conn ≡ None =
-    free-kept c.self.inside.made c.self.inside.connections.entries c.self.inside.sessions.entries c.self.invariant c.args.conn (rw (← c.self.view_is) at c.requires.free) in
+    free-kept c.self.inside.made c.self.inside.connections.entries c.self.inside.sessions.entries c.self.invariant.0 c.args.conn (rw (← c.self.view_is) at c.requires.free) in
     let below : c.self.inside.made < 2 ^ 32 - 1 = rw (← c.self.view_is) at c.requires.counted in
-    let room : c.self.inside.made + 1 < 2 ^ 32 = omega (arith, below) in
-    IsKept-tie c.self.inside.made c.self.inside.connections.entries (c.get_mut.follows.lender l).entries c.self.inside.sessions.entries c.insert.new.self.entries
-    c.args.conn l c.in_ok-session.session c.self.invariant room free refl (rw c.in_ok-session.ensures refl) w.4 (w.3 (rw there refl)).0 h.unique h.updates.0
+    let room : c.self.inside.made + 1 < 2 ^ 32 = omega (arith, below) in (
+      IsKept-tie c.self.inside.made c.self.inside.connections.entries (c.get_mut.follows.lender l).entries c.self.inside.sessions.entries c.insert.new.self.entries
+          c.args.conn l c.in_ok-session.session c.self.invariant.0 room free refl (rw c.in_ok-session.ensures refl) w.4 (w.3 (rw there refl)).0 h.unique h.updates.0,
+      AreHeld-set c.self.inside.worker _ _ (c.self.inside.made + 1) (Some c.in_ok-session.session) c.self.invariant.1 h.updates.0
+          (rw (c.in_ok-session.ensures, c.in_ok-holder.ensures) refl),
+    )
 
 pub returns-clause-ok : goal.returns-clause-ok
 returns-clause-ok c =
@@ -35,7 +39,7 @@ returns-clause-ok c =
     let l : KeptConnection = record c.in-Some.connection.now { session = Some (c.self.inside.made + 1) } in
     let w = c.get_mut.follows.holds l in
     let h = c.in_ok-insert.ensures in
-    let new : lookup (nat_eq (c.self.inside.made + 1)) c.self.inside.sessions.entries ≡ None = c.self.invariant.counted (c.self.inside.made + 1) (omega arith) in
+    let new : lookup (nat_eq (c.self.inside.made + 1)) c.self.inside.sessions.entries ≡ None = c.self.invariant.0.counted (c.self.inside.made + 1) (omega arith) in
     let sessions = added-kept session_of c.self.inside.sessions.entries c.insert.new.self.entries (c.self.inside.made + 1, c.in_ok-session.session)
     (h.entries ∙ insert_entry-new nat_eq c.self.inside.sessions (c.self.inside.made + 1) c.in_ok-session.session new) in
-    rw (← c.self.view_is, w.0, tied-kept c.self.inside.connections.entries c.args.conn c.in-Some.connection.now (Some (c.self.inside.made + 1)) there, sessions, c.in_ok-session.ensures) refl
+    rw (← c.self.view_is, w.0, tied-kept c.self.inside.connections.entries c.args.conn c.in-Some.connection.now (Some (c.self.inside.made + 1)) there, sessions, c.in_ok-session.ensures, c.in_ok-holder.ensures) refl

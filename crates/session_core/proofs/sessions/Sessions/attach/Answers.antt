@@ -7,6 +7,7 @@ use Rattle.session_core.specs.Kept.{session_at}
 use Rattle.session_core.proofs.Entries.{open-absent, tied-kept}
 use Rattle.session_core.proofs.Joins.{not-absent, off-there, joined-kept, IsKept-joined}
 use Rattle.session_core.proofs.Sides.{free-kept}
+use Rattle.session_core.proofs.Held.{AreHeld-set, held-at}
 use Rattle.session_core.proofs.sessions.Sessions.attach.Goals as goal
 
 pub returns-in_default : goal.returns-in_default
@@ -30,10 +31,12 @@ invariant_of-self-2 c =
     let l : KeptConnection = record c.in-Some-get_mut.connection.now { session = Some c.args.number } in
     let v = c.get_mut-2.follows.holds l in
     let free : session_at c.self.inside.connections.entries c.args.conn ≡ None =
-    free-kept c.self.inside.made c.self.inside.connections.entries c.self.inside.sessions.entries c.self.invariant c.args.conn (rw (← c.self.view_is) at c.requires.free) in
-    let off = off-there c.self.inside.sessions.entries c.args.number c.in-Some.session.now (rw (← c.self.view_is) at c.requires.there) there in
-    IsKept-joined _ _ _ _ _ c.args.conn c.args.number l x c.in-Some.session.now c.self.invariant free there off refl refl
-    v.4 (v.3 (rw at refl)).0 w.4 (w.3 (rw there refl)).0
+    free-kept c.self.inside.made c.self.inside.connections.entries c.self.inside.sessions.entries c.self.invariant.0 c.args.conn (rw (← c.self.view_is) at c.requires.free) in
+    let off = off-there c.self.inside.sessions.entries c.args.number c.in-Some.session.now (rw (← c.self.view_is) at c.requires.there) there in (
+      IsKept-joined _ _ _ _ _ c.args.conn c.args.number l x c.in-Some.session.now c.self.invariant.0 free there off refl refl
+          v.4 (v.3 (rw at refl)).0 w.4 (w.3 (rw there refl)).0,
+      AreHeld-set _ _ _ c.args.number (Some x) c.self.invariant.1 (w.3 (rw there refl)).0 (held-at _ _ c.args.number c.in-Some.session.now c.self.invariant.1 there),
+    )
 
 pub returns : goal.returns
 returns c =
@@ -48,5 +51,5 @@ returns c =
       v.0,
       tied-kept c.self.inside.connections.entries c.args.conn c.in-Some-get_mut.connection.now (Some c.args.number) at,
       w.0,
-      joined-kept c.self.inside.sessions.entries c.args.conn c.args.number c.in-Some.session.now c.self.invariant.sessions_once there,
+      joined-kept c.self.inside.sessions.entries c.args.conn c.args.number c.in-Some.session.now c.self.invariant.0.sessions_once there,
     ) refl

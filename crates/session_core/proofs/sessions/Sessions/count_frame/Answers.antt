@@ -12,10 +12,11 @@ pub invariant_of-self-2 : goal.invariant_of-self-2
 invariant_of-self-2 c =
     let there : lookup (nat_eq c.args.conn) c.self.inside.connections.entries ≡ Some c.in-Some.connection.now = sym c.in-Some.ensures.value in
     let w = c.get_mut.follows.holds (counted_connection c.in-Some.connection.now c.args.now) in
-    rw c.count_frame.ensures (IsKept-frame_counted _ _ _ _ c.args.conn c.args.now c.in-Some.connection.now c.self.invariant there w.4 (w.3 (rw there refl)).0)
+    rw c.count_frame.ensures
+    (IsKept-frame_counted _ _ _ _ c.args.conn c.args.now c.in-Some.connection.now c.self.invariant.0 there w.4 (w.3 (rw there refl)).0, c.self.invariant.1)
 
 pub returns : goal.returns
 returns c =
     let there : lookup (nat_eq c.args.conn) c.self.inside.connections.entries ≡ Some c.in-Some.connection.now = sym c.in-Some.ensures.value in
     let w = c.get_mut.follows.holds (counted_connection c.in-Some.connection.now c.args.now) in
-    rw (← c.self.view_is, c.count_frame.ensures, w.0, frame_counted-kept c.self.inside.connections.entries c.args.conn c.args.now c.in-Some.connection.now c.self.invariant.connections_once there) refl
+    rw (← c.self.view_is, c.count_frame.ensures, w.0, frame_counted-kept c.self.inside.connections.entries c.args.conn c.args.now c.in-Some.connection.now c.self.invariant.0.connections_once there) refl

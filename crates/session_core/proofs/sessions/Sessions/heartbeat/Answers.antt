@@ -13,10 +13,10 @@ pub invariant_of-self-2 : goal.invariant_of-self-2
 invariant_of-self-2 c =
     let there : lookup (nat_eq c.args.conn) c.self.inside.connections.entries ≡ Some c.in-Some.connection.now = sym c.in-Some.ensures.value in
     let w = c.get_mut.follows.holds (connection_after_heartbeat c.in-Some.connection.now c.args.now) in
-    IsKept-after_heartbeat _ _ _ _ c.args.conn c.args.now c.in-Some.connection.now c.self.invariant there w.4 (w.3 (rw there refl)).0
+    (IsKept-after_heartbeat _ _ _ _ c.args.conn c.args.now c.in-Some.connection.now c.self.invariant.0 there w.4 (w.3 (rw there refl)).0, c.self.invariant.1)
 
 pub returns : goal.returns
 returns c =
     let there : lookup (nat_eq c.args.conn) c.self.inside.connections.entries ≡ Some c.in-Some.connection.now = sym c.in-Some.ensures.value in
     let w = c.get_mut.follows.holds (connection_after_heartbeat c.in-Some.connection.now c.args.now) in
-    rw (← c.self.view_is, w.0, after_heartbeat-kept c.self.inside.connections.entries c.args.conn c.args.now c.in-Some.connection.now c.self.invariant.connections_once there) refl
+    rw (← c.self.view_is, w.0, after_heartbeat-kept c.self.inside.connections.entries c.args.conn c.args.now c.in-Some.connection.now c.self.invariant.0.connections_once there) refl

@@ -14,4 +14,4 @@ returns c =
     let IsSo : State Replay → Type 0 = λ s. session_named c.args.id.now s ≡ option_and_then (λ n. find (λ (x : Session Replay). x.number == n) s.sessions) c.in_ok-number.number in
     subst IsSo c.self.view_is
     (named-kept c.self.inside.worker c.args.id.now c.in_ok-number.number h.all c.self.inside.sessions.entries
-    (small-kept c.self.inside.made c.self.inside.connections.entries c.self.inside.sessions.entries c.self.invariant) h.is)
+    (small-kept c.self.inside.made c.self.inside.connections.entries c.self.inside.sessions.entries c.self.invariant.0) h.is)

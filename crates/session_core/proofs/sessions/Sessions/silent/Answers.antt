@@ -2,7 +2,7 @@ use Rattle.std.proofs.Common.{◌≡◌, ◌+◌, ◌∷◌, Some, sym, ◌∙�
 use Rattle.session_core.specs.State.{Connection}
 use Rattle.session_core.specs.Kept.{connection_of}
 use Rattle.session_core.specs.Ends.{is_silent}
-use Rattle.session_core.proofs.Endings.{silent-next, connection-at}
+use Rattle.session_core.proofs.Endings.{filter-next, connection-at}
 use Rattle.session_core.proofs.sessions.Sessions.silent.Goals as goal
 use Rattle.session_core.proofs.sessions.Sessions.silent.Goals.{then-is_silent+in_ok-put, else-is_silent}
 
@@ -11,7 +11,7 @@ loop-index-preserved c =
     let l : Connection = connection_of (c.in-Some.conn.now, c.in-Some.connection.now) in
     let at : slice_get c.args.self.now.connections c.loop-index.index ≡ Some l =
     rw (← c.self.view_is) (connection-at c.self.inside.connections.entries c.loop-index.index c.in-Some.conn.now c.in-Some.connection.now (sym c.in-Some.ensures.entry)) in
-    let next = silent-next c.args.self.now.connections c.loop-index.index c.args.now l at in
+    let next = filter-next (is_silent c.args.now) c.args.self.now.connections c.loop-index.index l at in
     let tests : is_silent c.args.now l ≡ c.is_silent.result = sym (c.is_silent.ensures c.in-Some.conn.now) in
     elim c.if-is_silent.branch [
       | then-is_silent+in_ok-put w ↦
