@@ -24,8 +24,8 @@ def main(turns, count, program, plain, *words):
     for place, kind in enumerate(["clock", "processor"]):
         mine = [times[place] for times in ours]
         other = [times[place] for times in theirs]
-        best, middle = min(mine) / min(other), statistics.median(mine) / statistics.median(other)
-        print(f"{kind}: {min(mine):.3f} s beside {min(other):.3f} s at best: {best:.2f} times; in the middle {middle:.2f} times")
+        best, middle = min(mine) / min(other), statistics.median(a / b for a, b in zip(mine, other))
+        print(f"{kind}: {min(mine):.3f} s beside {min(other):.3f} s at best: {best:.2f} times; the middle ratio {middle:.2f}")
 
 
 main(*sys.argv[1:])

@@ -42,6 +42,7 @@ fn senders_of<R: Wait + Drop>(
     requires { All (λ p. (p.post ≡ post.now) × (p.mark ≡ 0)) passes.items }
     ensures { IfOk result (λ senders. All (λ s. (s.pass.post ≡ post.now) × (s.pass.mark ≡ 0)) senders.items) }
 {
+    // Only the clauses speak of the post.
     let _ = post;
     let mut senders = Vec::new(alloc);
     for _ in 0..passes.len() {

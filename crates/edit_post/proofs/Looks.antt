@@ -1,10 +1,13 @@
 -- The looks of one call that goes over the senders.
-use Rattle.std.proofs.Common.{◌≡◌, ◌≢◌, ℕ, zero, suc, ◌+◌, ◌<◌, ◌==◌, Bool, true, false, List, [], ◌∷◌, ◌++◌, map, get_or, cond, eqb, sym, refl, ap, ◌∙◌, ⊎_elim, append_assoc, arith}
+use Rattle.std.proofs.Common.{◌≡◌, ◌≢◌, ℕ, zero, suc, ◌+◌, ◌<◌, ◌≤◌, ◌==◌, Bool, true, false, List, [], ◌∷◌, ◌++◌, map, get_or, cond, eqb, sym, refl, ap, ◌∙◌, subst, ⊎_elim, append_assoc, arith}
 use Rattle.std.specs.List.{filter, range_with_len}
 use Rattle.std.proofs.lemmas.List.{append-nil, map-append}
 use Rattle.std.proofs.lemmas.List.Elements.{filter-append}
+use Rattle.std.proofs.Common.{lt_of_not-le}
 use Rattle.std.proofs.lemmas.Bool.Decides.{eqb_tells}
-use Rattle.edit_post.specs.Post.{looked}
+use mathlib.Core.Logic.{dite}
+use native.Mathlib.Decide.{dec_le}
+use Rattle.edit_post.specs.Post.{looked, NotStored}
 
 one_more : (a n : ℕ) → range_with_len a (suc n) ≡ range_with_len a n ++ (a + n) ∷ []
 one_more a zero = ap (λ k. k ∷ []) (omega arith)
@@ -47,3 +50,13 @@ module _ (before now : List ℕ) where
       kept t.1 ∙ until
       ∙ ap (λ l. base ++ l) (sym (append-nil (looked n before now)) ∙ ap (λ (b : Bool). looked n before now ++ map (found_of now) (cond b (n ∷ []) [])) (sym t.0) ∙ sym (more n)))
       (eqb_tells (get_or before n 0) 0)
+
+  -- what was not stored at an earlier look stays said
+  pub one_unstored : (mid : List ℕ) (base : List (ℕ × ℕ)) (n : ℕ) → ((p : ℕ) → p ≢ n → get_or now p 0 ≡ get_or mid p 0)
+      → ((p : ℕ) → p < n → get_or mid p 0 ≡ 0 → NotStored p (base ++ looked (p + 1) before mid)) → (get_or now n 0 ≡ 0 → NotStored n (base ++ looked (n + 1) before now))
+      → (p : ℕ) → p < n + 1 → get_or now p 0 ≡ 0 → NotStored p (base ++ looked (p + 1) before now)
+  one_unstored mid base n others had last p lt none = dite (dec_le n p)
+      (λ (le : n ≤ p). let here : n ≡ p = omega arith in subst (λ (k : ℕ). get_or now k 0 ≡ 0 → NotStored k (base ++ looked (k + 1) before now)) here last none)
+      (λ not. let low : p < n = lt_of_not-le not in
+      subst (λ l. NotStored p (base ++ l)) (same (unfound before) (found_of mid) (found_of now) 0 (p + 1) (λ q lt'. ap (λ (v : ℕ). (q, v)) (sym (others q (λ e. absurd (omega arith))))))
+      (had p low (sym (others p (λ e. absurd (omega arith))) ∙ none)))

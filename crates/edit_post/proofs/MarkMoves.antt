@@ -3,11 +3,11 @@ use Rattle.std.proofs.Common.{◌≡◌, ◌≢◌, ℕ, zero, suc, ◌+◌, ◌
 use Rattle.std.proofs.lemmas.List.{set-get_or}
 use Rattle.std.proofs.lemmas.Bool.Decides.{eqb_tells}
 use mathlib.Core.Option.{none}
-use Rattle.atomic_table.specs.Table.{step, opening, keeps, Allows, Splits, Joins}
+use Rattle.atomic_table.specs.Table.{State, step, opening, keeps, Allows, Splits, Joins}
 use Rattle.atomic_table.proofs.Lists.{set_again}
-use Rattle.edit_post.proofs.Views.{Each, each_none, each_set, each_snoc, unset, no, at_new, at_old}
+use Rattle.edit_post.proofs.Views.{Each, each_none, each_set, each_snoc, set_same, unset, no, at_new, at_old}
 use Rattle.edit_post.specs.declared.mark_view.MarkView.{MarkView}
-use Rattle.edit_post.specs.MarkRule.{Sat, no_marks, no_mark, with_unfound, unstored, storing, finding, knowing, Marked, Stores, Finds, Agrees}
+use Rattle.edit_post.specs.MarkRule.{Sat, Slot, no_marks, no_mark, with_unfound, unstored, storing, finding, knowing, Marked, Stores, Finds, Agrees}
 
 abbrev Sends : ℕ → (ℕ → ℕ) → List ℕ → ℕ → MarkView → Type 0
 Sends made sender_at words j v = v.sends ≡ true → (sender_at v.sender ≡ j) × (get_or words v.sender 0 ≡ v.stored) × (v.sender < made) × (v.sender < 16)
@@ -111,21 +111,23 @@ finds slots id m p takes s d _ at _ =
     let v : MarkView = m.0 in
     let mine = d.taker id v at takes in
     let n : ℕ = get_or s.words p 0 in
-    let w : MarkView = finding v p n in (
+    let w : MarkView = finding v p n in
+    let after : State Slot MarkView = record { words = s.words; homes = s.homes; views = set s.views id w } in
+    let holds : Marked after = record {
+      taker_at = d.taker_at;
+      made = d.made;
+      sender_at = d.sender_at;
+      sixteen = d.sixteen;
+      unmade = d.unmade;
+      senders = each_set (Sends d.made d.sender_at s.words) s.views id w (λ sends. d.senders id v at sends) (λ j u far e. d.senders j u e);
+      taker = each_set (Takes d.taker_at d.made s.words) s.views id w
+          (λ _. (mine.0, mine.1, found_set s.words v.found p n refl mine.2)) (λ j u far e. d.taker j u e);
+    } in (
       w,
       keeps,
       tt,
-      subst (λ (ws : List ℕ). Marked record { words = ws; homes = s.homes; views = set s.views id w }) (sym (set-get_or s.words p 0)) record {
-        taker_at = d.taker_at;
-        made = d.made;
-        sender_at = d.sender_at;
-        sixteen = d.sixteen;
-        unmade = d.unmade;
-        senders = each_set (Sends d.made d.sender_at s.words) s.views id w (λ sends. d.senders id v at sends) (λ j u far e. d.senders j u e);
-        taker = each_set (Takes d.taker_at d.made s.words) s.views id w
-            (λ _. (mine.0, mine.1, found_set s.words v.found p n refl mine.2)) (λ j u far e. d.taker j u e);
-      },
-      (refl, λ ne. mine.2 p ne),
+      subst (λ (ws : List ℕ). Marked record { words = ws; homes = s.homes; views = set s.views id w }) (sym (set-get_or s.words p 0)) holds,
+      (refl, λ ne. mine.2 p ne, λ zero_now. (after, id, holds, set_same s.views id w v at, zero_now)),
     )
 
 pub joins : (id : ℕ) (v : MarkView) (from : ℕ) (u : MarkView) → v.takes ≡ true → u.sends ≡ true → Joins Marked id v from u (knowing v u) no_mark

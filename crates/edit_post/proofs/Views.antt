@@ -27,6 +27,11 @@ module _ {V : Type 0} where
   each_snoc F views w new old j u e =
       ⊎_elim (λ (t : get_elem? views j ≡ some u). old j u t) (λ (t : (j ≡ length views) × (w ≡ u)). subst (λ (y : ℕ × V). F y.0 y.1) (λ i. (sym t.0 i, t.1 i)) new) (at_end views w u j e)
 
+  pub set_same : (views : List V) (j : ℕ) (w u : V) → get_elem? views j ≡ some u → get_elem? (set views j w) j ≡ some w
+  set_same [] j w u e = absurd (some-ne-none u (sym e))
+  set_same (x ∷ xs) zero w u e = refl
+  set_same (x ∷ xs) (suc j) w u e = set_same xs j w u e
+
   pub unset : (views : List V) (j k : ℕ) (w u : V) → ¬ (k ≡ j) → get_elem? (set views j w) k ≡ some u → get_elem? views k ≡ some u
   unset views j k w u far e = ⊎_elim (λ x. absurd (far x.0)) (λ x. x.1) (at_set views j k w u e)
 

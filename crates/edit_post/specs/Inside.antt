@@ -13,14 +13,21 @@ sender_of s = record { post = record { queue = record { web = s.pass.web; heap =
 
 pub record IsSender (s : send.Inside) : Type 0 where
   pub empty : (s.pass.me.hand ≡ None) × (s.pass.me.spare ≡ None)
-  pub view : s.pass.me.view.client ≡ view_of true s.sender s.pass.me.view.client.sent false 0 []
+  pub view : s.pass.me.view.client ≡ view_of true s.sender s.pass.me.view.client.sent false 0 [] 0
   pub mark : s.seat.me ≡ (mark true s.sender s.seat.me.0.stored false 0 [] [], [])
   pub last : s.seat.me.0.stored ≢ 0 → s.seat.me.0.stored ≡ s.next
   pub next : s.next ≡ length s.pass.me.view.client.sent + 1
   pub sixteen : s.sender < 16
 
 abbrev pub taker_of : take.Inside → Taker
-taker_of t = record { post = record { queue = record { web = t.pass.web; heap = t.pass.heap }; marks = t.seat.table_id }; senders = t.senders; taken = t.pass.me.view.client.taken; found = t.found; looks = t.seat.me.0.looks }
+taker_of t = record {
+  post = record { queue = record { web = t.pass.web; heap = t.pass.heap }; marks = t.seat.table_id };
+  senders = t.senders;
+  taken = t.pass.me.view.client.taken;
+  empty_takes = t.pass.me.view.client.empty_takes;
+  found = t.found;
+  looks = t.seat.me.0.looks;
+}
 
 pub record IsTaker (t : take.Inside) : Type 0 where
   pub empty : (t.pass.me.hand ≡ None) × (t.pass.me.spare ≡ None)

@@ -60,9 +60,16 @@ Sat = Me Slot MarkView
 abbrev pub Stores : Step Slot → Sat → ℕ → Sat → Type 0
 Stores st m n k = k ≡ (storing m.0 n, m.1)
 
+-- At one step the sender's word held no mark, and the seat's view was this.
+abbrev pub WasUnstored : ℕ → MarkView → Type 0
+WasUnstored sender v = (s : State Slot MarkView) × (seat : ℕ) × Marked s × (get_elem? s.views seat ≡ some v) × (slice_index s.words sender ≡ 0)
+
 -- the taker finds what the word holds, which is what it found before, if it found a mark
 abbrev pub Finds : Step Slot → Sat → ℕ → Sat → Type 0
-Finds st m n k = (k ≡ (finding m.0 st.word n, m.1)) × (slice_index m.0.found st.word ≢ 0 → n ≡ slice_index m.0.found st.word)
+Finds st m n k =
+    (k ≡ (finding m.0 st.word n, m.1))
+    × (slice_index m.0.found st.word ≢ 0 → n ≡ slice_index m.0.found st.word)
+    × (n ≡ 0 → WasUnstored st.word k.0)
 
 -- what the taker found of the sender that it has settled with is what this one stored
 abbrev pub Agrees : Step Slot → Sat → ℕ → Sat → Type 0

@@ -1,38 +1,54 @@
 -- The rule of the queue: what was taken of each sender, and then what the queue holds of it, is what it sent.
-use Rattle.std.specs.Prelude.{◌≡◌, ℕ, ◌<◌, ◌≤◌, ◌+◌, Bool, true, false, List, [], ◌∷◌, ◌++◌}
+use Rattle.std.specs.Prelude.{◌≡◌, ℕ, ◌<◌, ◌≤◌, ◌+◌, ◌-◌, Bool, true, false, List, [], ◌∷◌, ◌++◌}
 use mathlib.Core.Option.{some}
 use lib.ListN.{get_elem?}
 use Rattle.edit_post.specs.declared.request.Request.{Request}
 use Rattle.edit_post.specs.declared.queue_view.QueueView.{QueueView}
 use Rattle.edit_post.specs.Requests.{requests_of}
 
-abbrev pub view_of : Bool → ℕ → List Request → Bool → ℕ → List Request → QueueView
-view_of sends sender sent takes made taken = record { sends = sends; sender = sender; sent = sent; takes = takes; made = made; taken = taken }
+abbrev pub view_of : Bool → ℕ → List Request → Bool → ℕ → List Request → ℕ → QueueView
+view_of sends sender sent takes made taken empty_takes = record {
+  sends = sends;
+  sender = sender;
+  sent = sent;
+  takes = takes;
+  made = made;
+  taken = taken;
+  empty_takes = empty_takes;
+}
 
 -- the taker before there is a sender
 abbrev pub opening : QueueView
-opening = view_of false 0 [] true 0 []
+opening = view_of false 0 [] true 0 [] 0
 
 -- a pass that has ended
 abbrev pub spent : QueueView
-spent = view_of false 0 [] false 0 []
+spent = view_of false 0 [] false 0 [] 0
 
 -- the taker and the sender after the taker made a pass for the next sender
 abbrev pub with_sender : QueueView → QueueView
-with_sender v = view_of v.sends v.sender v.sent v.takes (v.made + 1) v.taken
+with_sender v = view_of v.sends v.sender v.sent v.takes (v.made + 1) v.taken v.empty_takes
 
 abbrev pub new_sender : QueueView → QueueView
-new_sender v = view_of true v.made [] false 0 []
+new_sender v = view_of true v.made [] false 0 [] 0
 
 abbrev pub put : QueueView → Request → QueueView
-put v request = view_of v.sends v.sender (v.sent ++ request ∷ []) v.takes v.made v.taken
+put v request = view_of v.sends v.sender (v.sent ++ request ∷ []) v.takes v.made v.taken v.empty_takes
 
 abbrev pub took : QueueView → Request → QueueView
-took v request = view_of v.sends v.sender v.sent v.takes v.made (v.taken ++ request ∷ [])
+took v request = view_of v.sends v.sender v.sent v.takes v.made (v.taken ++ request ∷ []) v.empty_takes
+
+-- the taker with one more take that finds nothing, which it counts before it looks
+abbrev pub with_empty_take : QueueView → QueueView
+with_empty_take v = view_of v.sends v.sender v.sent v.takes v.made v.taken (v.empty_takes + 1)
+
+-- the taker after a take that it had counted so, and that found a request after all
+abbrev pub took_after_all : QueueView → Request → QueueView
+took_after_all v request = view_of v.sends v.sender v.sent v.takes v.made (v.taken ++ request ∷ []) (v.empty_takes - 1)
 
 -- the taker, which knows now what the sender sent
 abbrev pub joined : QueueView → QueueView → QueueView
-joined taker sender = view_of sender.sends sender.sender sender.sent taker.takes taker.made taker.taken
+joined taker sender = view_of sender.sends sender.sender sender.sent taker.takes taker.made taker.taken taker.empty_takes
 
 -- what was taken of a sender, and then what the queue holds of it
 abbrev pub all_of : ℕ → List Request → List Request → List Request

@@ -1,6 +1,6 @@
 //! The marks of a post: a word for each sender, by which it ends.
 ghost use Rattle.std.specs.Prelude.{◌≡◌, ◌≢◌, ◌<◌, [], true, false, slice_index, IfOk};
-ghost use Rattle.edit_post.specs.MarkRule.{no_marks, no_mark, with_unfound, unstored, storing, finding, knowing, Stores, Finds, Agrees};
+ghost use Rattle.edit_post.specs.MarkRule.{no_marks, no_mark, with_unfound, unstored, storing, finding, knowing, WasUnstored, Stores, Finds, Agrees};
 
 use crate::mark_view::MarkView;
 use atomic_table::{Join, Play, Seat, Split, Table, TableRule};
@@ -93,6 +93,7 @@ pub fn find(marks: &Marks, taker: &mut MarkSeat, sender: usize) -> u64
     ensures table { taker.new.table_id ≡ taker.old.table_id }
     ensures found { taker.new.me ≡ (finding taker.old.me.0 sender result, taker.old.me.1) }
     ensures same { slice_index taker.old.me.0.found sender ≢ 0 → result ≡ slice_index taker.old.me.0.found sender }
+    ensures unstored { result ≡ 0 → WasUnstored sender taker.new.me.0 }
 {
     marks.shared.load::<Finding>(taker, sender)
 }

@@ -3,7 +3,7 @@ ghost use Rattle.std.specs.Prelude.{◌≡◌, ◌≢◌, ℕ, ◌+◌, ◌^◌,
 ghost use Rattle.edit_post.specs.declared.send_refused.SendRefused.TheVariants.{Spent};
 ghost use Rattle.edit_post.specs.Requests.{requests_of};
 ghost use Rattle.edit_post.specs.Merge.{Merge};
-ghost use Rattle.edit_post.specs.Post.{new_sender, new_taker, after_send, after_end, after_take, after_looks, looked, mark_of, HasEnded, FoundEmpty, ended_lists, with_one};
+ghost use Rattle.edit_post.specs.Post.{new_sender, new_taker, after_send, after_end, after_take, after_empty_take, after_looks, looked, mark_of, HasEnded, FoundEmpty, NotStored, ended_lists, with_one};
 
 use crate::marks::{self, Marks};
 use crate::queue::{self, Queue};
@@ -64,6 +64,7 @@ impl<R: Drop> Post<R> {
         let mut taker = TakePass::new(pass, seat);
         let mut passes = Vec::new(alloc);
         for sender in 0..senders {
+            // Only the loop's invariant speaks of the number.
             let _ = sender;
             passes.push(post.admit(&mut taker))?;
         }
@@ -105,10 +106,11 @@ impl<R: Drop> Post<R> {
     fn has_ended(&self, pass: &mut TakePass, sender: usize) -> bool
         requires post { pass.old.post ≡ self.now }
         requires sender { sender < 16 }
-        ensures same { (pass.new.post ≡ pass.old.post) × (pass.new.senders ≡ pass.old.senders) × (pass.new.taken ≡ pass.old.taken) }
+        ensures same { (pass.new.post ≡ pass.old.post) × (pass.new.senders ≡ pass.old.senders) × (pass.new.taken ≡ pass.old.taken) × (pass.new.empty_takes ≡ pass.old.empty_takes) }
         ensures others { (p : ℕ) → p ≢ sender → slice_index pass.new.found p ≡ slice_index pass.old.found p }
         ensures kept { slice_index pass.old.found sender ≢ 0 → (pass.new.looks ≡ pass.old.looks) × (slice_index pass.new.found sender ≡ slice_index pass.old.found sender) }
         ensures looked { slice_index pass.old.found sender ≡ 0 → pass.new.looks ≡ pass.old.looks ++ (sender, slice_index pass.new.found sender) ∷ [] }
+        ensures unstored { slice_index pass.new.found sender ≡ 0 → NotStored sender pass.new.looks }
         ensures ended { IsTrue result ↔ (slice_index pass.new.found sender ≡ mark_of (requests_of sender pass.new.taken)) }
     {
         if pass.found[sender] == 0 {
@@ -126,6 +128,7 @@ impl<R: Drop> Post<R> {
         ensures looks { pass.new ≡ after_looks pass.old pass.new.found }
         ensures kept { (p : ℕ) → slice_index pass.old.found p ≢ 0 → slice_index pass.new.found p ≡ slice_index pass.old.found p }
         ensures others { (p : ℕ) → pass.old.senders ≤ p → slice_index pass.new.found p ≡ slice_index pass.old.found p }
+        ensures unstored { (p : ℕ) → p < pass.old.senders → slice_index pass.new.found p ≡ 0 → NotStored p (pass.old.looks ++ looked (p + 1) pass.old.found pass.new.found) }
         ensures ended { IsTrue result ↔ HasEnded pass.new }
         ensures merge { IsTrue result → Merge (ended_lists pass.new) pass.new.taken }
     {
@@ -166,11 +169,11 @@ impl<R: Wait + Drop> Post<R> {
     }
 
     /// Removes the request at the front of the queue. `None` only if the queue was empty at one step
-    /// of the call. The requests of each sender come in order, numbered from 1 without a gap. It does
-    /// not allocate.
+    /// of this call; the pass counts such calls. The requests of each sender come in order, numbered
+    /// from 1 without a gap. It does not allocate.
     pub fn take(&self, pass: &mut TakePass) -> Option<Request>
         requires post { pass.old.post ≡ self.now }
-        ensures taken { MatchOption result ((pass.new ≡ pass.old) × FoundEmpty pass.old) (λ r. pass.new ≡ after_take pass.old r) }
+        ensures taken { MatchOption result ((pass.new ≡ after_empty_take pass.old) × FoundEmpty pass.new) (λ r. pass.new ≡ after_take pass.old r) }
         ensures next { IfSome result (λ r. (r.sender < pass.old.senders) × (r.number ≡ length (requests_of r.sender pass.old.taken) + 1)) }
     {
         let request = queue::take(&self.rt, &self.queue, &mut pass.pass)?;

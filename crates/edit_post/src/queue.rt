@@ -2,7 +2,7 @@
 ghost use Rattle.std.specs.Prelude.{◌≡◌, ◌++◌, ◌+◌, ◌<◌, true, false, length, MatchOption, MatchResult, IfOk, List};
 ghost use Rattle.crossbeam_queue.specs.SegTies.{IsSegPassOf};
 ghost use Rattle.edit_post.specs.Requests.{requests_of};
-ghost use Rattle.edit_post.specs.QueueRule.{put, took, joined, opening, spent, with_sender, new_sender, WasEmpty};
+ghost use Rattle.edit_post.specs.QueueRule.{put, took, took_after_all, with_empty_take, joined, opening, spent, with_sender, new_sender, WasEmpty};
 
 use crate::queue_view::QueueView;
 use crate::request::Request;
@@ -37,6 +37,21 @@ impl Outcome<Request, QueueView> for Takes {
 }
 
 impl Lesson<Request, QueueView> for Takes {
+    ghost use Rattle.std.specs.Prelude.{⊤};
+
+    ghost fact = { λ mine items. ⊤ };
+}
+
+// A take that has found nothing at first, and has counted itself.
+struct TakesAfterAll;
+
+impl Outcome<Request, QueueView> for TakesAfterAll {
+    ghost then = { λ before request after. (after ≡ took_after_all before request)
+        × (request.sender < before.made)
+        × (request.number ≡ length (requests_of request.sender before.taken) + 1) };
+}
+
+impl Lesson<Request, QueueView> for TakesAfterAll {
     ghost use Rattle.std.specs.Prelude.{◌≡◌, ℕ, List};
     ghost use mathlib.Core.Option.{some};
     ghost use lib.ListN.{get_elem?};
@@ -44,6 +59,14 @@ impl Lesson<Request, QueueView> for Takes {
     ghost use Rattle.edit_post.specs.QueueRule.{KeepsOrder};
 
     ghost fact = { λ mine items. (views : List QueueView) × (port : ℕ) × KeepsOrder items views × (get_elem? views port ≡ some mine) };
+}
+
+struct CountsItself;
+
+impl Split<QueueView> for CountsItself {
+    ghost left = { with_empty_take };
+
+    ghost right = { λ _. spent };
 }
 
 struct Admits;
@@ -112,11 +135,30 @@ pub fn take<R: Wait>(rt: &R, queue: &Queue, pass: &mut QueuePass) -> Option<Requ
     requires queue { IsSegPassOf queue.now pass.old }
     requires taker { pass.old.me.view.client.takes ≡ true }
     ensures queue { IsSegPassOf queue.now pass.new }
-    ensures taken { MatchOption result ((pass.new.me.view.client ≡ pass.old.me.view.client) × WasEmpty pass.old.me.view.client)
+    ensures taken { MatchOption result
+        ((pass.new.me.view.client ≡ with_empty_take pass.old.me.view.client) × WasEmpty pass.new.me.view.client)
         (λ r. (pass.new.me.view.client ≡ took pass.old.me.view.client r) × (r.sender < pass.old.me.view.client.made)
         × (r.number ≡ length (requests_of r.sender pass.old.me.view.client.taken) + 1)) }
 {
-    queue.pop_as::<Takes, R>(rt, pass)
+    match queue.pop_as::<Takes, R>(rt, pass) {
+        found @ Some(_) => found,
+        None => count_and_take(rt, queue, pass),
+    }
+}
+
+// Counts this take as one that finds nothing, and only then looks, so that the step at which the queue
+// was empty is known to be one of this call.
+fn count_and_take<R: Wait>(rt: &R, queue: &Queue, pass: &mut QueuePass) -> Option<Request>
+    requires queue { IsSegPassOf queue.now pass.old }
+    requires taker { pass.old.me.view.client.takes ≡ true }
+    ensures queue { IsSegPassOf queue.now pass.new }
+    ensures taken { MatchOption result
+        ((pass.new.me.view.client ≡ with_empty_take pass.old.me.view.client) × WasEmpty pass.new.me.view.client)
+        (λ r. (pass.new.me.view.client ≡ took pass.old.me.view.client r) × (r.sender < pass.old.me.view.client.made)
+        × (r.number ≡ length (requests_of r.sender pass.old.me.view.client.taken) + 1)) }
+{
+    drop(queue.another::<CountsItself>(pass));
+    queue.pop_as::<TakesAfterAll, R>(rt, pass)
 }
 
 /// Ends a sender's pass. What was taken of the sender, and then what the queue held of it at one step

@@ -9,7 +9,8 @@ use crate::queue::QueuePass;
 use std::marker::Model;
 
 /// The right of the actor to take from its post. A clause sees it as its post, how many senders there
-/// are, what was taken, the mark that was found of each sender, 0 for none, and each look at a mark.
+/// are, what was taken, how many takes found nothing, the mark that was found of each sender, 0 for
+/// none, and each look at a mark.
 #[derive(Drop)]
 pub struct TakePass {
     pub(crate) pass: QueuePass,

@@ -7,9 +7,6 @@ use Rattle.edit_post.specs.declared.request.Request.{Request}
 use Rattle.guild_actor.specs.Acts.{refused_of, most, has_guild, strays_of, full_of, AreDistinct}
 use Rattle.guild_actor.proofs.Edits.{edits_other}
 
-is_stray : List ℕ → Request → Bool
-is_stray guilds r = not (has_guild r.guild guilds)
-
 one : (b : Bool) (r : Request) → length (cond (not b) (r ∷ []) []) ≡ cond b 0 1
 one true r = refl
 one false r = refl

@@ -1,4 +1,4 @@
-//! Three requests of two senders on one thread.
+//! Two requests of one sender and one of another, on one thread.
 ghost use Rattle.std.specs.Prelude.{◌≡◌, ◌≢◌};
 ghost use Rattle.edit_post.specs.Post.{HasEnded};
 
@@ -84,7 +84,7 @@ pub fn find<R: Wait + Drop>(rt: R, alloc: Global) -> Option<Found> {
     };
     let mut second = passes.pop()?;
     let mut first = passes.pop()?;
-    if !send(&post, &mut first) || !send(&post, &mut second) || !send(&post, &mut first) {
+    if !send(&post, &mut first) || !send(&post, &mut first) || !send(&post, &mut second) {
         return None;
     }
     let takes = [

@@ -1,5 +1,5 @@
-use Rattle.edit_post.proofs.QueueMoves.{pops, sees}
+use Rattle.edit_post.proofs.QueueMoves.{pops}
 use Rattle.edit_post.proofs.queue.take.Goals as goal
 
 pub pop_as-requires-clause-rule : goal.pop_as-requires-clause-rule
-pop_as-requires-clause-rule g c = (pops _ _ c.requires.taker, sees _ _)
+pop_as-requires-clause-rule g c = (pops _ _ _ c.requires.taker, λ items views d at. tt)
