@@ -1,5 +1,6 @@
 -- A step that leaves what is shown trimmed, and of one hub, keeps the rule.
-use Rattle.std.proofs.Common.{◌≡◌, ◌≢◌, ℕ, true≢false, List, [], ◌∷◌, set, sym, refl, ap, ◌∙◌, subst, ⊎_elim, fold}
+use Rattle.std.specs.Prelude.{Result, Ok, Err, IfOk, MatchResult}
+use Rattle.std.proofs.Common.{inr, ◌≡◌, ◌≢◌, ℕ, true≢false, List, [], ◌∷◌, ◌++◌, set, sym, refl, ap, ◌∙◌, subst, ⊎_elim, fold}
 use mathlib.Core.Option.{some}
 use lib.ListN.{get_elem?}
 use Rattle.crossbeam_utils.specs.Register.{Admits, TurnsAt, Forks, Merges}
@@ -12,7 +13,8 @@ use Rattle.guild_hub.specs.declared.shown.Spine.{Spine}
 use Rattle.guild_hub.specs.declared.shown.Op.{Op}
 use Rattle.guild_hub.specs.declared.shown.Op.TheVariants.{Add, Seal}
 use Rattle.guild_hub.specs.declared.ruled.View.{View}
-use Rattle.guild_hub.specs.Rules.{name_of, stranger, knows, Names, Keeps, Sees, Continues}
+use Rattle.guild_hub.specs.Rules.{name_of, stranger, knows, entered, Names, Keeps, Shows, Sees, Continues}
+use Rattle.guild_hub.specs.Looks.{MayEnter}
 use Rattle.guild_hub.proofs.Trimming.{pushed_trimmed}
 
 -- a stranger fits whatever is shown
@@ -28,16 +30,20 @@ admits x views h = record {
 named_on : (x y : Shown) (v : View) → Continues x y → Names x v → Names y v
 named_on x y v on names n = names n ∙ ap name_of on.hub
 
+known : (seat : ℕ) (v : View) (x y : Shown) (enters : List Published) → Continues x y → (views : List View) → Keeps x views → Keeps y (set views seat (knows y.note.hub enters))
+known seat v x y enters on views h =
+    let w : View = knows y.note.hub enters in record {
+      trimmed = on.trimmed h.trimmed;
+      names = λ j u e. ⊎_elim (λ (t : (j ≡ seat) × (w ≡ u)). subst (Names y) t.1 (λ n. refl)) (λ (t : (j ≢ seat) × (get_elem? views j ≡ some u)). named_on x y u on (h.names j u t.1)) (at_set views seat j w u e);
+    }
+
+-- the writer shows y in place of x
+pub shows : (seat : ℕ) (v : View) (x y : Shown) → Continues x y → TurnsAt Keeps seat v x y Shows
+shows seat v x y on views h at = (knows y.note.hub [], known seat v x y [] on views h, (h.names seat v at, refl, on.trimmed h.trimmed))
+
+-- a reader enters
 pub turns : (seat : ℕ) (v : View) (x y : Shown) → Continues x y → TurnsAt Keeps seat v x y Sees
-turns seat v x y on views h at =
-    let w : View = knows y.note.hub in (
-      w,
-      record {
-        trimmed = on.trimmed h.trimmed;
-        names = λ j u e. ⊎_elim (λ (t : (j ≡ seat) × (w ≡ u)). subst (Names y) t.1 (λ n. refl)) (λ (t : (j ≢ seat) × (get_elem? views j ≡ some u)). named_on x y u on (h.names j u t.1)) (at_set views seat j w u e);
-      },
-      (h.names seat v at, refl, on.trimmed h.trimmed),
-    )
+turns seat v x y on views h at = (entered v y.note, known seat v x y (v.enters ++ y.note ∷ []) on views h, (h.names seat v at, refl, on.trimmed h.trimmed))
 
 pub stays : (x : Shown) → Continues x x
 stays x = record { hub = refl; trimmed = λ t. t }
@@ -81,3 +87,9 @@ merges seat v other w x views h at apart there =
       trimmed = h.trimmed;
       names = λ j u e. ⊎_elim (λ (t : (j ≡ other) × (stranger ≡ u)). subst (Names x) t.1 (strange x)) (λ (t : (j ≢ other) × (get_elem? (set views seat w) j ≡ some u)). mid j u t.1) (at_set (set views seat w) other j stranger u e);
     }
+
+-- what a reader that entered knows, whether or not it could take what it found
+pub may_have_entered : {F Z : Type 0} (log_of : F → Published) (before after : List Published) (log : Published) (r : Result F Z) → after ≡ before ++ log ∷ [] → IfOk r (λ f. log_of f ≡ log)
+    → MatchResult r (λ f. after ≡ before ++ log_of f ∷ []) (λ _. MayEnter before after)
+may_have_entered log_of before after log (Ok f) more same = more ∙ ap (λ l. before ++ l ∷ []) (sym same)
+may_have_entered log_of before after log (Err z) more same = inr (log, more)

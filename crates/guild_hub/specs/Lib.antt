@@ -1,4 +1,5 @@
 pub mod Logs
+pub mod Marks
 pub mod Sights
 pub mod Items
 pub mod Books

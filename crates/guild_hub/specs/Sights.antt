@@ -4,6 +4,8 @@ use Rattle.guild_model.specs.Record.{Record, closed}
 use Rattle.logbook.specs.Pages.{Book}
 use Rattle.edit_apply.specs.declared.Edit.{Edit}
 use Rattle.guild_hub.specs.Logs.{Hub, Published, record_after}
+use Rattle.guild_hub.specs.Marks.{has_store}
+use Rattle.guild_hub.specs.declared.mark_step.MarkStep.{MarkStep}
 
 -- a position in the log, the record there, and the entries seen from there on
 pub record Segment : Type 0 where
@@ -35,21 +37,28 @@ pub record Fits (s : Segment) (log : Published) : Type 0 where
 abbrev pub part_of : Published → ℕ → ℕ → Segment
 part_of log base cursor = segment base (record_after log base) (take (cursor - base) (drop base log.entries))
 
--- a mark by the name of its history, and whether its reader found that it is stored or was told so
+-- a reader's end of a mark: the name of the mark's history, and the steps on the mark up to the reader's last
+-- load of it, or as it was told since
 pub record Watching : Type 0 where
   pub mark : Book
-  pub quit : Bool
+  pub steps : List MarkStep
 
-abbrev pub watching : Book → Bool → Watching
-watching mark quit = record { mark = mark; quit = quit }
+abbrev pub watching : Book → List MarkStep → Watching
+watching mark steps = record { mark = mark; steps = steps }
 
--- a reader: its last segment, the log as it was at its last step or as it was told since, the mark that its
--- writer stores when it quits, and whether the reader found or was told that the writer has quit
+-- a reader: its last segment, the log as it was at its last step or as it was told since, the log that each of
+-- its steps on the hub found, the mark that its writer stores when it quits, and the steps on that mark up to
+-- the reader's last load of it, or as it was told since
 pub record Seeing : Type 0 where
   pub last : Segment
   pub log : Published
+  pub enters : List Published
   pub mark : Book
-  pub quit : Bool
+  pub mark_steps : List MarkStep
 
-abbrev pub seeing : Segment → Published → Watching → Seeing
-seeing last log watch = record { last = last; log = log; mark = watch.mark; quit = watch.quit }
+abbrev pub seeing : Segment → Published → List Published → Watching → Seeing
+seeing last log enters watch = record { last = last; log = log; enters = enters; mark = watch.mark; mark_steps = watch.steps }
+
+-- whether the reader knows that the writer has quit
+abbrev pub has_quit : Seeing → Bool
+has_quit s = has_store s.mark_steps

@@ -26,4 +26,4 @@ pub record Opens (guild places : ℕ) (writer : Publishing) (readers : List Seei
   pub unsealed : writer.log.sealed ≡ false
   pub unspent : writer.spent ≡ false
   pub of_guild : writer.log.hub.guild ≡ guild
-  pub unseen : readers ≡ replicate places (seeing (unseen writer.log.hub) writer.log (watching writer.mark false))
+  pub unseen : readers ≡ replicate places (seeing (unseen writer.log.hub) writer.log [] (watching writer.mark []))

@@ -68,6 +68,7 @@ pub fn entries_after(
     requires hub { shown.now.note.hub ≡ least.now.hub }
     requires trimmed { IsTrimmed (spine_of shown.now) }
     requires cursor { cursor ≤ length least.now.entries }
+    ensures note { IfOk result (λ f. f.note ≡ shown.now.note) }
     ensures later { IfOk result (λ f. GoesOn least.now f.note) }
     ensures entries { IfOk result (λ f. MatchOption f.entries (cursor < base_of f.note) (λ v. FindsEntries cursor f.note v.items)) }
 {
@@ -90,6 +91,7 @@ pub fn entries_after(
 pub fn basis_of(shown: &Shown, alloc: Global, least: &Note) -> Result<Basis, AllocError>
     requires hub { shown.now.note.hub ≡ least.now.hub }
     requires trimmed { IsTrimmed (spine_of shown.now) }
+    ensures note { IfOk result (λ b. b.note ≡ shown.now.note) }
     ensures later { IfOk result (λ b. GoesOn least.now b.note) }
     ensures basis { IfOk result (λ b. b.basis ≡ record_after b.note (base_of b.note)) }
     ensures entries { IfOk result (λ b. b.entries.items ≡ drop (base_of b.note) b.note.entries) }

@@ -1,8 +1,8 @@
 //! What the first entries of a log come to.
 
-ghost use Rattle.std.specs.Prelude.{◌≡◌, ◌+◌, cond, drop, IfOk, OnOk, OnErr};
-ghost use Rattle.edit_apply.specs.Edits.{accepts, after};
-ghost use Rattle.guild_hub.specs.Logs.{whole_record, accepted as accepted_in};
+ghost use Rattle.std.specs.Prelude.{◌≡◌, ◌+◌, cond, IfOk, OnOk, OnErr};
+ghost use Rattle.edit_apply.specs.Edits.{accepts, after, state_from};
+ghost use Rattle.guild_hub.specs.Logs.{whole_record, accepted_from, accepted as accepted_in};
 ghost use Rattle.guild_hub.specs.Trims.{spine_of, IsTrimmed};
 
 use crate::entry::Entry;
@@ -10,6 +10,7 @@ use crate::shown::Shown;
 use edit_apply::{judge, make};
 use guild_model::Guild;
 use std::alloc::{AllocError, Global};
+use std::collections::VecDeque;
 
 /// The record after the first entries of a log, and how many of them were accepted.
 #[derive(Drop)]
@@ -35,6 +36,17 @@ impl Front {
         self.accepted = more;
         Ok(())
     }
+
+    // Adds the entries that follow. On an `Err` only some of them are added.
+    fn add_all(&mut self, alloc: Global, entries: &VecDeque<Entry>) -> Result<(), AllocError>
+        ensures record { OnOk result (self.new.record ≡ state_from self.old.record entries.now.items) }
+        ensures accepted { OnOk result (self.new.accepted ≡ self.old.accepted + accepted_from self.old.record entries.now.items) }
+    {
+        for place in 0..entries.len() {
+            self.add(alloc, &entries[place])?;
+        }
+        Ok(())
+    }
 }
 
 /// What all entries of a log come to, out of what is shown of it.
@@ -47,8 +59,11 @@ pub fn front_of(shown: &Shown, alloc: Global) -> Result<Front, AllocError>
         record: shown.front.record.copy(alloc)?,
         accepted: shown.front.accepted,
     };
-    for place in 0..shown.entries.len() {
-        front.add(alloc, &shown.entries[place])?;
+    match front.add_all(alloc, &shown.entries) {
+        Ok(()) => Ok(front),
+        Err(error) => {
+            drop(front);
+            Err(error)
+        }
     }
-    Ok(front)
 }

@@ -7,7 +7,9 @@ mod find;
 mod front;
 mod head;
 mod item;
+mod laws;
 mod mark;
+mod mark_step;
 mod new_hub;
 mod note;
 mod reader;
@@ -16,6 +18,7 @@ mod sealed;
 mod shown;
 mod writer;
 
+pub use laws::seen_stays_a_part;
 pub use mark::QuitNote;
 pub use new_hub::hub;
 pub use note::Note;

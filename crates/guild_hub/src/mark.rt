@@ -1,28 +1,27 @@
 //! The mark by which a hub's writer tells that it has quit. It is a word that is stored once.
 
-ghost use Rattle.std.specs.Prelude.{◌≡◌, [], true, false, IfOk};
+ghost use Rattle.std.specs.Prelude.{◌≡◌, [], true, IfOk};
 ghost use Rattle.std.specs.Arc.{arc_value};
+ghost use mathlib.Core.List.{IsPrefix};
 ghost use Rattle.guild_hub.specs.Books.{counter_of};
+ghost use Rattle.guild_hub.specs.Marks.{has_store, EndsWithLoad};
 ghost use Rattle.guild_hub.specs.Sights.{watching};
 
+use crate::mark_step::MarkStep;
 use logbook::{Gain, Offer, Plain, Play, Rule, Seen, Start, Word};
 use std::alloc::{AllocError, Global};
 use std::marker::Model;
 use std::sync::Arc;
 
-/// The writer has quit. The history of a mark has at most this.
-#[derive(Drop)]
-pub struct Quit;
-
 /// The rule of a mark: the word is 0 before the writer has quit.
 pub struct Quitting;
 
-impl Rule<Quit, u64> for Quitting {
+impl Rule<MarkStep, u64> for Quitting {
     ghost use Rattle.std.specs.Prelude.{[]};
     ghost use base.Fml.{ftrue};
-    ghost use Rattle.guild_hub.specs.Books.{IsCounted, Anything};
+    ghost use Rattle.guild_hub.specs.Marks.{IsMark};
 
-    ghost holds = { λ cells log. IsCounted Anything cells log };
+    ghost holds = { IsMark };
 
     ghost first = { [] };
 
@@ -38,27 +37,29 @@ impl Rule<Quit, u64> for Quitting {
 /// What a client of a mark has after a step: nothing.
 pub struct NoGain;
 
-impl Gain<Quit, u64> for NoGain {
+impl Gain<MarkStep, u64> for NoGain {
     ghost use base.Fml.{ftrue};
 
     ghost after = { λ names about answer. ftrue };
 }
 
+/// A step that asks for nothing but that it is kept.
 struct Asking;
 
-impl Plain<Quit, Quit, u64> for Asking {
+impl Plain<(), MarkStep, u64> for Asking {
     ghost use Rattle.std.specs.Prelude.{None};
+    ghost use Rattle.guild_hub.specs.declared.mark_step.MarkStep.TheVariants.{Load};
 
-    ghost ask = { λ quit. quit };
+    ghost ask = { λ nothing. Load };
 
-    ghost state = { λ quit. None };
+    ghost state = { λ nothing. None };
 }
 
 /// The step that stores the mark.
 pub struct Storing;
 
-impl Play<Quit, u64> for Storing {
-    ghost use Rattle.guild_hub.specs.Books.{Stores};
+impl Play<MarkStep, u64> for Storing {
+    ghost use Rattle.guild_hub.specs.Marks.{Stores};
 
     ghost then = { Stores };
 }
@@ -66,19 +67,23 @@ impl Play<Quit, u64> for Storing {
 /// The step that loads the mark.
 pub struct Loading;
 
-impl Play<Quit, u64> for Loading {
-    ghost use Rattle.guild_hub.specs.Books.{Counts};
+impl Play<MarkStep, u64> for Loading {
+    ghost use Rattle.guild_hub.specs.Marks.{Loads};
 
-    ghost then = { Counts };
+    ghost then = { Loads };
 }
 
-type MarkWord = Word<Quit, u64, Quitting>;
+type MarkSeen = Seen<MarkStep, u64, Quitting>;
+
+type MarkWord = Word<MarkStep, u64, Quitting>;
+
+type MarkOffer = Offer<MarkStep, u64, Quitting, NoGain>;
 
 /// The writer's end of a mark.
 #[derive(Drop)]
 pub struct Mark {
     word: Arc<MarkWord>,
-    seen: Seen<Quit, u64, Quitting>,
+    seen: MarkSeen,
     ghost word_is: { arc_value word ≡ counter_of seen.book },
     ghost unset: { seen.log ≡ [] },
 }
@@ -94,14 +99,13 @@ impl Mark {
         })
     }
 
-    /// A reader's end, which has not found the mark.
+    /// A reader's end, which has not loaded the mark.
     pub fn watch(&self) -> Result<Watch, AllocError>
-        ensures { IfOk result (λ w. w ≡ watching self.now.seen.book false) }
+        ensures { IfOk result (λ w. w ≡ watching self.now.seen.book []) }
     {
         Ok(Watch {
             word: Arc::try_clone(&self.word)?,
             seen: self.seen.again(),
-            found: false,
         })
     }
 
@@ -110,9 +114,7 @@ impl Mark {
         ensures { result ≡ self.now.seen.book }
     {
         let mut seen = self.seen.again();
-        let mut offer: Offer<Quit, u64, Quitting, NoGain> = seen.plain::<NoGain, Quit, Asking>(
-            &Quit,
-        );
+        let mut offer: MarkOffer = seen.plain::<NoGain, (), Asking>(&());
         let mut pen = seen.no_pen();
         let word: &MarkWord = &self.word;
         word.compare_exchange::<Storing, NoGain>(0, 1, &mut seen, &mut offer, &mut pen);
@@ -123,65 +125,62 @@ impl Mark {
 /// That the writer of a hub has quit. It takes no room. A clause sees which mark the writer stored.
 #[derive(Drop)]
 pub struct QuitNote {
-    seen: Seen<Quit, u64, Quitting>,
+    seen: MarkSeen,
 }
 
 impl Model for QuitNote {
     ghost use Rattle.std.specs.Prelude.{◌≡◌, true};
     ghost use Rattle.logbook.specs.Pages.{Book};
-    ghost use Rattle.guild_hub.specs.Books.{has_any};
+    ghost use Rattle.guild_hub.specs.Marks.{has_store};
 
     ghost Value = { Book };
 
     ghost view = { λ n. n.seen.book };
 
-    ghost invariant = { λ n. has_any n.seen.log ≡ true };
+    ghost invariant = { λ n. has_store n.seen.log ≡ true };
 }
 
-/// A reader's end of a mark. A clause sees which mark it is, and whether the reader has found it or was
-/// told of it.
+/// A reader's end of a mark. A clause sees which mark it is, and the steps on it that the reader knows.
 #[derive(Drop)]
 pub struct Watch {
     word: Arc<MarkWord>,
-    seen: Seen<Quit, u64, Quitting>,
-    found: bool,
+    seen: MarkSeen,
 }
 
 impl Model for Watch {
     ghost use Rattle.std.specs.Prelude.{◌≡◌};
     ghost use Rattle.std.specs.Arc.{arc_value};
-    ghost use Rattle.guild_hub.specs.Books.{counter_of, has_any};
+    ghost use Rattle.guild_hub.specs.Books.{counter_of};
     ghost use Rattle.guild_hub.specs.Sights.{Watching, watching};
 
     ghost Value = { Watching };
 
-    ghost view = { λ w. watching w.seen.book (has_any w.seen.log) };
+    ghost view = { λ w. watching w.seen.book w.seen.log };
 
-    ghost invariant = { λ w. (arc_value w.word ≡ counter_of w.seen.book) × (w.found ≡ has_any w.seen.log) };
+    ghost invariant = { λ w. arc_value w.word ≡ counter_of w.seen.book };
 }
 
 impl Watch {
     /// Takes in that the writer has quit. It does not allocate.
     pub fn learn(&mut self, note: &QuitNote)
         requires { note.now ≡ self.old.mark }
-        ensures { self.new ≡ watching self.old.mark true }
+        ensures mark { self.new.mark ≡ self.old.mark }
+        ensures steps { IsPrefix self.old.steps self.new.steps }
+        ensures quit { has_store self.new.steps ≡ true }
     {
         self.seen.learn(&note.seen);
-        self.found = true;
     }
 
-    /// Whether the writer had quit at a step of this call. It waits for nobody, and does not allocate.
+    /// Loads the mark, and tells whether the writer had stored it. It waits for nobody, and does not
+    /// allocate.
     pub fn look(&mut self) -> bool
-        ensures same { self.new.mark ≡ self.old.mark }
-        ensures found { result ≡ self.new.quit }
-        ensures stays { self.old.quit ≡ true → self.new.quit ≡ true }
+        ensures mark { self.new.mark ≡ self.old.mark }
+        ensures load { EndsWithLoad self.old.steps self.new.steps }
+        ensures found { result ≡ has_store self.new.steps }
     {
-        let mut offer: Offer<Quit, u64, Quitting, NoGain> = self
-            .seen
-            .plain::<NoGain, Quit, Asking>(&Quit);
+        let mut offer: MarkOffer = self.seen.plain::<NoGain, (), Asking>(&());
         let word: &MarkWord = &self.word;
         let found = word.load::<Loading, NoGain>(&mut self.seen, &mut offer);
-        self.found = found != 0;
-        self.found
+        found != 0
     }
 }

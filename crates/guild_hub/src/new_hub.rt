@@ -46,9 +46,9 @@ fn readers_of(
     mark: &Mark,
     places: u8,
 ) -> Result<Vec<HubReader>, AllocError>
-    requires { view writer.old.desk.place ≡ knows note.now.hub }
+    requires { view writer.old.desk.place ≡ knows note.now.hub [] }
     ensures same { (writer.new.desk.shown ≡ writer.old.desk.shown) × (drop writer.new.behind writer.new.log.items ≡ drop writer.old.behind writer.old.log.items) }
-    ensures unseen { IfOk result (λ readers. readers.items ≡ replicate places (seeing (unseen note.now.hub) note.now (watching mark.now.seen.book false))) }
+    ensures unseen { IfOk result (λ readers. readers.items ≡ replicate places (seeing (unseen note.now.hub) note.now [] (watching mark.now.seen.book []))) }
 {
     let mut readers = Vec::new(alloc);
     for _ in 0..places {
@@ -71,7 +71,7 @@ fn open_ends<R: Wait>(
     requires none { drop writer.behind writer.log.items ≡ [] }
     requires note { writer.desk.shown.value.note ≡ note.now }
     ensures shown { IfOk result.1 (λ _. (result.0.desk.shown.value.note ≡ note.now) × IsTrimmed (spine_of result.0.desk.shown.value) × (drop result.0.behind result.0.log.items ≡ [])) }
-    ensures unseen { IfOk result.1 (λ readers. readers.items ≡ replicate places (seeing (unseen note.now.hub) note.now (watching mark.now.seen.book false))) }
+    ensures unseen { IfOk result.1 (λ readers. readers.items ≡ replicate places (seeing (unseen note.now.hub) note.now [] (watching mark.now.seen.book []))) }
 {
     let (mut writer, begun) = ruled::begin(rt, writer);
     if let Err(error) = begun {

@@ -1,9 +1,11 @@
 //! A reader of a hub's log. It waits for nobody.
 
-ghost use Rattle.std.specs.Prelude.{◌≡◌, ◌<◌, ◌≤◌, true, false, drop, length, IfOk, IfErr, OnErr};
-ghost use Rattle.guild_hub.specs.Logs.{GoesOn, base_of, record_after};
-ghost use Rattle.guild_hub.specs.Sights.{seeing, unseen};
-ghost use Rattle.guild_hub.specs.Looks.{Looks, Lags, Rebases};
+ghost use Rattle.std.specs.Prelude.{◌≡◌, [], true, IfOk, IfErr, OnErr};
+ghost use mathlib.Core.List.{IsPrefix};
+ghost use Rattle.guild_hub.specs.Logs.{GoesOn};
+ghost use Rattle.guild_hub.specs.Marks.{EndsWithLoad};
+ghost use Rattle.guild_hub.specs.Sights.{seeing, unseen, has_quit};
+ghost use Rattle.guild_hub.specs.Looks.{Looks, Lags, Rebases, MayEnter};
 ghost use Rattle.guild_hub.specs.Rules.{knows};
 ghost use Rattle.left_right.specs.Sides.{view};
 
@@ -56,8 +58,9 @@ pub struct Rebased {
     pub sealed: bool,
 }
 
-/// A reader. A clause sees what it has seen since its last rebase, and the log as it was at its last
-/// step, or as it was told since.
+/// A reader. A clause sees what it has seen since its last rebase, the log as it was at its last step, or
+/// as it was told since, the log that each of its steps on the hub found, and what it knows of the mark by
+/// which its writer quits.
 #[derive(Drop)]
 pub struct HubReader {
     alloc: Global,
@@ -71,21 +74,21 @@ pub struct HubReader {
 impl Model for HubReader {
     ghost use Rattle.std.specs.Prelude.{◌≡◌, ◌≤◌, length};
     ghost use Rattle.left_right.specs.Sides.{view as knows_of};
-    ghost use Rattle.guild_hub.specs.Rules.{knows};
+    ghost use Rattle.guild_hub.specs.Rules.{Knows};
     ghost use Rattle.guild_hub.specs.Sights.{Seeing, seeing, part_of};
 
     ghost Value = { Seeing };
 
-    ghost view = { λ r. seeing (part_of r.note r.base r.cursor) r.note r.watch };
+    ghost view = { λ r. seeing (part_of r.note r.base r.cursor) r.note (knows_of r.reader.place).enters r.watch };
 
-    ghost invariant = { λ r. (r.base ≤ r.cursor) × (r.cursor ≤ length r.note.entries) × (knows_of r.reader.place ≡ knows r.note.hub) };
+    ghost invariant = { λ r. (r.base ≤ r.cursor) × (r.cursor ≤ length r.note.entries) × Knows r.note.hub (knows_of r.reader.place) };
 }
 
 impl HubReader {
     // A reader that has not looked.
     pub(crate) fn of(alloc: Global, reader: LogReader, note: Note, watch: Watch) -> HubReader
-        requires { view reader.place ≡ knows note.hub }
-        ensures { result ≡ seeing (unseen note.hub) note watch }
+        requires { view reader.place ≡ knows note.hub [] }
+        ensures { result ≡ seeing (unseen note.hub) note [] watch }
     {
         HubReader {
             alloc,
@@ -98,12 +101,12 @@ impl HubReader {
     }
 
     /// Takes in a note of this hub: from now on a look or a rebase that succeeds reaches at least what the
-    /// note tells. It takes no memory.
+    /// note tells. It does not allocate.
     pub fn learn(&mut self, note: &Note)
         requires { note.now.hub ≡ self.old.log.hub }
         ensures told { GoesOn note.now self.new.log }
         ensures later { GoesOn self.old.log self.new.log }
-        ensures same { (self.new.last ≡ self.old.last) × (self.new.mark ≡ self.old.mark) × (self.new.quit ≡ self.old.quit) }
+        ensures same { self.new ≡ record self.old { log = self.new.log } }
     {
         self.note = self.note.later(note);
     }
@@ -112,15 +115,18 @@ impl HubReader {
     /// allocate.
     pub fn learn_quit(&mut self, note: &QuitNote)
         requires { note.now ≡ self.old.mark }
-        ensures { self.new ≡ record self.old { quit = true } }
+        ensures quit { has_quit self.new ≡ true }
+        ensures steps { IsPrefix self.old.mark_steps self.new.mark_steps }
+        ensures same { self.new ≡ record self.old { mark_steps = self.new.mark_steps } }
     {
         self.watch.learn(note);
     }
 
-    /// Gives the entries after the cursor, and moves the cursor past them. It answers `Lagged` exactly if
-    /// some of them are no longer kept. An `Err` leaves what was seen. It waits for nobody, and costs its
-    /// own entries.
+    /// Loads the mark and enters the hub, each once. It gives the entries after the cursor, and moves the
+    /// cursor past them. It answers `Lagged` exactly if some of them are no longer kept. An `Err` leaves
+    /// what was seen. It waits for nobody, and costs its own entries.
     pub fn look(&mut self) -> Result<Looked, LookRefused>
+        ensures load { EndsWithLoad self.old.mark_steps self.new.mark_steps }
         ensures ok { IfOk result (λ l. Looks self.old l self.new) }
         ensures err { IfErr result (λ e. Lags self.old e self.new) }
     {
@@ -151,11 +157,12 @@ impl HubReader {
         })
     }
 
-    /// Begins anew from the record after the entries that are not kept, and gives those that are. The
-    /// cursor moves past them. An `Err` leaves what was seen. It waits for nobody.
+    /// Enters the hub once, begins anew from the record after the entries that are not kept, and gives those
+    /// that are. The cursor moves past them. An `Err` leaves all but that it may have entered. It waits for
+    /// nobody.
     pub fn rebase(&mut self) -> Result<Rebased, AllocError>
         ensures ok { IfOk result (λ r. Rebases self.old r self.new) }
-        ensures err { OnErr result (self.new ≡ self.old) }
+        ensures err { OnErr result ((self.new ≡ record self.old { enters = self.new.enters }) × MayEnter self.old.enters self.new.enters) }
     {
         let with = (self.alloc, self.note.again());
         let Basis {

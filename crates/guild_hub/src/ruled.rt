@@ -4,7 +4,8 @@ ghost use Rattle.std.specs.Prelude.{◌≡◌, ◌++◌, ◌∷◌, [], true, fa
 ghost use Rattle.left_right.specs.Sides.{view};
 ghost use Rattle.guild_hub.specs.Logs.{GoesOn, base_of, record_after, with_entry, with_seal};
 ghost use Rattle.guild_hub.specs.Trims.{spine_of, IsTrimmed};
-ghost use Rattle.guild_hub.specs.Rules.{Names, knows, stranger, name_of, FindsEntries};
+ghost use Rattle.guild_hub.specs.Rules.{knows, Knows, stranger, FindsEntries};
+ghost use Rattle.guild_hub.specs.Looks.{MayEnter};
 
 use crate::entry::Entry;
 use crate::find::{self, Basis, Found};
@@ -15,12 +16,15 @@ use crossbeam_utils::rule::{Outcome, Protocol};
 use left_right::reader::Reader;
 use left_right::writer::Writer;
 use std::alloc::{AllocError, Global};
+use std::collections::LinkedList;
 use std::sync::Wait;
 
-/// What a seat knows: which hub it is of. No value of it is made.
+/// What a seat knows: which hub it is of, and the log that each of its steps found, if it is a reader's. No
+/// value of it is made.
 pub struct View {
     pub named: bool,
     pub hub: (u64, (u64, (u64, u64))),
+    pub enters: LinkedList<Note>,
 }
 
 /// The rule of what a hub shows.
@@ -32,6 +36,14 @@ impl Protocol<Shown, View> for Trimmed {
     ghost holds = { Keeps };
 
     ghost first = { stranger };
+}
+
+struct Show;
+
+impl Outcome<Shown, View> for Show {
+    ghost use Rattle.guild_hub.specs.Rules.{Shows};
+
+    ghost then = { Shows };
 }
 
 struct See;
@@ -77,9 +89,9 @@ pub fn open(alloc: Global, first: Shown, second: Shown, places: u8) -> Result<Lo
 /// Shows what is shown once more, so that the writer's seat knows its hub.
 pub fn begin<R: Wait>(rt: &R, writer: LogWriter) -> (LogWriter, Result<(), AllocError>)
     requires { drop writer.behind writer.log.items ≡ [] }
-    ensures { IfOk result.1 (λ _. (view result.0.desk.place ≡ knows result.0.desk.shown.value.note.hub) × (spine_of result.0.desk.shown.value ≡ spine_of writer.desk.shown.value) × IsTrimmed (spine_of result.0.desk.shown.value) × (drop result.0.behind result.0.log.items ≡ [])) }
+    ensures { IfOk result.1 (λ _. (view result.0.desk.place ≡ knows result.0.desk.shown.value.note.hub []) × (spine_of result.0.desk.shown.value ≡ spine_of writer.desk.shown.value) × IsTrimmed (spine_of result.0.desk.shown.value) × (drop result.0.behind result.0.log.items ≡ [])) }
 {
-    writer.publish_as::<See, R>(rt)
+    writer.publish_as::<Show, R>(rt)
 }
 
 // A reader that does not know its hub.
@@ -111,8 +123,11 @@ pub fn publish<R: Wait>(
     let (rt, entry, note) = with;
     let mut writer = writer;
     match writer.append(Op::Add(entry, note)) {
-        Ok(()) => writer.publish_as::<See, R>(rt),
-        Err(_) => (writer, Err(AllocError)),
+        Ok(()) => writer.publish_as::<Show, R>(rt),
+        Err(operation) => {
+            drop(operation);
+            (writer, Err(AllocError))
+        }
     }
 }
 
@@ -125,16 +140,20 @@ pub fn seal<R: Wait>(writer: LogWriter, with: (&R, Note)) -> (LogWriter, Result<
     let (rt, note) = with;
     let mut writer = writer;
     match writer.append(Op::Seal(note)) {
-        Ok(()) => writer.publish_as::<See, R>(rt),
-        Err(_) => (writer, Err(AllocError)),
+        Ok(()) => writer.publish_as::<Show, R>(rt),
+        Err(operation) => {
+            drop(operation);
+            (writer, Err(AllocError))
+        }
     }
 }
 
 /// What is found after so many entries. The log has at least what the note tells. It waits for nobody.
 pub fn look(reader: LogReader, with: (Global, u64, Note)) -> (LogReader, Result<Found, AllocError>)
-    requires hub { view reader.place ≡ knows with.2.hub }
+    requires hub { Knows with.2.hub (view reader.place) }
     requires cursor { with.1 ≤ length with.2.entries }
-    ensures hub { view result.0.place ≡ view reader.place }
+    ensures hub { Knows with.2.hub (view result.0.place) }
+    ensures enters { MatchResult result.1 (λ f. (view result.0.place).enters ≡ (view reader.place).enters ++ f.note ∷ []) (λ _. MayEnter (view reader.place).enters (view result.0.place).enters) }
     ensures later { IfOk result.1 (λ f. GoesOn with.2 f.note) }
     ensures entries { IfOk result.1 (λ f. MatchOption f.entries (with.1 < base_of f.note) (λ v. FindsEntries with.1 f.note v.items)) }
 {
@@ -151,8 +170,9 @@ pub fn look(reader: LogReader, with: (Global, u64, Note)) -> (LogReader, Result<
 /// The record, and the entries that follow it. The log has at least what the note tells. It waits for
 /// nobody.
 pub fn rebase(reader: LogReader, with: (Global, Note)) -> (LogReader, Result<Basis, AllocError>)
-    requires hub { view reader.place ≡ knows with.1.hub }
-    ensures hub { view result.0.place ≡ view reader.place }
+    requires hub { Knows with.1.hub (view reader.place) }
+    ensures hub { Knows with.1.hub (view result.0.place) }
+    ensures enters { MatchResult result.1 (λ b. (view result.0.place).enters ≡ (view reader.place).enters ++ b.note ∷ []) (λ _. MayEnter (view reader.place).enters (view result.0.place).enters) }
     ensures later { IfOk result.1 (λ b. GoesOn with.1 b.note) }
     ensures basis { IfOk result.1 (λ b. b.basis ≡ record_after b.note (base_of b.note)) }
     ensures entries { IfOk result.1 (λ b. b.entries.items ≡ drop (base_of b.note) b.note.entries) }

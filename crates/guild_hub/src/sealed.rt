@@ -28,7 +28,7 @@ impl<R: Wait + Drop> Model for SealedLog<R> {
 
     ghost view = { λ s. s.note };
 
-    ghost invariant = { λ s. (s.note.sealed ≡ true) × (s.front.record ≡ whole_record s.note) × (s.front.accepted ≡ accepted_in s.note) };
+    ghost invariant = { λ s. (s.note.sealed ≡ true) × (s.front.record ≡ whole_record s.note) × (s.front.accepted ≡ accepted_in s.note) × (s.writer.desk.shown.value.note ≡ s.note) };
 }
 
 impl<R: Wait + Drop> Drop for SealedLog<R> {
@@ -36,9 +36,10 @@ impl<R: Wait + Drop> Drop for SealedLog<R> {
         let Self {
             rt,
             note: _note,
-            front: _front,
+            front,
             writer,
         } = self;
+        drop(front);
         drop(writer.take(&rt));
     }
 }
@@ -48,6 +49,7 @@ impl<R: Wait + Drop> SealedLog<R> {
     pub(crate) fn of(rt: R, note: Note, front: Front, writer: LogWriter) -> SealedLog<R>
         requires sealed { note.sealed ≡ true }
         requires front { (front.record ≡ whole_record note) × (front.accepted ≡ accepted_in note) }
+        requires shown { writer.desk.shown.value.note ≡ note }
         ensures { result ≡ note }
     {
         SealedLog {
@@ -58,28 +60,28 @@ impl<R: Wait + Drop> SealedLog<R> {
         }
     }
 
-    /// The note of the whole log. It takes no memory.
+    /// The note of the whole log. It does not allocate.
     pub fn tell(&self) -> Note
         ensures { result ≡ self.now }
     {
         self.note.again()
     }
 
-    /// The number of entries. It takes no memory.
+    /// The number of entries. It does not allocate.
     pub fn len(&self) -> u64
         ensures { result ≡ length self.now.entries }
     {
         self.note.len()
     }
 
-    /// The number of entries that were accepted. It takes no memory.
+    /// The number of entries that were accepted. It does not allocate.
     pub fn accepted(&self) -> u64
         ensures { result ≡ accepted_in self.now }
     {
         self.front.accepted
     }
 
-    /// The record after all entries. It takes no memory.
+    /// The record after all entries. It does not allocate.
     pub fn record(&self) -> &Guild
         ensures { result.now ≡ whole_record self.now }
     {

@@ -85,7 +85,10 @@ impl Shown {
     fn push(&mut self, entry: Entry, note: Note) -> Result<(), AllocError>
         ensures { MatchResult result (λ _. spine_of self.new ≡ pushed (spine_of self.old) entry note) (λ _. spine_of self.new ≡ spine_of self.old) }
     {
-        self.make_room()?;
+        if let Err(error) = self.make_room() {
+            drop(entry);
+            return Err(error);
+        }
         self.entries.push_back_reserved(entry);
         self.note = note;
         Ok(())
@@ -115,7 +118,7 @@ impl Shown {
         ensures room { deque_len self.old.entries < deque_capacity self.old.entries → deque_len self.new.entries < deque_capacity self.new.entries }
     {
         self.front.add(self.alloc, &self.entries[0])?;
-        self.entries.pop_front();
+        drop(self.entries.pop_front());
         Ok(())
     }
 }

@@ -63,7 +63,7 @@ fn seal_log<R: Wait>(
 ) -> (LogWriter, Result<Front, AllocError>)
     requires unsealed { (head.old.note.sealed ≡ false) × (length head.old.note.entries < 2 ^ 60) }
     requires shown { (writer.desk.shown.value.note ≡ head.old.note) × IsTrimmed (spine_of writer.desk.shown.value) × (drop writer.behind writer.log.items ≡ []) }
-    ensures sealed { IfOk result.1 (λ _. head.new.note ≡ with_seal head.old.note) }
+    ensures sealed { IfOk result.1 (λ _. (head.new.note ≡ with_seal head.old.note) × (result.0.desk.shown.value.note ≡ head.new.note)) }
     ensures front { IfOk result.1 (λ front. (front.record ≡ whole_record head.old.note) × (front.accepted ≡ accepted_in head.old.note)) }
 {
     let front = match front::front_of(writer.published(), alloc) {
@@ -71,12 +71,16 @@ fn seal_log<R: Wait>(
         Err(error) => return (writer, Err(error)),
     };
     if !head.seal() {
+        drop(front);
         return (writer, Err(AllocError));
     }
     let (writer, sealed) = ruled::seal(writer, (rt, head.note.again()));
     match sealed {
         Ok(()) => (writer, Ok(front)),
-        Err(error) => (writer, Err(error)),
+        Err(error) => {
+            drop(front);
+            (writer, Err(error))
+        }
     }
 }
 
@@ -127,6 +131,7 @@ impl<R: Wait + Drop> HubWriter<R> {
         self.spent = true;
         let entry = Entry::new(self.alloc, edit.copy(self.alloc)?)?;
         if !self.head.add(edit) {
+            drop(entry);
             return Err(AllocError);
         }
         let note = self.head.note.again();
@@ -152,7 +157,10 @@ impl<R: Wait + Drop> HubWriter<R> {
             return Err((edit, HubRefused::Full));
         }
         match self.add(&edit) {
-            Ok(()) => Ok(()),
+            Ok(()) => {
+                drop(edit);
+                Ok(())
+            }
             Err(_) => Err((edit, HubRefused::Memory)),
         }
     }

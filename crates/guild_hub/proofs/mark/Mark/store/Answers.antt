@@ -1,6 +1,6 @@
 use Rattle.std.proofs.Common.{◌≡◌, sym, ◌∙◌, ap, refl}
 use Rattle.guild_hub.specs.Books.{counter_of}
-use Rattle.guild_hub.proofs.Stepping.{stores_moves}
+use Rattle.guild_hub.proofs.Marking.{stores_moves}
 use Rattle.guild_hub.proofs.mark.Mark.store.Goals as goal
 
 pub compare_exchange-requires : goal.compare_exchange-requires
