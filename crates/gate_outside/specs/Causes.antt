@@ -12,13 +12,13 @@ one_more count = min (count + 1) (2 ^ 64 - 1)
 abbrev pub Rose : ℕ → ℕ → Type 0
 Rose before now = one_more before ≤ now
 
--- a call that answers `Failed` or a value: the count rises exactly where it failed
+-- a call that answers `Failed` or a value: the count rises exactly if it failed
 pub record HasCause {T E : Type 0} (before now : ℕ) (result : Result T E) : Type 0 where
   pub later : before ≤ now
   pub failed : OnErr result (Rose before now)
   pub ok : OnOk result (now ≡ before)
 
--- a call that answers a `Fault` or a value: the count rises exactly where the object failed
+-- a call that answers a `Fault` or a value: the count rises exactly if the object failed
 pub record FaultHasCause {T : Type 0} (before now : ℕ) (result : Result T Fault) : Type 0 where
   pub later : before ≤ now
   pub failed : IsErrOf result Failed → Rose before now

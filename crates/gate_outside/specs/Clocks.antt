@@ -22,7 +22,7 @@ moment_at moments n = slice_index moments (min n (length moments - 1))
 
 -- an answer of a clock that tells is its next moment
 abbrev pub IsNext : Option Moments → Option Moments → ℕ → Type 0
-IsNext None new moment = ⊤
+IsNext None new moment = new ≡ None
 IsNext (Some m) new moment = (moment ≡ moment_at m.moments m.answers)
     × (new ≡ Some (record { moments = m.moments; answers = one_more m.answers }))
 
@@ -31,3 +31,13 @@ pub record Ticks (old new : ClockTale) (moment : ℕ) : Type 0 where
   pub later : old.latest ≤ moment
   pub latest : new.latest ≡ moment
   pub next : IsNext old.moments new.moments moment
+
+-- a clock that tells has given no answer
+abbrev pub HasAnsweredNone : Option Moments → Type 0
+HasAnsweredNone None = ⊤
+HasAnsweredNone (Some m) = m.answers ≡ 0
+
+-- a clock before its first answer
+pub record IsNewClock (tale : ClockTale) : Type 0 where
+  pub latest : tale.latest ≡ 0
+  pub answers : HasAnsweredNone tale.moments

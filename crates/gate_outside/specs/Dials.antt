@@ -4,7 +4,7 @@ use Rattle.std.specs.declared.option.Option.{Option}
 use Rattle.gate_outside.specs.declared.faults.Fault.{Fault}
 use Rattle.gate_outside.specs.declared.faults.Fault.TheVariants.{Failed, Memory}
 use Rattle.gate_outside.specs.Causes.{one_more}
-use Rattle.gate_outside.specs.Houses.{GrowsBy, ListsAsk}
+use Rattle.gate_outside.specs.Told.{GrowsBy, ListsAsk}
 use Rattle.gate_outside.specs.Links.{LinkTale, ReturnedLink, returned_link}
 
 -- what a dial tells
@@ -22,7 +22,7 @@ dry_after_dial dry (Ok link) = dry
 dry_after_dial dry (Err Failed) = one_more dry
 dry_after_dial dry (Err Memory) = dry
 
--- a call of `dial`: each URL is listed, but for one that met want of memory
+-- a call of `dial`
 pub record Dials {L : Type 0} (old new : DialTale) (url : List ℕ) (result : Result L Fault) : Type 0 where
   pub urls : ListsAsk old.urls new.urls url result
   pub dry_run : new.dry_run ≡ dry_after_dial old.dry_run result

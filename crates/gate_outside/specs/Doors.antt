@@ -1,11 +1,11 @@
 -- What doors tell, and what their calls make of it.
 use Rattle.std.specs.Prelude.{◌≡◌, ℕ, ◌+◌, ◌-◌, ◌^◌, ◌≤◌, List, Bool, true, false, Result, Ok, Err, ⊤}
 use Rattle.std.specs.declared.option.Option.{Option}
-use Rattle.std.specs.declared.option.Option.TheVariants.{Some}
+use Rattle.std.specs.declared.option.Option.TheVariants.{Some, None}
 use Rattle.gate_outside.specs.declared.faults.Fault.{Fault}
 use Rattle.gate_outside.specs.declared.accepted.Accepted.{Accepted}
 use Rattle.gate_outside.specs.declared.accepted.Accepted.TheVariants as accepted
-use Rattle.gate_outside.specs.Houses.{GrowsBy}
+use Rattle.gate_outside.specs.Told.{GrowsBy, IsEmptyIfTold}
 use Rattle.gate_outside.specs.Links.{LinkTale, IsNewLink, ReturnedLink}
 
 -- what a door tells
@@ -20,6 +20,11 @@ pub record DoorTale : Type 0 where
   pub waits : Option Bool
   -- the links that came back, in order, where it tells
   pub returned : Option (List ReturnedLink)
+
+-- no more links are given than the door tells
+abbrev pub WithinAll : ℕ → Option ℕ → Type 0
+WithinAll given None = ⊤
+WithinAll given (Some all) = given ≤ all
 
 module _ {L : Type 0} where
   -- how many links are given, after an answer
@@ -50,6 +55,7 @@ module _ {L : Type 0} where
     pub ended : new.ended ≡ says_ended result
     pub given : new.given ≡ given_after old.given result
     pub most : new.given ≤ 2 ^ 32 - 1
+    pub within : WithinAll new.given new.accepts
     pub accepts : new.accepts ≡ old.accepts
     pub returned : new.returned ≡ old.returned
 
@@ -67,3 +73,16 @@ pub record TakesBack (old new : DoorTale) (link : ReturnedLink) : Type 0 where
   pub ended : new.ended ≡ old.ended
   pub accepts : new.accepts ≡ old.accepts
   pub waits : new.waits ≡ old.waits
+
+-- how many links a door gives is told, and is at most so many
+abbrev pub GivesAtMost : ℕ → Option ℕ → Type 0
+GivesAtMost most None = ⊥
+GivesAtMost most (Some all) = all ≤ most
+
+-- a door of a house before its first call
+pub record IsNewDoor (most : ℕ) (tale : DoorTale) (faults : ℕ) : Type 0 where
+  pub given : tale.given ≡ 0
+  pub open_yet : tale.ended ≡ false
+  pub accepts : GivesAtMost most tale.accepts
+  pub returned : IsEmptyIfTold tale.returned
+  pub sound : faults ≡ 0

@@ -1,13 +1,15 @@
 pub mod Causes
 pub mod Streams
-pub mod Houses
+pub mod Told
 pub mod Links
 pub mod Doors
 pub mod Dials
 pub mod Clocks
+pub mod Houses
 pub mod Spawners
 pub mod FaultPlans
 pub mod MemStreams
-pub mod MemHouses
 pub mod Shelves
 pub mod StdStreams
+pub mod StdHouses
+pub mod MemHouses

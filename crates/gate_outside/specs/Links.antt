@@ -7,7 +7,7 @@ use Rattle.gate_outside.specs.declared.incoming.Incoming.{Incoming}
 use Rattle.gate_outside.specs.declared.incoming.Incoming.TheVariants as incoming
 use Rattle.gate_outside.specs.declared.sending.Sending.{Sending}
 use Rattle.gate_outside.specs.declared.sending.Sending.TheVariants as sending
-use Rattle.gate_outside.specs.Houses.{GrowsBy}
+use Rattle.gate_outside.specs.Told.{GrowsBy, GrowsByAny, IsEmptyIfTold}
 
 -- what a link tells
 pub record LinkTale : Type 0 where
@@ -21,11 +21,6 @@ pub record LinkTale : Type 0 where
   pub gave : Option (List Sending)
   -- the texts that it was sent, and the code of its own close, where it tells
   pub sent : Option (List Sending)
-
--- a list that is told and is empty, or one that is not told
-abbrev pub IsEmptyIfTold : {A : Type 0} → Option (List A) → Type 0
-IsEmptyIfTold None = ⊤
-IsEmptyIfTold (Some xs) = xs ≡ []
 
 -- a link before its first call
 pub record IsNewLink (tale : LinkTale) (faults : ℕ) : Type 0 where
@@ -52,11 +47,6 @@ abbrev pub gave_text_after : Bool → Option Sending → Bool
 gave_text_after before None = before
 gave_text_after before (Some (sending.Text text)) = true
 gave_text_after before (Some (sending.Close code)) = before
-
--- a list that is told grows by what there is
-abbrev pub GrowsByAny : {A : Type 0} → Option (List A) → Option (List A) → Option A → Type 0
-GrowsByAny old new None = new ≡ old
-GrowsByAny old new (Some x) = GrowsBy old new x
 
 -- what waits first is given, and nothing is given only where nothing waits
 abbrev pub GivesFirst : Option (List Sending) → Result Incoming Fault → Type 0

@@ -24,7 +24,7 @@ after_read s room = record {
   plan = after_call s.plan;
 }
 
--- a read fails exactly where its call is to fail and the end was not found before
+-- a read fails exactly if its call is to fail and the end was not found before
 abbrev pub read_fails : SourceState → Bool
 read_fails s = fails s.plan && not s.ended
 
@@ -42,7 +42,7 @@ pub record SinkState : Type 0 where
 abbrev pub taken : SinkState → List ℕ → List ℕ
 taken s piece = take (min s.most (length piece)) piece
 
--- a write fails exactly where its call is to fail; want of memory leaves all as it was
+-- a write fails exactly if its call is to fail; out of memory leaves all as it was
 abbrev pub Writes : Result ℕ Fault → SinkState → SinkState → List ℕ → Type 0
 Writes (Ok n) old new piece = (fails old.plan ≡ false) × (n ≡ min old.most (length piece))
     × (new ≡ record { got = old.got ++ taken old piece; most = old.most; plan = after_call old.plan })

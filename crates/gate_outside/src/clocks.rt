@@ -1,8 +1,8 @@
-//! Clocks.
+//! Clocks, which answer milliseconds.
 ghost use Rattle.std.specs.Prelude.{◌≡◌, ℕ};
 ghost use Rattle.gate_outside.specs.Clocks.{ClockTale, Ticks};
 
-/// A clock that never goes back.
+/// A clock, which answers milliseconds and never goes back.
 pub trait Clock {
     /// What the clock tells: always its latest answer; where it can, also the moments that it was made
     /// from and how many answers it has given.

@@ -1,4 +1,4 @@
-//! Doors, at which others ask for links.
+//! Doors, at which others connect.
 ghost use Rattle.std.specs.Prelude.{◌≡◌, ℕ, List};
 ghost use Rattle.gate_outside.specs.Causes.{FaultHasCause};
 ghost use Rattle.gate_outside.specs.Doors.{DoorTale, Accepts, GivesNew, TakesBack};
@@ -8,7 +8,7 @@ use crate::accepted::Accepted;
 use crate::faults::Fault;
 use crate::links::Link;
 
-/// A door, which gives a link for each that asks for one. It counts its faults.
+/// A door, which gives a link for each connection that others open. It counts its faults.
 pub trait Door {
     /// The links that it gives.
     type Wire: Link;
@@ -20,9 +20,9 @@ pub trait Door {
     /// How often it has failed. The count stays at its last value.
     ghost faults: { Self → ℕ };
 
-    /// Gives a link for the one that waits first, before its first call. `NotYet` comes only where
-    /// nobody waited. `Ended` comes only where no link will come any more, and then every answer is
-    /// `Ended`. A door gives at most 2^32 - 1 links.
+    /// Gives a link for the one that waits first, before its first call. `NotYet` comes only if
+    /// nobody waited. `Ended` comes only if all links were given, and then every answer is `Ended`. A
+    /// door gives at most 2^32 - 1 links, and no more than it tells.
     fn accept(&mut self) -> Result<Accepted<Self::Wire>, Fault>
         ensures tale { Accepts (tale self.old) (tale self.new) result }
         ensures new_link { GivesNew Self.Wire.tale Self.Wire.faults result }

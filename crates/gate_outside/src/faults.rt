@@ -10,7 +10,7 @@ pub struct Failed;
 pub enum Fault {
     /// The object failed. Its count of faults rose in this call.
     Failed,
-    /// Want of memory. The object is as before.
+    /// Out of memory. The object is as before.
     Memory,
 }
 

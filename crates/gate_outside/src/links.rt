@@ -1,4 +1,4 @@
-//! Links to another end, over which texts go both ways.
+//! Links: connections, over which texts go both ways.
 ghost use Rattle.std.specs.Prelude.{◌≡◌, ℕ, IfOk};
 ghost use Rattle.gate_outside.specs.Causes.{FaultHasCause};
 ghost use Rattle.gate_outside.specs.Links.{LinkTale, Receives, Sends, Closes};
@@ -6,7 +6,7 @@ ghost use Rattle.gate_outside.specs.Links.{LinkTale, Receives, Sends, Closes};
 use crate::faults::Fault;
 use crate::incoming::Incoming;
 
-/// A link to another end. It counts its faults.
+/// A connection, over which texts go both ways. It counts its faults.
 pub trait Link {
     /// What the link tells: always its own close and whether it has given a text; where it can, also
     /// what waits, what it gave and what it was sent.
@@ -15,8 +15,8 @@ pub trait Link {
     /// How often it has failed. The count stays at its last value.
     ghost faults: { Self → ℕ };
 
-    /// Gives the text or the close code that waits first. `NotYet` comes only where nothing waited.
-    /// After the link's own close it gives that code.
+    /// Gives the text or the close code that waits first. `NotYet` comes only if nothing waited. After
+    /// the link's own close it gives that code.
     fn recv(&mut self) -> Result<Incoming, Fault>
         ensures tale { Receives (tale self.old) (tale self.new) result }
         ensures cause { FaultHasCause (faults self.old) (faults self.new) result };

@@ -1,53 +1,90 @@
 //! A house over the system.
 ghost use Rattle.std.specs.Prelude.{◌≡◌, None};
+ghost use Rattle.gate_outside.specs.Houses.{PutsBack, returned_source, returned_door};
+ghost use Rattle.gate_outside.specs.StdHouses.{network_state, real_tale};
 
+use crate::back::Back;
+use crate::dials::Dial;
 use crate::faults::Fault;
 use crate::houses::House;
+use crate::machine_clock::MachineClock;
+use crate::networks::Network;
 use crate::std_streams::{FileSource, StdoutSink};
+use std::alloc::AllocError;
 use std::fs;
 use std::io::{ErrorKind, Input, Print};
 use std::marker::Model;
 use std::rt::Files;
+use std::time::Clock as MachineTime;
 
 /// The name of standard input.
 pub const STANDARD_INPUT: &str = "-";
 
-/// The house of the program: files by their paths, and standard input by the name `-`.
+/// The house of the program: files by their paths, standard input by the name `-`, the machine's
+/// clock, and the doors and links of a network. It tells its counts, and what the network tells.
 #[derive(Drop)]
-pub struct RealHouse<R: Files + Input + Print + Drop> {
+pub struct RealHouse<R: Files + Input + Print + MachineTime + Copy + Drop, N: Network + Drop> {
     runtime: R,
+    network: N,
     faults: u64,
 }
 
-impl<R: Files + Input + Print + Drop> Model for RealHouse<R> {
-    ghost use Rattle.std.specs.Prelude.{ℕ};
+impl<R: Files + Input + Print + MachineTime + Copy + Drop, N: Network + Drop> Model
+    for RealHouse<R, N> {
+    ghost use Rattle.gate_outside.specs.StdHouses.{RealHouseState, network_state};
 
-    ghost Value = { ℕ };
+    ghost Value = { RealHouseState };
 
-    ghost view = { λ h. h.faults };
+    ghost view = { λ h. record {
+      source_faults = h.faults;
+      network = network_state (N.tale h.network) (N.faults h.network) (N.house_tale h.network);
+    } };
 }
 
-impl<R: Files + Input + Print + Drop> RealHouse<R> {
-    /// A house over that runtime.
-    pub fn new(runtime: R) -> RealHouse<R>
-        ensures { result ≡ 0 }
+impl<R: Files + Input + Print + MachineTime + Copy + Drop, N: Network + Drop> RealHouse<R, N> {
+    /// A house over that runtime and that network.
+    pub fn new(runtime: R, network: N) -> RealHouse<R, N>
+        ensures { result ≡ record {
+          source_faults = 0;
+          network = network_state (N.tale network) (N.faults network) (N.house_tale network);
+        } }
     {
-        RealHouse { runtime, faults: 0 }
+        RealHouse {
+            runtime,
+            network,
+            faults: 0,
+        }
     }
 }
 
-impl<R: Files + Input + Print + Drop> House for RealHouse<R> {
+impl<R: Files + Input + Print + MachineTime + Copy + Drop, N: Network + Drop> Dial
+    for RealHouse<R, N> {
+    type Wire = N::Wire;
+
+    ghost tale = { λ h. h.network.dial };
+
+    ghost faults = { λ h. h.network.dial_faults };
+
+    ghost house_tale = { real_tale };
+
+    fn dial(&mut self, url: &str) -> Result<N::Wire, Fault> {
+        self.network.dial(url)
+    }
+
+    fn back(&mut self, wire: N::Wire) {
+        self.network.back(wire);
+    }
+}
+
+impl<R: Files + Input + Print + MachineTime + Copy + Drop, N: Network + Drop> House
+    for RealHouse<R, N> {
     type In = FileSource<R::File, R::Reader>;
 
     type Out = StdoutSink<R>;
 
-    ghost source_faults = { λ h. h };
+    type Gate = N::Gate;
 
-    ghost contents = { λ _ _. None };
-
-    ghost asks = { λ _. None };
-
-    ghost returned = { λ _. None };
+    type Time = MachineClock<R>;
 
     fn source(&mut self, name: &str) -> Result<FileSource<R::File, R::Reader>, Fault> {
         if name == STANDARD_INPUT {
@@ -65,9 +102,31 @@ impl<R: Files + Input + Print + Drop> House for RealHouse<R> {
         }
     }
 
-    fn put_back(&mut self, source: FileSource<R::File, R::Reader>) {
-        if source.faults() > 0 {
-            self.faults = self.faults.saturating_add(1);
+    fn door(&mut self, port: u16, accepts: u32) -> Result<N::Gate, Fault> {
+        self.network.door(port, accepts)
+    }
+
+    fn clock(&mut self) -> Result<MachineClock<R>, AllocError> {
+        Ok(MachineClock::new(self.runtime))
+    }
+
+    fn put_back(&mut self, part: Back<FileSource<R::File, R::Reader>, N::Gate, MachineClock<R>>)
+        ensures house { PutsBack
+            (λ s. returned_source None s.faults)
+            (λ d. returned_door (N.Gate.tale d) (N.Gate.faults d))
+            (λ c. record { latest = c; moments = None })
+            (real_tale self.old) (real_tale self.new) part }
+        ensures dial { self.new.network.dial ≡ self.old.network.dial }
+        ensures dial_faults { self.new.network.dial_faults ≡ self.old.network.dial_faults }
+    {
+        match part {
+            Back::Source(source) => {
+                if source.faults() > 0 {
+                    self.faults = self.faults.saturating_add(1);
+                }
+            }
+            Back::Door(door) => self.network.put_back(door),
+            Back::Clock(_) => {}
         }
     }
 }

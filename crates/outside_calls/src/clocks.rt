@@ -1,8 +1,8 @@
 //! Clocks in memory and of the machine.
 
 use gate_outside::clocks::Clock;
-use thread_outside::machine_clock::MachineClock;
-use thread_outside::mem_clock::MemClock;
+use gate_outside::machine_clock::MachineClock;
+use gate_outside::mem_clock::MemClock;
 
 fn show_moments(rt: &HostRuntime) -> anyhow::Result<()> {
     let mut clock = MemClock::new([3, 5, 5, 9].to_vec(rt.alloc())?);

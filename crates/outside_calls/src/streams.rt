@@ -21,17 +21,24 @@ pub fn move_piece<S: Source, K: Sink>(
 // A source that gives at most four bytes at once, and a sink that takes at most three.
 fn planned(rt: &HostRuntime) -> Result<(MemSource, MemSink), AllocError> {
     let alloc = rt.alloc();
-    let source = MemSource::with_most(b"abcdef".to_vec(alloc)?, 4, [2, 5].to_vec(alloc)?);
-    let sink = MemSink::new(alloc, 3, [2].to_vec(alloc)?);
-    Ok((source, sink))
+    let bytes = b"abcdef".to_vec(alloc)?;
+    let reads = [2, 5].to_vec(alloc)?;
+    let writes = [2].to_vec(alloc)?;
+    Ok((
+        MemSource::with_most(bytes, 4, reads),
+        MemSink::new(alloc, 3, writes),
+    ))
 }
 
-// The second and fifth read and the second write fail, but no read after the end.
-fn show_planned(rt: &HostRuntime) -> anyhow::Result<()> {
-    let (mut source, mut sink) = planned(rt)?;
-    let mut piece = Piece::new(rt.alloc())?;
+// Moves five pieces.
+fn show_moves(
+    rt: &HostRuntime,
+    source: &mut MemSource,
+    sink: &mut MemSink,
+    piece: &mut Piece,
+) -> anyhow::Result<()> {
     for _ in 0..5 {
-        let moved = move_piece(&mut source, &mut sink, &mut piece);
+        let moved = move_piece(source, sink, piece);
         let got = str::from_utf8(sink.bytes())?;
         println!(rt; "stream: {moved:?}, the sink has {got}")?;
     }
@@ -40,16 +47,39 @@ fn show_planned(rt: &HostRuntime) -> anyhow::Result<()> {
     Ok(())
 }
 
-fn show_sure(rt: &HostRuntime) -> anyhow::Result<()> {
-    let mut source = SureSource::new(b"abcdef".to_vec(rt.alloc())?);
-    let mut sink = SureSink::new(rt.alloc());
+// The second and fifth read and the second write fail, but no read after the end.
+fn show_planned(rt: &HostRuntime) -> anyhow::Result<()> {
     let mut piece = Piece::new(rt.alloc())?;
+    let (mut source, mut sink) = planned(rt)?;
+    let shown = show_moves(rt, &mut source, &mut sink, &mut piece);
+    drop(source);
+    drop(sink);
+    shown
+}
+
+// Moves two pieces.
+fn show_sure_moves(
+    rt: &HostRuntime,
+    source: &mut SureSource,
+    sink: &mut SureSink,
+    piece: &mut Piece,
+) -> anyhow::Result<()> {
     for _ in 0..2 {
-        let moved = move_piece(&mut source, &mut sink, &mut piece);
+        let moved = move_piece(source, sink, piece);
         let got = str::from_utf8(sink.bytes())?;
         println!(rt; "sure stream: {moved:?}, the sink has {got}")?;
     }
     Ok(())
+}
+
+fn show_sure(rt: &HostRuntime) -> anyhow::Result<()> {
+    let mut piece = Piece::new(rt.alloc())?;
+    let mut source = SureSource::new(b"abcdef".to_vec(rt.alloc())?);
+    let mut sink = SureSink::new(rt.alloc());
+    let shown = show_sure_moves(rt, &mut source, &mut sink, &mut piece);
+    drop(source);
+    drop(sink);
+    shown
 }
 
 /// Shows both forms.

@@ -12,7 +12,7 @@ use Rattle.crossbeam_queue.specs.Fifo.{Pushes, Pops, Forks, Learns}
 use Rattle.thread_outside.proofs.Views.{each_none, each_set, each_snoc, no}
 use Rattle.thread_outside.specs.declared.call_view.CallView.{CallView}
 use Rattle.thread_outside.specs.CallLists.{CallState, calls_of, has_end, EndIsLast}
-use Rattle.thread_outside.specs.CallRule.{all_of, opening, with_caller, new_caller, after_put, after_take, KeepsCalls, TakesInTurn}
+use Rattle.thread_outside.specs.CallRule.{all_of, view_of, opening, with_caller, new_caller, spent, after_put, with_empty_take, KeepsCalls, TakesInTurn}
 
 at_new : (p made : ℕ) (new old : ℕ) → p ≡ made → cond (p == made) new old ≡ new
 at_new p made new old e = ap (λ c. cond c new old) ((Decides-eqb p made).1 e)
@@ -158,10 +158,29 @@ low_caller made taken items x n is unmade = dite (dec_le n x.caller)
     (λ (t : n ≤ x.caller). absurd (nonempty (calls_of x.caller taken) (calls_of x.caller items) x (sym (ap (λ l. calls_of x.caller taken ++ l) (filter-append (is_by x.caller) (x ∷ []) items ∙ ap (λ l. l ++ calls_of x.caller items) (own x.caller x refl))) ∙ unmade x.caller (omega arith))))
     (λ t. lt_of_not-le t)
 
-pub pops : (port : ℕ) (v : CallView) → v.takes ≡ true → Pops KeepsCalls port v (λ x w. (w ≡ after_take v x) × (x.caller < v.made))
-pops port v takes x items views d at =
+-- a take with so many takes that found nothing
+abbrev took_and : ℕ → CallView → CallState → CallView
+took_and n v x = view_of v.calls v.caller v.put v.takes v.made (v.taken ++ x ∷ []) n
+
+pub counts : (port : ℕ) (v : CallView) → v.takes ≡ true → Forks KeepsCalls port v (with_empty_take v) spent
+counts port v takes items views d at =
+    let cut : List CallView = set views port (with_empty_take v) in
+    let F : ℕ → CallView → Type 0 = Dials d.made d.dial_at d.taken items in
+    let G : ℕ → CallView → Type 0 = Takes d.door_at d.made d.taken in record {
+      door_at = d.door_at;
+      dial_at = d.dial_at;
+      made = d.made;
+      taken = d.taken;
+      once = d.once;
+      unmade = d.unmade;
+      dials = each_snoc F cut spent (no refl) (each_set F views port (with_empty_take v) (λ calls. d.dials port v at calls) (λ j u far e. d.dials j u e));
+      door = each_snoc G cut spent (no refl) (each_set G views port (with_empty_take v) (λ t. d.door port v at t) (λ j u far e. d.door j u e));
+    }
+
+pub pops : (n port : ℕ) (v : CallView) → v.takes ≡ true → Pops KeepsCalls port v (λ x w. (w ≡ took_and n v x) × (x.caller < v.made))
+pops n port v takes x items views d at =
     let mine = d.door port v at takes in
-    let w : CallView = after_take v x in
+    let w : CallView = took_and n v x in
     let taken : List CallState = d.taken ++ x ∷ [] in (
       w,
       record {

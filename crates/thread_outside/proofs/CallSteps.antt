@@ -23,12 +23,13 @@ pub no_ends : (l : List CallState) (x : CallState) → x.ends ≡ None → ends_
 no_ends l x is = ends_snoc l x ∙ ap (λ o. ends_in l ++ option_to_list o) is ∙ append-nil (ends_in l)
 
 pub takes_one : (first last : TakerState) (x : CallState) (e : LaneEnds) → last.queue ≡ first.queue → last.dials ≡ first.dials → GoesOn first.taken last.taken
-    → ends_in last.taken ≡ ends_in first.taken → x.ends ≡ Some e → TakesEnds first (after_call_of last x) (Some e)
-takes_one first last x e queue dials on ends is = record {
+    → ends_in last.taken ≡ ends_in first.taken → last.empty_takes ≡ first.empty_takes → x.ends ≡ Some e → TakesEnds first (after_call_of last x) (Some e)
+takes_one first last x e queue dials on ends empty_takes is = record {
   queue = queue;
   dials = dials;
   on = goes_on first.taken last.taken x on;
   ends = ends_snoc last.taken x ∙ ap (λ l. l ++ option_to_list x.ends) ends ∙ ap (λ o. ends_in first.taken ++ option_to_list o) is;
+  empty_takes = empty_takes;
   none = tt;
 }
 

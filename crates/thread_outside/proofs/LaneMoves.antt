@@ -1,12 +1,12 @@
 -- Each move of a lane keeps its rule.
-use Rattle.std.proofs.Common.{◌≡◌, ℕ, true, List, [], ◌∷◌, ◌++◌, length, set, sym, refl, ap, ◌∙◌, append_assoc}
+use Rattle.std.proofs.Common.{◌≡◌, ℕ, Bool, true, List, [], ◌∷◌, ◌++◌, length, set, sym, refl, ap, ◌∙◌, append_assoc}
 use mathlib.Core.Option.{some}
 use lib.ListN.{get_elem?}
 use Rattle.crossbeam_queue.specs.Fifo.{Pushes, Pops, Forks, Learns}
 use Rattle.thread_outside.proofs.Views.{each_none, each_set, each_snoc, no}
 use Rattle.gate_outside.specs.declared.sending.Sending.{Sending}
 use Rattle.thread_outside.specs.declared.lane_view.LaneView.{LaneView}
-use Rattle.thread_outside.specs.Lanes.{opening, putter, taker, after_put, after_take, KeepsAll}
+use Rattle.thread_outside.specs.Lanes.{view_of, opening, putter, taker, spent, after_put, with_empty_take, KeepsAll}
 
 abbrev Putters : ℕ → List Sending → ℕ → LaneView → Type 0
 Putters put_at all j v = v.puts ≡ true → (j ≡ put_at) × (v.put ≡ all)
@@ -52,10 +52,26 @@ pushes n port v x puts items views _ d at =
       refl,
     )
 
-pub pops : (port : ℕ) (v : LaneView) → v.takes ≡ true → Pops KeepsAll port v (λ x w. w ≡ after_take v x)
-pops port v takes x items views d at =
+-- a take with so many takes that found nothing
+abbrev took_and : ℕ → LaneView → Sending → LaneView
+took_and n v x = view_of v.puts v.put v.takes (v.taken ++ x ∷ []) n
+
+pub counts : (port : ℕ) (v : LaneView) → v.takes ≡ true → Forks KeepsAll port v (with_empty_take v) spent
+counts port v takes items views d at =
+    let cut : List LaneView = set views port (with_empty_take v) in
+    let F : ℕ → LaneView → Type 0 = Putters d.put_at (d.taken ++ items) in
+    let G : ℕ → LaneView → Type 0 = Takers d.take_at d.taken in record {
+      put_at = d.put_at;
+      take_at = d.take_at;
+      taken = d.taken;
+      putters = each_snoc F cut spent (no refl) (each_set F views port (with_empty_take v) (λ puts. d.putters port v at puts) (λ j u far e. d.putters j u e));
+      takers = each_snoc G cut spent (no refl) (each_set G views port (with_empty_take v) (λ t. d.takers port v at t) (λ j u far e. d.takers j u e));
+    }
+
+pub pops : (n port : ℕ) (v : LaneView) → v.takes ≡ true → Pops KeepsAll port v (λ x w. w ≡ took_and n v x)
+pops n port v takes x items views d at =
     let mine = d.takers port v at takes in
-    let w : LaneView = after_take v x in
+    let w : LaneView = took_and n v x in
     let taken : List Sending = d.taken ++ x ∷ [] in
     let same : taken ++ items ≡ d.taken ++ (x ∷ items) = append_assoc d.taken (x ∷ []) items in (
       w,

@@ -19,29 +19,39 @@ use Rattle.thread_outside.specs.CallRule.{WasEmpty}
 use Rattle.thread_outside.specs.Lanes.{LaneEnds, new_ends}
 use Rattle.thread_outside.specs.MemLinks.{LinkState, new_link, kept_link}
 
--- which queue a door takes from, how many dials put there, and what it took
+-- which queue a door takes from, how many dials put there, what it took, and how often it took nothing
 pub record TakerState : Type 0 where
   pub queue : SegId Global
   pub dials : ℕ
   pub taken : List CallState
+  pub empty_takes : ℕ
 
 abbrev pub after_call_of : TakerState → CallState → TakerState
-after_call_of t call = record { queue = t.queue; dials = t.dials; taken = t.taken ++ call ∷ [] }
+after_call_of t call = record t { taken = t.taken ++ call ∷ [] }
+
+abbrev pub after_empty_take : TakerState → TakerState
+after_empty_take t = record t { empty_takes = t.empty_takes + 1 }
 
 abbrev pub with_dial : TakerState → TakerState
-with_dial t = record { queue = t.queue; dials = t.dials + 1; taken = t.taken }
+with_dial t = record t { dials = t.dials + 1 }
 
 -- the end of every dial was taken
 abbrev pub HaveEnded : TakerState → Type 0
 HaveEnded t = (dial : ℕ) → dial < t.dials → has_ended dial t.taken ≡ true
 
--- at one step of a call nothing waited, and the door had taken just what it has now
+-- nothing waited at a step at which the door had taken just what it has now, and had counted the call
 abbrev pub FoundNone : TakerState → Type 0
-FoundNone t = (view : CallView) × (view.takes ≡ true) × (view.taken ≡ t.taken) × WasEmpty view
+FoundNone t = (view : CallView) × (view.takes ≡ true) × (view.taken ≡ t.taken)
+    × (view.empty_takes ≡ t.empty_takes) × WasEmpty view
 
 -- what was taken grows at its end
 abbrev pub GoesOn : List CallState → List CallState → Type 0
 GoesOn old new = (more : List CallState) × (new ≡ old ++ more)
+
+-- a call that takes nothing is counted
+abbrev pub empty_takes_after : ℕ → Option LaneEnds → ℕ
+empty_takes_after empty_takes None = empty_takes + 1
+empty_takes_after empty_takes (Some e) = empty_takes
 
 -- a door takes until ends come or nothing waits
 pub record TakesEnds (old new : TakerState) (result : Option LaneEnds) : Type 0 where
@@ -49,6 +59,7 @@ pub record TakesEnds (old new : TakerState) (result : Option LaneEnds) : Type 0 
   pub dials : new.dials ≡ old.dials
   pub on : GoesOn old.taken new.taken
   pub ends : ends_in new.taken ≡ ends_in old.taken ++ option_to_list result
+  pub empty_takes : new.empty_takes ≡ empty_takes_after old.empty_takes result
   pub none : MatchOption result (FoundNone new) (λ e. Unit {0})
 
 -- a door that is dialled: what it took, how many links it gave, whether it has ended, which calls fail, and what came back
@@ -61,7 +72,7 @@ pub record DialledState : Type 0 where
 
 abbrev pub new_dialled : SegId Global → ℕ → List ℕ → DialledState
 new_dialled queue dials failing = record {
-  calls = record { queue = queue; dials = dials; taken = [] };
+  calls = record { queue = queue; dials = dials; taken = []; empty_takes = 0 };
   given = 0;
   ended = false;
   plan = fresh failing;
@@ -135,7 +146,7 @@ after_dialled d url e = record {
   returned = d.returned;
 }
 
--- a call of `dial` gives the one end and puts the other; want of memory leaves all as it was
+-- a call of `dial` gives the one end and puts the other; out of memory leaves all as it was
 abbrev pub DialsDoor : DoorDialState → DoorDialState → List ℕ → Result LinkState Fault → Type 0
 DialsDoor old new url (Ok link) = (here there : SegId Global) × ((link ≡ new_link None (Some (new_ends here there)) []) × (new ≡ after_dialled old url (new_ends there here)))
 DialsDoor old new url (Err Failed) = ⊥

@@ -1,5 +1,5 @@
 -- The rule of a lane: what was taken, and then what waits, is what was put.
-use Rattle.std.specs.Prelude.{◌≡◌, ℕ, Bool, true, false, List, [], ◌∷◌, ◌++◌, Result, Ok, Err}
+use Rattle.std.specs.Prelude.{◌≡◌, ℕ, ◌+◌, ◌-◌, Bool, true, false, List, [], ◌∷◌, ◌++◌, Result, Ok, Err}
 use Rattle.std.specs.declared.alloc.Global.{Global}
 use Rattle.std.specs.declared.option.Option.{Option}
 use Rattle.std.specs.declared.option.Option.TheVariants.{Some, None}
@@ -11,27 +11,45 @@ use Rattle.gate_outside.specs.declared.faults.Fault.TheVariants.{Failed, Memory}
 use Rattle.gate_outside.specs.declared.sending.Sending.{Sending}
 use Rattle.thread_outside.specs.declared.lane_view.LaneView.{LaneView}
 
-abbrev pub view_of : Bool → List Sending → Bool → List Sending → LaneView
-view_of puts put takes taken = record { puts = puts; put = put; takes = takes; taken = taken }
+abbrev pub view_of : Bool → List Sending → Bool → List Sending → ℕ → LaneView
+view_of puts put takes taken empty_takes = record {
+  puts = puts;
+  put = put;
+  takes = takes;
+  taken = taken;
+  empty_takes = empty_takes;
+}
 
 -- the one pass of a new lane, before it is split
 abbrev pub opening : LaneView
-opening = view_of true [] true []
+opening = view_of true [] true [] 0
 
 -- the two passes that it is split into
 abbrev pub putter : LaneView → LaneView
-putter v = view_of true v.put false []
+putter v = view_of true v.put false [] 0
 
 abbrev pub taker : LaneView → LaneView
-taker v = view_of false [] true v.taken
+taker v = view_of false [] true v.taken v.empty_takes
 
 abbrev pub after_put : LaneView → Sending → LaneView
-after_put v x = view_of v.puts (v.put ++ x ∷ []) v.takes v.taken
+after_put v x = view_of v.puts (v.put ++ x ∷ []) v.takes v.taken v.empty_takes
 
 abbrev pub after_take : LaneView → Sending → LaneView
-after_take v x = view_of v.puts v.put v.takes (v.taken ++ x ∷ [])
+after_take v x = view_of v.puts v.put v.takes (v.taken ++ x ∷ []) v.empty_takes
 
--- Each pass has a place in `views`: the one that puts has the place `put_at`, the one that takes has the place `take_at`.
+-- a pass that was made to count a take, and that does nothing
+abbrev pub spent : LaneView
+spent = view_of false [] false [] 0
+
+-- the end that takes with one more take that finds nothing, which it counts before it looks
+abbrev pub with_empty_take : LaneView → LaneView
+with_empty_take v = view_of v.puts v.put v.takes v.taken (v.empty_takes + 1)
+
+-- after a take that it had counted so, and that found something after all
+abbrev pub took_after_all : LaneView → Sending → LaneView
+took_after_all v x = view_of v.puts v.put v.takes (v.taken ++ x ∷ []) (v.empty_takes - 1)
+
+-- Each pass has an index in `views`: the one that puts has the index `put_at`, the one that takes has the index `take_at`.
 pub record KeepsAll (items : List Sending) (views : List LaneView) : Type 0 where
   pub put_at : ℕ
   pub take_at : ℕ
@@ -57,15 +75,19 @@ new_ends from to = record { from = from; to = to; came = taker opening; went = p
 abbrev pub came_on : LaneEnds → Sending → LaneEnds
 came_on e x = record { from = e.from; to = e.to; came = after_take e.came x; went = e.went }
 
+abbrev pub came_none : LaneEnds → LaneEnds
+came_none e = record { from = e.from; to = e.to; came = with_empty_take e.came; went = e.went }
+
 abbrev pub went_on : LaneEnds → Sending → LaneEnds
 went_on e x = record { from = e.from; to = e.to; came = e.came; went = after_put e.went x }
 
--- an end takes what waits first; it takes nothing, and fails, only if the lane was empty at one step of the call
+-- an end takes what waits first; it takes nothing, and fails, only if the lane was empty at one step of the call,
+-- which it counted before
 abbrev pub TakesLane : Option LaneEnds → Option LaneEnds → Result (Option Sending) Fault → Type 0
 TakesLane None new result = new ≡ None
-TakesLane (Some e) new (Ok None) = (new ≡ Some e) × WasEmpty e.came
+TakesLane (Some e) new (Ok None) = (new ≡ Some (came_none e)) × WasEmpty (with_empty_take e.came)
 TakesLane (Some e) new (Ok (Some x)) = new ≡ Some (came_on e x)
-TakesLane (Some e) new (Err Failed) = (new ≡ Some e) × WasEmpty e.came
+TakesLane (Some e) new (Err Failed) = (new ≡ Some (came_none e)) × WasEmpty (with_empty_take e.came)
 TakesLane (Some e) new (Err Memory) = new ≡ Some e
 
 -- an end puts at the back; a refusal puts nothing

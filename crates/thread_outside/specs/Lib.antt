@@ -5,6 +5,7 @@ pub mod Shelves
 pub mod Teams
 pub mod MemDoors
 pub mod MemDials
+pub mod MemNetworks
 pub mod Outcomes
 pub mod CallLists
 pub mod CallRule

@@ -63,7 +63,7 @@ OpensNext old new result = MatchBool (fails old.plan)
     ((result ≡ Err Failed) × (new ≡ after_failed_dial old))
     (OpensTo old.ends old new result)
 
--- a call of `dial`; want of memory leaves all as it was
+-- a call of `dial`; out of memory leaves all as it was
 abbrev pub Opens : DialState → DialState → List ℕ → Result LinkState Fault → Type 0
 Opens old new url (Ok link) = OpensNext (with_url old url) new (Ok link)
 Opens old new url (Err Failed) = OpensNext (with_url old url) new (Err Failed)

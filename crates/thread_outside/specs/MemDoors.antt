@@ -1,5 +1,5 @@
 -- Doors in memory.
-use Rattle.std.specs.Prelude.{◌≡◌, ℕ, ◌+◌, ◌-◌, ◌^◌, min, ◌==◌, List, [], ◌∷◌, ◌++◌, Bool, true, false, Result, Ok, Err, is_some, MatchBool}
+use Rattle.std.specs.Prelude.{◌≡◌, ℕ, ◌+◌, min, ◌==◌, List, [], ◌∷◌, ◌++◌, Bool, true, false, Result, Ok, Err, is_some, MatchBool}
 use Rattle.std.specs.declared.option.Option.{Option}
 use Rattle.std.specs.declared.option.Option.TheVariants.{Some, None}
 use Rattle.gate_outside.specs.FaultPlans.{Plan, fresh, fails, after_call, after_failed_call}
@@ -11,18 +11,21 @@ use Rattle.gate_outside.specs.Doors.{DoorTale}
 use Rattle.gate_outside.specs.Links.{ReturnedLink}
 use Rattle.thread_outside.specs.MemLinks.{ContentState, LinkState, new_link, kept_link}
 
--- who waits at each call, how many links were given, whether it has ended, which calls fail, and what came back
+-- who waits at each call, how many links were given and are given at most, whether it has ended, which calls fail,
+-- and what came back
 pub record DoorState : Type 0 where
   pub callers : List (Option ContentState)
   pub given : ℕ
+  pub most : ℕ
   pub ended : Bool
   pub plan : Plan
   pub returned : List ReturnedLink
 
-abbrev pub new_door : List (Option ContentState) → List ℕ → DoorState
-new_door callers failing = record {
+abbrev pub new_door : List (Option ContentState) → ℕ → List ℕ → DoorState
+new_door callers most failing = record {
   callers = callers;
   given = 0;
+  most = most;
   ended = false;
   plan = fresh failing;
   returned = [];
@@ -34,9 +37,9 @@ count_callers [] = 0
 count_callers (None ∷ more) = count_callers more
 count_callers (Some caller ∷ more) = count_callers more + 1
 
--- how many links a door gives in all that has given so many, at which these still come
-abbrev pub all_links : ℕ → List (Option ContentState) → ℕ
-all_links given callers = min (given + count_callers callers) (2 ^ 32 - 1)
+-- how many links a door gives in all that has given so many and gives at most so many, at which these still come
+abbrev pub all_links : ℕ → ℕ → List (Option ContentState) → ℕ
+all_links given most callers = min (given + count_callers callers) most
 
 -- who waits at the next call
 abbrev pub next_caller : List (Option ContentState) → Option ContentState
@@ -48,7 +51,7 @@ abbrev pub door_tale : DoorState → DoorTale
 door_tale d = record {
   given = d.given;
   ended = d.ended;
-  accepts = Some (all_links d.given d.callers);
+  accepts = Some (all_links d.given d.most d.callers);
   waits = Some (is_some (next_caller d.callers));
   returned = Some d.returned;
 }
@@ -58,6 +61,7 @@ abbrev pub let_on : DoorState → List (Option ContentState) → ℕ → Bool �
 let_on d callers given ended = record {
   callers = callers;
   given = given;
+  most = d.most;
   ended = ended;
   plan = d.plan;
   returned = d.returned;
@@ -70,9 +74,9 @@ LetsNext (None ∷ more) old new answer = (answer ≡ accepted.NotYet) × (new �
 LetsNext (Some caller ∷ more) old new answer = (answer ≡ accepted.Link (new_link caller.turns caller.lane caller.failing))
     × (new ≡ let_on old more (old.given + 1) old.ended)
 
--- the next caller is let in; after 2^32 - 1 links the door has ended
+-- the next caller is let in; after its most links the door has ended
 abbrev pub LetsIn : DoorState → DoorState → Accepted LinkState → Type 0
-LetsIn old new answer = MatchBool (old.given == 2 ^ 32 - 1)
+LetsIn old new answer = MatchBool (old.given == old.most)
     ((answer ≡ accepted.Ended) × (new ≡ let_on old old.callers old.given true))
     (LetsNext old.callers old new answer)
 

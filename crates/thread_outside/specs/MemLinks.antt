@@ -11,7 +11,7 @@ use Rattle.gate_outside.specs.declared.sending.Sending.{Sending}
 use Rattle.gate_outside.specs.Links.{LinkTale, ReturnedLink, returned_link, given_by, gave_text_after}
 use Rattle.crossbeam_queue.specs.SegTies.{SegId}
 use Rattle.std.specs.declared.alloc.Global.{Global}
-use Rattle.thread_outside.specs.Lanes.{LaneEnds, WasEmpty, new_ends, came_on, went_on}
+use Rattle.thread_outside.specs.Lanes.{LaneEnds, WasEmpty, new_ends, came_on, came_none, went_on}
 use Rattle.thread_outside.specs.Peers.{first_turn}
 
 -- a link in memory; a script alone tells the turns that are still to come, and an end that another may hold tells its lanes
@@ -64,19 +64,19 @@ tale_of s = record {
 abbrev pub after_fault_of : LinkState → LinkState
 after_fault_of s = record s { plan = after_failed_call s.plan }
 
--- a call fails where it is to fail, or where the other end is no script
+-- a call fails if it is to fail, or if the other end is no script
 abbrev pub Fails : LinkState → LinkState → Type 0
 Fails old new = ((fails old.plan ≡ true) ⊎ (old.turns ≡ None)) × (new ≡ after_fault_of old)
 
--- nothing waited on the lane at one step of a call
+-- nothing waited on the lane at one step of the call that its end has counted last
 abbrev pub FoundEmpty : Option LaneEnds → Type 0
 FoundEmpty None = Unit {0}
 FoundEmpty (Some e) = WasEmpty e.came
 
--- what comes over a lane
+-- what comes over a lane; that nothing comes is counted
 abbrev pub lane_after : Option LaneEnds → Option Sending → Option LaneEnds
 lane_after None turn = None
-lane_after (Some e) None = Some e
+lane_after (Some e) None = Some (came_none e)
 lane_after (Some e) (Some x) = Some (came_on e x)
 
 -- after a call of `recv` that gave this, if it gave something
@@ -91,10 +91,21 @@ after_given s turn = record {
   plan = after_call s.plan;
 }
 
--- a call of `recv` on a link that this end has not closed; that it gives nothing, or fails but is not to fail, tells that nothing waited
+-- after a call of `recv` that found nothing and failed
+abbrev pub after_empty_fault : LinkState → LinkState
+after_empty_fault s = record s { lane = lane_after s.lane None; plan = after_failed_call s.plan }
+
+-- a call of `recv` fails if it is to fail, or if the other end is no script and nothing waited
+abbrev pub RecvFails : LinkState → LinkState → Type 0
+RecvFails old new = ((fails old.plan ≡ true) × (new ≡ after_fault_of old))
+    ⊎ ((old.turns ≡ None) × (new ≡ after_empty_fault old) × FoundEmpty new.lane)
+
+-- a call of `recv` on a link that this end has not closed; it gives nothing only if nothing waited
 abbrev pub GivesOpen : LinkState → LinkState → Result Incoming Fault → Type 0
-GivesOpen old new (Ok answer) = (fails old.plan ≡ false) × (new ≡ after_given old (given_by (Ok answer))) × MatchOption (given_by (Ok answer)) (FoundEmpty old.lane) (λ x. Unit {0})
-GivesOpen old new (Err Failed) = Fails old new × ((fails old.plan ≡ true) ⊎ FoundEmpty old.lane)
+GivesOpen old new (Ok answer) = (fails old.plan ≡ false)
+    × (new ≡ after_given old (given_by (Ok answer)))
+    × MatchOption (given_by (Ok answer)) (FoundEmpty new.lane) (λ x. Unit {0})
+GivesOpen old new (Err Failed) = RecvFails old new
 GivesOpen old new (Err Memory) = new ≡ old
 
 -- a call of `recv`; after the link's own close no call is counted and nothing changes

@@ -2,7 +2,7 @@
 ghost use Rattle.std.specs.Prelude.{◌≡◌, ◌<◌, ◌↔◌, IsTrue, MatchOption, IfOk, [], true, false};
 ghost use Rattle.crossbeam_queue.specs.SegTies.{IsSegPassOf};
 ghost use Rattle.thread_outside.specs.CallRule.{opening, view_of};
-ghost use Rattle.thread_outside.specs.DialledDoors.{after_call_of, with_dial, HaveEnded, FoundNone, TakesEnds};
+ghost use Rattle.thread_outside.specs.DialledDoors.{after_call_of, after_empty_take, with_dial, HaveEnded, FoundNone, TakesEnds};
 
 use crate::call::Call;
 use crate::calls::{CallPass, Calls};
@@ -30,6 +30,7 @@ impl Model for CallTaker {
       queue = t.calls.value;
       dials = length t.ended.items;
       taken = t.pass.me.view.client.taken;
+      empty_takes = t.pass.me.view.client.empty_takes;
     } };
 
     ghost invariant = { IsCallTaker };
@@ -43,6 +44,7 @@ impl CallTaker {
           queue = calls.value;
           dials = 0;
           taken = [];
+          empty_takes = 0;
         } }
     {
         CallTaker {
@@ -55,7 +57,7 @@ impl CallTaker {
     // The queue, a pass and the number of the next dial.
     pub(crate) fn admit(&mut self) -> Result<(Arc<Calls, Global>, CallPass, u8), AllocError>
         requires { (self.old.dials < 256) × (self.old.taken ≡ []) }
-        ensures dial { IfOk result (λ r. (r.0.value ≡ self.old.queue) × (r.2 ≡ self.old.dials) × IsSegPassOf r.0.value r.1 × (r.1.me.view.client ≡ view_of true r.2 [] false 0 [])) }
+        ensures dial { IfOk result (λ r. (r.0.value ≡ self.old.queue) × (r.2 ≡ self.old.dials) × IsSegPassOf r.0.value r.1 × (r.1.me.view.client ≡ view_of true r.2 [] false 0 [] 0)) }
         ensures taker { IfOk result (λ _. self.new ≡ with_dial self.old) }
     {
         let calls = Arc::try_clone(&self.calls)?;
@@ -67,7 +69,9 @@ impl CallTaker {
 
     // Takes what waits first. `None` only if nothing waited at one step of the call.
     fn take<R: Wait>(&mut self, runtime: &R) -> Option<Call>
-        ensures { MatchOption result ((self.new ≡ self.old) × FoundNone self.old) (λ call. self.new ≡ after_call_of self.old call) }
+        ensures { MatchOption result
+            ((self.new ≡ after_empty_take self.old) × FoundNone self.new)
+            (λ call. self.new ≡ after_call_of self.old call) }
     {
         let call = self.calls.take(runtime, &mut self.pass)?;
         if call.ends.is_none() {

@@ -2,7 +2,7 @@
 ghost use Rattle.std.specs.Prelude.{◌≡◌, ◌<◌, true, false, MatchOption, MatchResult, IfOk};
 ghost use Rattle.crossbeam_queue.specs.SegTies.{IsSegPassOf};
 ghost use Rattle.thread_outside.specs.CallLists.{has_end};
-ghost use Rattle.thread_outside.specs.CallRule.{after_put, after_take, opening, with_caller, new_caller, WasEmpty};
+ghost use Rattle.thread_outside.specs.CallRule.{after_put, after_take, opening, with_caller, new_caller, spent, with_empty_take, took_after_all, WasEmpty};
 
 use crate::call::Call;
 use crate::call_view::CallView;
@@ -37,6 +37,20 @@ impl Outcome<Call, CallView> for Takes {
 }
 
 impl Lesson<Call, CallView> for Takes {
+    ghost use Rattle.std.specs.Prelude.{⊤};
+
+    ghost fact = { λ mine items. ⊤ };
+}
+
+// A take that has found nothing at first, and has counted itself.
+struct TakesAfterAll;
+
+impl Outcome<Call, CallView> for TakesAfterAll {
+    ghost then = { λ before call after. (after ≡ took_after_all before call)
+        × (call.caller < before.made) };
+}
+
+impl Lesson<Call, CallView> for TakesAfterAll {
     ghost use Rattle.std.specs.Prelude.{◌≡◌, ℕ, List};
     ghost use mathlib.Core.Option.{some};
     ghost use lib.ListN.{get_elem?};
@@ -44,6 +58,14 @@ impl Lesson<Call, CallView> for Takes {
     ghost use Rattle.thread_outside.specs.CallRule.{KeepsCalls};
 
     ghost fact = { λ mine items. (views : List CallView) × (port : ℕ) × KeepsCalls items views × (get_elem? views port ≡ some mine) };
+}
+
+struct CountsItself;
+
+impl Split<CallView> for CountsItself {
+    ghost left = { with_empty_take };
+
+    ghost right = { λ _. spent };
 }
 
 struct Admits;
@@ -127,10 +149,32 @@ impl Calls {
         requires calls { IsSegPassOf self.now pass.old }
         requires takes { pass.old.me.view.client.takes ≡ true }
         ensures calls { IsSegPassOf self.now pass.new }
-        ensures taken { MatchOption result ((pass.new.me.view.client ≡ pass.old.me.view.client) × WasEmpty pass.old.me.view.client)
-            (λ call. (pass.new.me.view.client ≡ after_take pass.old.me.view.client call) × (call.caller < pass.old.me.view.client.made)) }
+        ensures taken { MatchOption result
+            ((pass.new.me.view.client ≡ with_empty_take pass.old.me.view.client)
+            × WasEmpty pass.new.me.view.client)
+            (λ call. (pass.new.me.view.client ≡ after_take pass.old.me.view.client call)
+            × (call.caller < pass.old.me.view.client.made)) }
     {
-        self.waiting.pop_as::<Takes, R>(runtime, pass)
+        match self.waiting.pop_as::<Takes, R>(runtime, pass) {
+            found @ Some(_) => found,
+            None => self.count_and_take(runtime, pass),
+        }
+    }
+
+    // Counts this take as one that finds nothing, and only then looks, so that the step at which the
+    // queue was empty is known to be one of this call.
+    fn count_and_take<R: Wait>(&self, runtime: &R, pass: &mut CallPass) -> Option<Call>
+        requires calls { IsSegPassOf self.now pass.old }
+        requires takes { pass.old.me.view.client.takes ≡ true }
+        ensures calls { IsSegPassOf self.now pass.new }
+        ensures taken { MatchOption result
+            ((pass.new.me.view.client ≡ with_empty_take pass.old.me.view.client)
+            × WasEmpty pass.new.me.view.client)
+            (λ call. (pass.new.me.view.client ≡ after_take pass.old.me.view.client call)
+            × (call.caller < pass.old.me.view.client.made)) }
+    {
+        drop(self.waiting.another::<CountsItself>(pass));
+        self.waiting.pop_as::<TakesAfterAll, R>(runtime, pass)
     }
 
     // Says that a dial could not say that it has ended.

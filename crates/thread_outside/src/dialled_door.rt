@@ -28,7 +28,7 @@ pub struct DialledDoor<R: Wait + Copy + Drop> {
     runtime: R,
     alloc: Global,
     taker: CallTaker,
-    given: u64,
+    given: u32,
     ended: bool,
     plan: FaultPlan,
     shelf: Shelf,

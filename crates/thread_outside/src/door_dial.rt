@@ -2,6 +2,7 @@
 ghost use Rattle.std.specs.Prelude.{◌≡◌, ◌<◌, [], IfOk};
 ghost use Rattle.gate_outside.specs.Causes.{FaultHasCause};
 ghost use Rattle.gate_outside.specs.Dials.{Dials, HangsUp};
+ghost use Rattle.gate_outside.specs.Houses.{no_house};
 ghost use Rattle.gate_outside.specs.Links.{IsNewLink};
 ghost use Rattle.thread_outside.specs.MemLinks.{tale_of};
 ghost use Rattle.thread_outside.specs.DialledDoors.{new_door_dial, door_dial_tale, after_hang_up, with_dial, DialsDoor};
@@ -119,6 +120,8 @@ impl<R: Wait + Copy + Drop> Dial for DoorDial<R> {
     ghost tale = { door_dial_tale };
 
     ghost faults = { λ _. 0 };
+
+    ghost house_tale = { λ _. no_house };
 
     fn dial(&mut self, url: &str) -> Result<MemLink<LaneEnd<R>>, Fault>
         ensures tale { Dials (door_dial_tale self.old) (door_dial_tale self.new) url.now result }

@@ -1,7 +1,7 @@
 //! What goes one way between two ends in memory.
 ghost use Rattle.std.specs.Prelude.{◌≡◌, true, MatchOption, MatchResult, IfOk};
 ghost use Rattle.crossbeam_queue.specs.SegTies.{IsSegPassOf};
-ghost use Rattle.thread_outside.specs.Lanes.{opening, putter, taker, after_put, after_take, WasEmpty};
+ghost use Rattle.thread_outside.specs.Lanes.{opening, putter, taker, spent, after_put, after_take, with_empty_take, took_after_all, WasEmpty};
 
 use crate::lane_view::LaneView;
 use crate::twice::Twice;
@@ -36,6 +36,19 @@ impl Outcome<Twice, LaneView> for Takes {
 }
 
 impl Lesson<Twice, LaneView> for Takes {
+    ghost use Rattle.std.specs.Prelude.{⊤};
+
+    ghost fact = { λ mine items. ⊤ };
+}
+
+// A take that has found nothing at first, and has counted itself.
+struct TakesAfterAll;
+
+impl Outcome<Twice, LaneView> for TakesAfterAll {
+    ghost then = { λ before sending after. after ≡ took_after_all before sending };
+}
+
+impl Lesson<Twice, LaneView> for TakesAfterAll {
     ghost use Rattle.std.specs.Prelude.{◌≡◌, ℕ, List};
     ghost use mathlib.Core.Option.{some};
     ghost use lib.ListN.{get_elem?};
@@ -43,6 +56,14 @@ impl Lesson<Twice, LaneView> for Takes {
     ghost use Rattle.thread_outside.specs.Lanes.{KeepsAll};
 
     ghost fact = { λ mine items. (views : List LaneView) × (port : ℕ) × KeepsAll items views × (get_elem? views port ≡ some mine) };
+}
+
+struct CountsItself;
+
+impl Split<LaneView> for CountsItself {
+    ghost left = { with_empty_take };
+
+    ghost right = { λ _. spent };
 }
 
 struct Parts;
@@ -95,7 +116,7 @@ impl Lane {
         Ok((lane, puts, takes))
     }
 
-    // Puts something at the back. It comes back where memory is wanting.
+    // Puts something at the back. It comes back if memory runs out.
     pub(crate) fn put<R: Wait>(
         &self,
         runtime: &R,
@@ -115,10 +136,30 @@ impl Lane {
         requires lane { IsSegPassOf self.now pass.old }
         requires takes { pass.old.me.view.client.takes ≡ true }
         ensures lane { IsSegPassOf self.now pass.new }
-        ensures taken { MatchOption result ((pass.new.me.view.client ≡ pass.old.me.view.client) × WasEmpty pass.old.me.view.client)
+        ensures taken { MatchOption result
+            ((pass.new.me.view.client ≡ with_empty_take pass.old.me.view.client)
+            × WasEmpty pass.new.me.view.client)
             (λ sending. pass.new.me.view.client ≡ after_take pass.old.me.view.client sending) }
     {
-        self.waiting.pop_as::<Takes, R>(runtime, pass)
+        match self.waiting.pop_as::<Takes, R>(runtime, pass) {
+            found @ Some(_) => found,
+            None => self.count_and_take(runtime, pass),
+        }
+    }
+
+    // Counts this take as one that finds nothing, and only then looks, so that the step at which the
+    // lane was empty is known to be one of this call.
+    fn count_and_take<R: Wait>(&self, runtime: &R, pass: &mut LanePass) -> Option<Twice>
+        requires lane { IsSegPassOf self.now pass.old }
+        requires takes { pass.old.me.view.client.takes ≡ true }
+        ensures lane { IsSegPassOf self.now pass.new }
+        ensures taken { MatchOption result
+            ((pass.new.me.view.client ≡ with_empty_take pass.old.me.view.client)
+            × WasEmpty pass.new.me.view.client)
+            (λ sending. pass.new.me.view.client ≡ after_take pass.old.me.view.client sending) }
+    {
+        drop(self.waiting.another::<CountsItself>(pass));
+        self.waiting.pop_as::<TakesAfterAll, R>(runtime, pass)
     }
 
     // Says that nothing more will be put.

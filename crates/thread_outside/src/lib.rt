@@ -1,4 +1,4 @@
-//! What threads stand on, in memory and over the system: links, doors, dials, clocks, spawners and
+//! What threads stand on, in memory and over the system: links, doors, dials, networks, spawners and
 //! notes.
 #![tactic(auto)]
 
@@ -8,6 +8,7 @@ pub mod call_view;
 mod calls;
 mod copies;
 pub mod dialled_door;
+pub mod door_content;
 pub mod door_dial;
 mod ends;
 pub mod kept_notes;
@@ -17,11 +18,11 @@ pub mod lane_view;
 pub mod laws;
 pub mod link_content;
 mod link_shelf;
-pub mod machine_clock;
-pub mod mem_clock;
 pub mod mem_dial;
 pub mod mem_door;
 pub mod mem_link;
+pub mod mem_network;
+pub mod network_door;
 pub mod outcome;
 pub mod peer;
 pub mod quiet_notes;

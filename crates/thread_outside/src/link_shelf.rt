@@ -1,4 +1,4 @@
-//! What is kept of links that are back, on a shelf that takes no memory to put one more on.
+//! What is kept of links that are back, on a shelf that does not allocate to put one more on.
 ghost use Rattle.std.specs.Prelude.{◌≡◌, ◌++◌, ◌∷◌, [], IfOk};
 ghost use Rattle.thread_outside.specs.Shelves.{kept_at, new_place};
 

@@ -2,6 +2,7 @@
 ghost use Rattle.std.specs.Prelude.{◌≡◌, ◌≤◌, IfOk};
 ghost use Rattle.gate_outside.specs.Causes.{FaultHasCause};
 ghost use Rattle.gate_outside.specs.Dials.{Dials, HangsUp};
+ghost use Rattle.gate_outside.specs.Houses.{no_house};
 ghost use Rattle.gate_outside.specs.Links.{IsNewLink};
 ghost use Rattle.thread_outside.specs.MemLinks.{tale_of};
 ghost use Rattle.thread_outside.specs.MemDials.{new_dial, dial_tale, Opens, OpensNext, after_back, after_failed_dial};
@@ -109,6 +110,8 @@ impl<P: Peer + Drop> Dial for MemDial<P> {
     ghost tale = { dial_tale };
 
     ghost faults = { λ d. d.plan.faults };
+
+    ghost house_tale = { λ _. no_house };
 
     fn dial(&mut self, url: &str) -> Result<MemLink<P>, Fault>
         ensures tale { Dials (dial_tale self.old) (dial_tale self.new) url.now result }

@@ -1,5 +1,5 @@
 //! A door in memory, some of whose calls fail.
-ghost use Rattle.std.specs.Prelude.{◌≡◌, ◌≤◌, false, Ok};
+ghost use Rattle.std.specs.Prelude.{◌≡◌, ◌≤◌, ◌^◌, ◌-◌, false, Ok};
 ghost use Rattle.gate_outside.specs.Causes.{FaultHasCause};
 ghost use Rattle.gate_outside.specs.Doors.{Accepts, GivesNew, TakesBack};
 ghost use Rattle.thread_outside.specs.MemLinks.{tale_of, kept_link};
@@ -18,7 +18,7 @@ use std::collections::VecDeque;
 use std::marker::Model;
 
 /// The most links that a door gives.
-pub const MOST_LINKS: u64 = 4294967295;
+pub const MOST_LINKS: u32 = 4294967295;
 
 /// A door in memory. It tells how many links it will give, whether somebody waits, and what it keeps
 /// of the links that came back.
@@ -26,14 +26,15 @@ pub const MOST_LINKS: u64 = 4294967295;
 pub struct MemDoor<P: Peer + Drop> {
     alloc: Global,
     callers: VecDeque<Option<LinkContent<P>>>,
-    given: u64,
+    given: u32,
+    most: u32,
     ended: bool,
     plan: FaultPlan,
     shelf: Shelf,
 }
 
 impl<P: Peer + Drop> Model for MemDoor<P> {
-    ghost use Rattle.std.specs.Prelude.{◌≡◌, ◌≤◌, ◌^◌, ◌-◌, true};
+    ghost use Rattle.std.specs.Prelude.{◌≡◌, ◌≤◌, true};
     ghost use Rattle.thread_outside.specs.MemDoors.{DoorState, all_links};
 
     ghost Value = { DoorState };
@@ -41,13 +42,14 @@ impl<P: Peer + Drop> Model for MemDoor<P> {
     ghost view = { λ d. record {
       callers = d.callers.items;
       given = d.given;
+      most = d.most;
       ended = d.ended;
       plan = d.plan;
       returned = d.shelf;
     } };
 
-    ghost invariant = { λ d. (d.given ≤ 2 ^ 32 - 1)
-        × (d.ended ≡ true → d.given ≡ all_links d.given d.callers.items) };
+    ghost invariant = { λ d. (d.given ≤ d.most)
+        × (d.ended ≡ true → d.given ≡ all_links d.given d.most d.callers.items) };
 }
 
 impl<P: Peer + Drop> MemDoor<P> {
@@ -59,16 +61,37 @@ impl<P: Peer + Drop> MemDoor<P> {
         callers: VecDeque<Option<LinkContent<P>>>,
         failing: Vec<u64>,
     ) -> MemDoor<P>
-        ensures { result ≡ new_door callers.items failing.items }
+        ensures { result ≡ new_door callers.items (2 ^ 32 - 1) failing.items }
+    {
+        MemDoor::with_most(alloc, callers, MOST_LINKS, failing)
+    }
+
+    /// The same, which gives at most `most` links.
+    pub fn with_most(
+        alloc: Global,
+        callers: VecDeque<Option<LinkContent<P>>>,
+        most: u32,
+        failing: Vec<u64>,
+    ) -> MemDoor<P>
+        ensures { result ≡ new_door callers.items most failing.items }
     {
         MemDoor {
             alloc,
             callers,
             given: 0,
+            most,
             ended: false,
             plan: FaultPlan::new(failing),
             shelf: Shelf::new(),
         }
+    }
+
+    // Gives at most so many links, before the first call.
+    pub(crate) fn limit(&mut self, most: u32)
+        requires { (self.old.given ≡ 0) × (self.old.ended ≡ false) }
+        ensures { self.new ≡ record self.old { most = most } }
+    {
+        self.most = most;
     }
 
     /// How often a call failed.
@@ -86,7 +109,7 @@ impl<P: Peer + Drop> MemDoor<P> {
         ensures new_link { GivesNew tale_of (λ l. l.plan.faults) (Ok result) }
         ensures plan { self.new.plan ≡ self.old.plan }
     {
-        if self.given == MOST_LINKS {
+        if self.given == self.most {
             self.ended = true;
             return Accepted::Ended;
         }

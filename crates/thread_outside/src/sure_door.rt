@@ -1,5 +1,5 @@
 //! A door in memory that never fails.
-ghost use Rattle.std.specs.Prelude.{◌≡◌, [], IsOkUnless};
+ghost use Rattle.std.specs.Prelude.{◌≡◌, ◌^◌, ◌-◌, [], IsOkUnless};
 ghost use Rattle.gate_outside.specs.Causes.{FaultHasCause};
 ghost use Rattle.gate_outside.specs.Doors.{Accepts, GivesNew, TakesBack};
 ghost use Rattle.gate_outside.specs.declared.faults.Fault.TheVariants as fault;
@@ -38,7 +38,7 @@ impl<P: Peer + Drop> SureDoor<P> {
     /// A door at which these wait, call by call. At a turn of `None` nobody waits, and after the last
     /// turn, or after 2^32 - 1 links, the door has ended.
     pub fn new(alloc: Global, callers: VecDeque<Option<LinkContent<P>>>) -> SureDoor<P>
-        ensures { result ≡ new_door callers.items [] }
+        ensures { result ≡ new_door callers.items (2 ^ 32 - 1) [] }
     {
         SureDoor {
             door: MemDoor::new(alloc, callers, Vec::new(alloc)),

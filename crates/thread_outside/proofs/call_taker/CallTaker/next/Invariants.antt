@@ -9,4 +9,5 @@ invariant-loop g l = record {
   dials : l.self.dials ≡ l.fn.self.dials;
   on : GoesOn l.fn.self.taken l.self.taken;
   ends : ends_in l.self.taken ≡ ends_in l.fn.self.taken;
+  empty_takes : l.self.empty_takes ≡ l.fn.self.empty_takes;
 }

@@ -12,6 +12,7 @@ loop-dial-preserved g c =
     let items = c.in_ok-push.ensures.items ∙ ap (λ x. c.loop-dial.made.items ++ x ∷ []) fresh in record {
       dials = ap (λ (t : TakerState). t.dials) now ∙ ap (λ n. n + 1) last.dials;
       taken = ap (λ (t : TakerState). t.taken) now ∙ last.taken;
+      empty_takes = ap (λ (t : TakerState). t.empty_takes) now ∙ last.empty_takes;
       many = ap (length {A = DoorDialState}) items ∙ length-append c.loop-dial.made.items (new_door_dial c.loop-dial.taker.queue c.loop-dial.dial ∷ []) ∙ ap (λ n. n + 1) last.many;
       made = λ p lt.
           ap (λ l. slice_get l p) items

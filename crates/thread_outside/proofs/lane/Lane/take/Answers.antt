@@ -1,5 +1,5 @@
-use Rattle.thread_outside.proofs.LaneMoves.{pops, sees}
+use Rattle.thread_outside.proofs.LaneMoves.{pops}
 use Rattle.thread_outside.proofs.lane.Lane.take.Goals as goal
 
 pub pop_as-requires-clause-rule : goal.pop_as-requires-clause-rule
-pop_as-requires-clause-rule g c = (pops _ _ c.requires.takes, sees _ _)
+pop_as-requires-clause-rule g c = (pops _ _ _ c.requires.takes, λ items views d at. tt)

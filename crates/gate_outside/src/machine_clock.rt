@@ -1,7 +1,7 @@
 //! The machine's clock.
 ghost use Rattle.std.specs.Prelude.{◌≡◌, None};
 
-use gate_outside::clocks::Clock;
+use crate::clocks::Clock;
 use std::marker::Model;
 use std::thread;
 use std::time::{Clock as MachineTime, Duration};

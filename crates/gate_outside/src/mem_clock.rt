@@ -1,9 +1,10 @@
 //! A clock in memory.
-ghost use Rattle.std.specs.Prelude.{◌≡◌, ◌<◌, Some, vec_len};
+ghost use Rattle.std.specs.Prelude.{◌≡◌, ◌<◌, Some, IfOk, vec_len};
 ghost use Rattle.std.specs.List.Sorted.{IsNonDecreasing};
 ghost use Rattle.std.specs.Option.{option_map};
 
-use gate_outside::clocks::Clock;
+use crate::clocks::Clock;
+use std::alloc::{AllocError, Global};
 use std::marker::Model;
 
 /// A clock in memory. It answers the moments that it was made from, then the last of them again.
@@ -50,6 +51,19 @@ impl MemClock {
             answers: 0,
             latest: 0,
         }
+    }
+
+    /// A clock of the same moments, before its first answer.
+    pub fn again(&self, alloc: Global) -> Result<MemClock, AllocError>
+        ensures { IfOk result (λ c. (c.latest ≡ 0)
+            × (c.moments ≡ option_map (λ m. record { moments = m.moments; answers = 0 }) self.now.moments)) }
+    {
+        let moments = self.moments.as_slice().to_vec(alloc)?;
+        Ok(MemClock {
+            moments,
+            answers: 0,
+            latest: 0,
+        })
     }
 
     /// How many answers it has given. The count stays at its last value.
