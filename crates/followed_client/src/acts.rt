@@ -1,3 +1,5 @@
+//! The acts of a client in words.
+
 use client_session::Act;
 use std::alloc::{AllocError, Global};
 

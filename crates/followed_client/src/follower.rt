@@ -29,6 +29,7 @@ pub enum Name {
 }
 
 impl Name {
+    /// The word for the client in what is printed.
     pub fn word(self) -> &'static str {
         match self {
             Name::Steady => "steady",
@@ -63,6 +64,7 @@ impl Follower {
         }
     }
 
+    /// Which client it is.
     pub fn name(&self) -> Name {
         self.name
     }

@@ -14,6 +14,7 @@ pub struct Heads {
     pub guilds: Vec<Snowflake>,
 }
 
+/// The lines of a step file but for blank ones.
 pub fn lines_of(alloc: Global, text: &str) -> anyhow::Result<Vec<Line>> {
     let mut reader = StepReader::new(alloc, FileKind::Run);
     let mut lines = Vec::new(alloc);
@@ -40,6 +41,7 @@ fn bot_of(
     })
 }
 
+/// The bots and guilds of the head lines among these.
 pub fn heads_of(alloc: Global, lines: &[Line]) -> anyhow::Result<Heads> {
     let mut heads = Heads {
         bots: Vec::new(alloc),

@@ -23,7 +23,7 @@ const ENOUGH: u32 = 1_000_000;
 /// How many texts the link of the client that loses its links carries after each line.
 const CARRIED: u32 = 2;
 
-/// The places of the clients.
+/// The indices of the clients.
 const STEADY: usize = 0;
 
 const STRANGER: usize = 1;
@@ -94,42 +94,42 @@ impl Stage {
     fn tick(&mut self, report: &Report<'_>, now: u64) -> anyhow::Result<()> {
         self.clock = self.clock.max(now);
         self.step(Input::Tick(now))?;
-        for place in 0..self.followers.len() {
-            self.beat(report, place)?;
+        for index in 0..self.followers.len() {
+            self.beat(report, index)?;
         }
         Ok(())
     }
 
-    fn beat(&mut self, report: &Report<'_>, place: usize) -> anyhow::Result<()> {
+    fn beat(&mut self, report: &Report<'_>, index: usize) -> anyhow::Result<()> {
         let now = self.clock;
-        if let Some(follower) = self.followers.get_mut(place) {
+        if let Some(follower) = self.followers.get_mut(index) {
             beat(report, &mut self.gateway, follower, now)?;
         }
         Ok(self.deliver()?)
     }
 
-    fn give(&mut self, report: &Report<'_>, place: usize) -> anyhow::Result<()> {
+    fn give(&mut self, report: &Report<'_>, index: usize) -> anyhow::Result<()> {
         let now = self.clock;
-        if let Some(follower) = self.followers.get_mut(place) {
+        if let Some(follower) = self.followers.get_mut(index) {
             give(report, &mut self.gateway, follower, now)?;
         }
         Ok(self.deliver()?)
     }
 
-    fn is_waiting(&self, place: usize) -> bool {
-        match self.followers.get(place) {
+    fn is_waiting(&self, index: usize) -> bool {
+        match self.followers.get(index) {
             Some(follower) => follower.waiting() > 0,
             None => false,
         }
     }
 
     /// A link carries at most so many texts.
-    fn carry(&mut self, report: &Report<'_>, place: usize, most: u32) -> anyhow::Result<()> {
+    fn carry(&mut self, report: &Report<'_>, index: usize, most: u32) -> anyhow::Result<()> {
         for _ in 0..most {
-            if !self.is_waiting(place) {
+            if !self.is_waiting(index) {
                 break;
             }
-            self.give(report, place)?;
+            self.give(report, index)?;
         }
         Ok(())
     }
@@ -153,9 +153,9 @@ impl Stage {
         }
     }
 
-    /// What the client at a place holds of a guild.
-    fn print_held(&self, rt: &HostRuntime, place: usize, guild: Snowflake) -> anyhow::Result<()> {
-        let Some(follower) = self.followers.get(place) else {
+    /// What the client at an index holds of a guild.
+    fn print_held(&self, rt: &HostRuntime, index: usize, guild: Snowflake) -> anyhow::Result<()> {
+        let Some(follower) = self.followers.get(index) else {
             return Ok(());
         };
         let id = guild.0;
@@ -189,7 +189,7 @@ fn follower(alloc: Global, name: Name, token: &str) -> anyhow::Result<Follower> 
     Ok(Follower::new(alloc, name, client))
 }
 
-/// The clients, each at its place.
+/// The clients, each at its index.
 fn followers_of(alloc: Global) -> anyhow::Result<Vec<Follower>> {
     let mut followers = Vec::new(alloc);
     followers.push(follower(alloc, Name::Steady, "t1")?)?;

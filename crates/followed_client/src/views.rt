@@ -1,8 +1,8 @@
 //! What a client holds of a guild, in words.
 
 use client_cache::Cache;
+use dispatch_equality::same_or_none;
 use dispatch_types::{GuildView, OpenView};
-use same_views::same_or_none;
 use snowflake_id::Snowflake;
 use std::alloc::{AllocError, Global};
 use std::fmt::Write;

@@ -1,23 +1,19 @@
-//! The command, over a house that gives sources by their names.
+//! The command, over a house.
 ghost use Rattle.std.specs.Prelude.{◌≡◌, ℕ, List, Result, Some, None, true, is_some, map, string_bytes};
-ghost use Rattle.worker_core.specs.Law.{EachRunHolds, EachSendHolds};
-ghost use Rattle.worker_core.specs.Entries.{EachEntryHolds, EachMessageHolds};
-ghost use Rattle.worker_core.specs.Resumes.{EachResumeHolds};
+ghost use Rattle.world_law.specs.TheLaw.{TheLaw};
 ghost use Rattle.gate_outside.specs.Causes.{FaultHasCause};
 ghost use Rattle.scenario.specs.declared.fault.PlayFault.{PlayFault as Fault};
 ghost use Rattle.scenario.specs.Played.{PlayCause};
 ghost use Rattle.gateway_main.specs.Words.{is_file, run_file};
-ghost use Rattle.gateway_main.specs.Gate.{status_of, fault_of, usage_status, Runs, AsksOnce, TellsUsage};
+ghost use Rattle.gateway_main.specs.Gate.{status_of, fault_of, usage_status, Runs, AsksOnce, LeavesRest, TellsUsage};
 
+use gate_outside::back::Back;
 use gate_outside::faults;
 use gate_outside::houses::House;
 use gate_outside::streams::{Sink, write_all};
 use scenario::{PlayFault, play};
 use std::alloc::Global;
-use worker_core::law::{
-    entries_are_told, messages_are_told, projection_of_a_prefix, resumes_go_on,
-    sends_are_of_sessions,
-};
+use world_law::the_law;
 
 /// The words that the command takes.
 pub const USAGE: &str =
@@ -76,15 +72,23 @@ fn run<H: House>(
     house: &mut H,
     sink: &mut H::Out,
 ) -> Result<(), PlayFault>
-    ensures runs { Runs (H.contents house.old file.now) (H.returned house.old) (H.returned house.new) (H.Out.got sink.old) (H.Out.got sink.new) result }
-    ensures asks { AsksOnce (H.asks house.old) (H.asks house.new) file.now result }
-    ensures cause { PlayCause (H.source_faults house.old) (H.source_faults house.new) (H.Out.faults sink.old) (H.Out.faults sink.new) result }
+    ensures runs { Runs ((H.house_tale house.old).contents file.now)
+        (H.house_tale house.old).sources (H.house_tale house.new).sources
+        (H.Out.got sink.old) (H.Out.got sink.new) result }
+    ensures asks { AsksOnce (H.house_tale house.old).asks (H.house_tale house.new).asks
+        file.now result }
+    ensures cause { PlayCause
+        (H.house_tale house.old).source_faults (H.house_tale house.new).source_faults
+        (H.Out.faults sink.old) (H.Out.faults sink.new) result }
+    ensures rest { LeavesRest (H.house_tale house.old) (H.house_tale house.new) }
+    ensures dial { H.tale house.new ≡ H.tale house.old }
+    ensures dial_faults { H.faults house.new ≡ H.faults house.old }
 {
     match house.source(file) {
         Ok(source) => {
             let mut source = source;
             let played = play(alloc, &mut source, sink);
-            house.put_back(source);
+            house.put_back(Back::Source(source));
             played
         }
         Err(faults::Fault::Failed) => Err(PlayFault::Read),
@@ -125,25 +129,26 @@ pub fn gate<H: House>(
 ) -> u8
     ensures words { result ≡ 2 → run_file (map string_bytes words.now) ≡ None }
     ensures usage { run_file (map string_bytes words.now) ≡ None → TellsUsage (H.Out.got sink.old) (H.Out.got sink.new) (H.Out.faults sink.old) (H.Out.faults sink.new) result }
-    ensures asks_nothing { run_file (map string_bytes words.now) ≡ None → H.asks house.new ≡ H.asks house.old }
+    ensures asks_nothing { run_file (map string_bytes words.now) ≡ None
+        → H.house_tale house.new ≡ H.house_tale house.old }
     ensures run { (file : List ℕ) → run_file (map string_bytes words.now) ≡ Some file → (played : Result (Unit {0}) Fault) × (result ≡ status_of played)
-        × Runs (H.contents house.old file) (H.returned house.old) (H.returned house.new) (H.Out.got sink.old) (H.Out.got sink.new) played
-        × AsksOnce (H.asks house.old) (H.asks house.new) file played
-        × PlayCause (H.source_faults house.old) (H.source_faults house.new) (H.Out.faults sink.old) (H.Out.faults sink.new) played }
+        × Runs ((H.house_tale house.old).contents file)
+        (H.house_tale house.old).sources (H.house_tale house.new).sources
+        (H.Out.got sink.old) (H.Out.got sink.new) played
+        × AsksOnce (H.house_tale house.old).asks (H.house_tale house.new).asks file played
+        × PlayCause (H.house_tale house.old).source_faults (H.house_tale house.new).source_faults
+        (H.Out.faults sink.old) (H.Out.faults sink.new) played }
     ensures fault { (file : List ℕ) → run_file (map string_bytes words.now) ≡ Some file → (played : Result (Unit {0}) Fault) × (fault.new ≡ fault_of played) × (result ≡ status_of played)
-        × Runs (H.contents house.old file) (H.returned house.old) (H.returned house.new) (H.Out.got sink.old) (H.Out.got sink.new) played }
+        × Runs ((H.house_tale house.old).contents file)
+        (H.house_tale house.old).sources (H.house_tale house.new).sources
+        (H.Out.got sink.old) (H.Out.got sink.new) played }
+    ensures rest { LeavesRest (H.house_tale house.old) (H.house_tale house.new) }
+    ensures dial { H.tale house.new ≡ H.tale house.old }
+    ensures dial_faults { H.faults house.new ≡ H.faults house.old }
     ensures no_fault { run_file (map string_bytes words.now) ≡ None → fault.new ≡ None }
-    ensures folds { EachRunHolds }
-    ensures sends { EachSendHolds }
-    ensures entries { EachEntryHolds }
-    ensures messages { EachMessageHolds }
-    ensures resumes { EachResumeHolds }
+    ensures law { TheLaw }
 {
-    projection_of_a_prefix();
-    sends_are_of_sessions();
-    entries_are_told();
-    messages_are_told();
-    resumes_go_on();
+    the_law();
     if !is_run(words) {
         *fault = None;
         return refuse(sink);

@@ -6,6 +6,7 @@ mod gate;
 mod shown;
 
 use complaint::{tell, tell_memory, tell_no_text};
+use gate_outside::no_network::NoNetwork;
 use gate_outside::std_house::RealHouse;
 use gate_outside::std_streams::StdoutSink;
 use std::alloc::Alloc;
@@ -37,7 +38,7 @@ fn main(rt: HostRuntime) -> io::Result<ExitCode> {
             return Ok(ExitCode::from(gate::NO_MEMORY));
         }
     };
-    let mut house = RealHouse::new(rt.clone()?);
+    let mut house = RealHouse::new(rt, NoNetwork::new());
     let mut sink = StdoutSink::new(rt.clone()?);
     let mut fault = None;
     let status = gate::gate(

@@ -1,7 +1,7 @@
 -- Bytes of a step file, as they come.
 use Rattle.std.proofs.Common.{◌≡◌, ℕ, ◌+◌, ◌<◌, ◌≤◌, List, [], ◌∷◌, ◌++◌, Result, Ok, Err, MatchResult, OnOk, length, refl, sym, ap, ◌∙◌, subst, append_assoc, append-nil, length-append, arith}
 use Rattle.std.specs.declared.option.Option.{Option as Known}
-use Rattle.edit_text.specs.declared.reader.StepReader.{StepReader}
+use Rattle.edit_text.specs.declared.reader_state.ReaderState.{ReaderState}
 use Rattle.edit_text.specs.Lines.{reader_after}
 use Rattle.scenario.specs.declared.fault.PlayFault.{PlayFault}
 use Rattle.scenario.specs.declared.fault.PlayFault.TheVariants.{Memory}
@@ -30,7 +30,7 @@ pub stops_more : (got got1 : Known (List ℕ)) (waits xs ys : List ℕ) (fault :
 stops_more got got1 waits xs ys fault stops rest any = rw (append_assoc xs ys rest) (stops (ys ++ rest) tt)
 
 -- a line was run, or stopped the play
-abbrev RunsLineAs : StepReader → Server → (got0 got1 : Known (List ℕ)) (waits : List ℕ) (new : FileRunner) → List ℕ → Result (Unit {0}) PlayFault → Type 0
+abbrev RunsLineAs : ReaderState → Server → (got0 got1 : Known (List ℕ)) (waits : List ℕ) (new : FileRunner) → List ℕ → Result (Unit {0}) PlayFault → Type 0
 RunsLineAs reader p got0 got1 waits new line r =
     MatchResult r (λ _. RunsLine reader p line got0 got1 waits new.waits.items new.server) (Leaves got0 got1 new.waits.items (waits ++ run_text reader p line) (run_ending reader p line))
 
@@ -47,7 +47,7 @@ module _ (got got0 got1 : Known (List ℕ)) (old : FileRunner) (bytes : List ℕ
         reader = reader ∙ (ap (λ r. reader_after r (old.part.items ++ piece)) playing.reader ∙ (ap (λ l. reader_after (reader_of (whole_lines bytes)) (l ++ piece)) playing.part
             ∙ (sym (reader-more (whole_lines bytes) first_reader (line ∷ [])) ∙ ap reader_of is)));
         part = part ∙ sym (tail_line bytes piece h);
-        stands = rw is at all.0;
+        represents = rw is at all.0;
         wrote = rw is at all.1;
         goes_on = rw is at all.2;
       }
@@ -60,7 +60,7 @@ module _ (got got0 got1 : Known (List ℕ)) (old : FileRunner) (bytes : List ℕ
       record {
         reader = reader ∙ (playing.reader ∙ ap reader_of whole);
         part = part ∙ (ap (λ l. l ++ piece) playing.part ∙ sym (tail_part bytes piece h));
-        stands = rw whole at (rw (sym server) at playing.stands);
+        represents = rw whole at (rw (sym server) at playing.represents);
         wrote = rw whole at (rw (sym waits) at (rw (sym same) at playing.wrote));
         goes_on = rw whole at playing.goes_on;
       }
@@ -115,7 +115,7 @@ module _ (got got0 got1 : Known (List ℕ)) (old : FileRunner) (bytes : List ℕ
         → Leaves got0 got1 waits (old.waits.items ++ run_text old.reader (server_of (whole_lines bytes)) (old.part.items ++ piece)) (run_ending old.reader (server_of (whole_lines bytes)) (old.part.items ++ piece)) fault
         → LeavesAt got got1 waits (bytes ++ piece) Anything fault
     long_line_stops piece h long ends rest any =
-        let r : StepReader = reader_of (whole_lines bytes) in
+        let r : ReaderState = reader_of (whole_lines bytes) in
         let p : Server = server_of (whole_lines bytes) in
         let line : List ℕ = tail bytes ++ piece in
         let here : Leaves got0 got1 waits (old.waits.items ++ run_text r p line) (run_ending r p line) fault = rw playing.reader at (rw playing.part at ends) in

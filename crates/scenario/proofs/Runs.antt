@@ -3,11 +3,11 @@ use Rattle.std.proofs.Common.{◌≡◌, ◌⊎◌, ℕ, List, [], ◌++◌, fal
 use Rattle.std.specs.declared.option.Option.{Option as Known}
 use Rattle.gate_outside.specs.declared.faults.Fault.{Fault}
 use Rattle.gate_outside.specs.declared.faults.Fault.TheVariants as outside
-use Rattle.edit_text.specs.declared.fault.LineFault.{LineFault}
-use Rattle.edit_text.specs.declared.fault.LineFault.TheVariants.{Memory}
+use Rattle.edit_fields.specs.declared.fault.LineFault.{LineFault}
+use Rattle.edit_fields.specs.declared.fault.LineFault.TheVariants.{Memory}
 use Rattle.edit_text.specs.declared.line.Line.{Line}
-use Rattle.edit_text.specs.declared.reader.StepReader.{StepReader}
-use Rattle.edit_text.specs.Fault.{UnlessMemory}
+use Rattle.edit_text.specs.declared.reader_state.ReaderState.{ReaderState}
+use Rattle.edit_fields.specs.Fault.{UnlessMemory}
 use Rattle.edit_text.specs.Lines.{line_of, reader_after}
 use Rattle.worker_core.specs.declared.io.StepFault.{StepFault}
 use Rattle.worker_core.specs.declared.io.StepFault.TheVariants as step
@@ -17,7 +17,7 @@ use Rattle.scenario.specs.declared.server.Answer.{Answer}
 use Rattle.scenario.specs.Server.{Server, with_line, line_sends, played}
 use Rattle.scenario.specs.Texts.{refused_text}
 use Rattle.scenario.specs.Transcript.{outputs_text, Ending, Whole, Spends, line_refusal, line_text, line_spends, line_ending, read_text, read_ending, after_read, run_text, run_ending}
-use Rattle.scenario.specs.Stands.{Stands, PlaysNot}
+use Rattle.scenario.specs.Represents.{Represents, PlaysNot}
 use Rattle.scenario.specs.Played.{fault_of, step_fault, Carries, CarriesFront, answer_text, Leaves, RunsLine}
 use Rattle.scenario.proofs.Fronts.{puts, puts_front}
 
@@ -48,18 +48,18 @@ text_is p number line a refusal outputs =
 
 -- ---- a line that is run
 
-module _ (r : StepReader) (p : Server) (bytes : List ℕ) (number : ℕ) (counted : number ≡ (reader_after r bytes).lines) (got0 got1 : Known (List ℕ)) (waits0 waits1 : List ℕ) where
+module _ (r : ReaderState) (p : Server) (bytes : List ℕ) (number : ℕ) (counted : number ≡ (reader_after r bytes).lines) (got0 got1 : Known (List ℕ)) (waits0 waits1 : List ℕ) where
   RunsAs : Result (Option Line) LineFault → ℕ → KeptServer → Type 0
-  RunsAs o n new = Stands new (after_read p o) × (Carries got0 got1 waits1 (waits0 ++ read_text p n o) × (read_ending p n o ≡ Whole))
+  RunsAs o n new = Represents new (after_read p o) × (Carries got0 got1 waits1 (waits0 ++ read_text p n o) × (read_ending p n o ≡ Whole))
 
-  pub runs_line : (new : KeptServer) (line : Line) → line_of r bytes ≡ Ok (Some line) → Stands new (played p line) → Carries got0 got1 waits1 (waits0 ++ line_text p number line) → line_spends p line ≡ false
+  pub runs_line : (new : KeptServer) (line : Line) → line_of r bytes ≡ Ok (Some line) → Represents new (played p line) → Carries got0 got1 waits1 (waits0 ++ line_text p number line) → line_spends p line ≡ false
       → RunsLine r p bytes got0 got1 waits0 waits1 new
   unfolding RunsAs
   runs_line new line is stands wrote spends =
       subst (λ o. RunsAs o (reader_after r bytes).lines new) (sym is)
       (subst (λ n. RunsAs (Ok (Some line)) n new) counted (stands, (wrote, ap (λ b. if b then Spends else Whole) spends)))
 
-  pub runs_blank : (new : KeptServer) → line_of r bytes ≡ Ok None → Stands new p → got1 ≡ got0 → waits1 ≡ waits0 → RunsLine r p bytes got0 got1 waits0 waits1 new
+  pub runs_blank : (new : KeptServer) → line_of r bytes ≡ Ok None → Represents new p → got1 ≡ got0 → waits1 ≡ waits0 → RunsLine r p bytes got0 got1 waits0 waits1 new
   unfolding RunsAs
   runs_blank new is stands same wait =
       let nothing : Carries got0 got0 waits1 (waits0 ++ []) = puts got0 waits0 waits1 [] (wait ∙ sym (append-nil waits0)) in
@@ -73,7 +73,7 @@ module _ (r : StepReader) (p : Server) (bytes : List ℕ) (number : ℕ) (counte
 
 -- ---- what a reader has read
 
-pub reader_moved : (result : Result (Option Line) LineFault) (x : Option Line) (new after : StepReader) → result ≡ Ok x → (result ≡ Err Memory) ⊎ (new ≡ after) → new ≡ after
+pub reader_moved : (result : Result (Option Line) LineFault) (x : Option Line) (new after : ReaderState) → result ≡ Ok x → (result ≡ Err Memory) ⊎ (new ≡ after) → new ≡ after
 reader_moved result x new after is (inl none) = absurd (cc)
 reader_moved result x new after is (inr same) = same
 

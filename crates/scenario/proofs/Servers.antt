@@ -15,20 +15,23 @@ use Rattle.edit_apply.specs.Edits.{after, state}
 use Rattle.edit_apply.specs.declared.Edit.{Edit}
 use Rattle.edit_text.specs.declared.line.Line.{Line}
 use Rattle.edit_text.specs.declared.line.Line.TheVariants as line
+use Rattle.worker_core.specs.InCode.{wire_text, wire_model}
 use Rattle.worker_core.specs.Outputs.{all_written}
-use Rattle.worker_core.specs.Telling.{FaultBy}
-use Rattle.worker_core.specs.World.{Worker, World, Step, Edits, Looks, Opens, Frames, Loses, Leaves, Ticks, Input, Look, Open, Frame, Lost, Closed, Tick, stepped, seen_with, run}
-use Rattle.worker_core.specs.Law.{first_world}
+use Rattle.worker_core.specs.Represents.{FaultBy}
+use Rattle.world_law.specs.Model.{Worker, seen_with}
+use Rattle.world_law.specs.World.{World, Step, Edits, Looks, Opens, Frames, Loses, Leaves, Ticks, look_at, stepped, run}
+use Rattle.world_law.specs.Inputs.{Input, Look, Open, Frame, Lost, Closed, Tick}
+use Rattle.world_law.specs.World.{first_world}
 use Rattle.worker_core.specs.declared.io.StepFault.{StepFault}
 use Rattle.worker_core.specs.declared.io.Output.{Output as Written}
-use Rattle.worker_core.proofs.Folds.{state_join}
-use Rattle.worker_core.proofs.Logs.{state_id}
+use Rattle.world_law.proofs.Folds.{state_join}
+use Rattle.world_law.proofs.Logs.{state_id}
 use Rattle.scenario.specs.declared.guild_log.GuildLog.{GuildLog}
 use Rattle.scenario.specs.declared.opened.Opened.{Opened}
 use Rattle.scenario.specs.declared.worker_slot.WorkerSlot.{WorkerSlot}
 use Rattle.scenario.specs.declared.server.Server.{Server as KeptServer}
 use Rattle.scenario.specs.Server.{Server, first_workers, world, given, for_worker, step_of, with_step, with_line, noted, opened_id, enters, log, step_sends, step_spends}
-use Rattle.scenario.specs.Stands.{log_id, log_with, log_of, away, SlotsStand, guilds_of, HasSlotsOnceStepped, IsFull, Keeps, Stands, all_moved, all_sends, any_spends, SlotsStep, SlotsFail, Plays, PlaysNot, Gives}
+use Rattle.scenario.specs.Represents.{log_id, log_with, log_of, away, SlotsRepresent, guilds_of, HasSlotsOnceStepped, IsFull, Keeps, Represents, all_moved, all_sends, any_spends, SlotsStep, SlotsFail, Plays, PlaysNot, Gives}
 use Rattle.scenario.proofs.Slots.{by_result}
 use Rattle.scenario.proofs.Worlds.{stepped_workers, world_step, edit_sends, edit_spends}
 
@@ -87,25 +90,25 @@ longer : {A : Type 0} (xs : List A) (x : A) → (length (xs ++ x ∷ []) == 0) �
 longer [] x = refl
 longer (y ∷ xs) x = grind (arith, nat_tests)
 
-pub full_moved : (gs : List ℕ) (ks new : List WorkerSlot) (f : Worker → Option Input) (ws : List Worker) → IsFull ks → SlotsStand gs 0 ks ws → SlotsStand gs 0 new (all_moved f ws) → IsFull new
+pub full_moved : (gs : List ℕ) (ks new : List WorkerSlot) (f : Worker → Option Input) (ws : List Worker) → IsFull ks → SlotsRepresent gs 0 ks ws → SlotsRepresent gs 0 new (all_moved f ws) → IsFull new
 full_moved gs [] new f ws full sit moved = absurd full
 full_moved gs (k ∷ ks) new f [] full sit moved = absurd sit
 full_moved gs (k ∷ ks) [] f (w ∷ ws) full sit moved = absurd moved
 full_moved gs (k ∷ ks) (l ∷ new) f (w ∷ ws) full sit moved = tt
 
 -- slots that have made a step
-slots_stepped : (slots : List WorkerSlot) (p : Server) (s : Step) → IsFull slots → SlotsStand (guilds_of p) 0 slots (all_moved (given (world p) s) (world p).workers) → HasSlotsOnceStepped slots (with_step (Some s) p)
+slots_stepped : (slots : List WorkerSlot) (p : Server) (s : Step) → IsFull slots → SlotsRepresent (guilds_of p) 0 slots (all_moved (given (world p) s) (world p).workers) → HasSlotsOnceStepped slots (with_step (Some s) p)
 slots_stepped [] p s full sit = absurd full
 slots_stepped (k ∷ ks) p s full sit =
     let is : (world (with_step (Some s) p)).workers ≡ all_moved (given (world p) s) (world p).workers = ap (λ (m : World). m.workers) (world_step p s) ∙ stepped_workers s (world p) in
-    (longer p.steps s, subst (λ ws. SlotsStand (guilds_of p) 0 (k ∷ ks) ws) (sym is) sit)
+    (longer p.steps s, subst (λ ws. SlotsRepresent (guilds_of p) 0 (k ∷ ks) ws) (sym is) sit)
 
 -- ---- a step
 
 -- a step that leaves the logs
-pub stands_after : (new : KeptServer) (p : Server) (s : Step) → Keeps new p → IsFull new.slots.items
-    → SlotsStand (guilds_of p) 0 new.slots.items (all_moved (given (world p) s) (world p).workers) → (stepped (world p) s).logs ≡ (world p).logs → Stands new (with_step (Some s) p)
-stands_after new p s keeps full sit same =
+pub represents_after : (new : KeptServer) (p : Server) (s : Step) → Keeps new p → IsFull new.slots.items
+    → SlotsRepresent (guilds_of p) 0 new.slots.items (all_moved (given (world p) s) (world p).workers) → (stepped wire_text (world p) s).logs ≡ (world p).logs → Represents new (with_step (Some s) p)
+represents_after new p s keeps full sit same =
     let is : (world (with_step (Some s) p)).logs ≡ (world p).logs = ap (λ (m : World). m.logs) (world_step p s) ∙ same in
     record {
       keeps = record {
@@ -118,11 +121,11 @@ stands_after new p s keeps full sit same =
     }
 
 -- what a line that is a step leaves
-pub plays_step : (p q : Server) (line : Line) (s : Step) (new : KeptServer) (out : List Written) → step_of p line ≡ Some s → noted p line ≡ q → Stands new (with_step (Some s) q)
+pub plays_step : (p q : Server) (line : Line) (s : Step) (new : KeptServer) (out : List Written) → step_of p line ≡ Some s → noted p line ≡ q → Represents new (with_step (Some s) q)
     → out ≡ all_written (all_sends (given (world p) s) (world p).workers) → any_spends (given (world p) s) (world p).workers ≡ false → Plays p line new out
 plays_step p q line s new out step note stands sends spent =
     let is : with_line p line ≡ with_step (Some s) q = ap (λ o. with_step o (noted p line)) step ∙ ap (with_step (Some s)) note in (
-      subst (λ (r : Server). Stands new r) (sym is) stands,
+      subst (λ (r : Server). Represents new r) (sym is) stands,
       (sends ∙ ap (λ o. all_written (step_sends (world p) o)) (sym step), ap (λ o. step_spends (world p) o) step ∙ spent),
     )
 
@@ -130,10 +133,10 @@ pub fails_step : (p : Server) (line : Line) (s : Step) (fault : StepFault) → s
 fails_step p line s fault step fails = subst (λ b. FaultBy b fault) (ap (λ o. step_spends (world p) o) (sym step)) fails
 
 -- what a line that is no step leaves
-pub plays_nothing : (p q : Server) (line : Line) (new : KeptServer) (out : List Written) → step_of p line ≡ None → noted p line ≡ q → Stands new q → out ≡ [] → Plays p line new out
+pub plays_nothing : (p q : Server) (line : Line) (new : KeptServer) (out : List Written) → step_of p line ≡ None → noted p line ≡ q → Represents new q → out ≡ [] → Plays p line new out
 plays_nothing p q line new out step note stands none =
     let is : with_line p line ≡ q = ap (λ o. with_step o (noted p line)) step ∙ note in (
-      subst (λ (r : Server). Stands new r) (sym is) stands,
+      subst (λ (r : Server). Represents new r) (sym is) stands,
       (none ∙ ap (λ o. all_written (step_sends (world p) o)) (sym step), ap (λ o. step_spends (world p) o) step),
     )
 
@@ -141,26 +144,26 @@ plays_nothing p q line new out step note stands none =
 
 -- a step that leaves all but the slots and the numbers that were used
 moved_on : {V : Type 0} (items : V → List Written) (r : Result V StepFault) (old new : KeptServer) (p q : Server) (line : Line) (s : Step) (slots : List WorkerSlot)
-    → Keeps new q → step_of p line ≡ Some s → noted p line ≡ q → world q ≡ world p → guilds_of q ≡ guilds_of p → (stepped (world p) s).logs ≡ (world p).logs
-    → IsFull slots → SlotsStand (guilds_of p) 0 slots (world p).workers
+    → Keeps new q → step_of p line ≡ Some s → noted p line ≡ q → world q ≡ world p → guilds_of q ≡ guilds_of p → (stepped wire_text (world p) s).logs ≡ (world p).logs
+    → IsFull slots → SlotsRepresent (guilds_of p) 0 slots (world p).workers
     → MatchResult r (λ out. SlotsStep (guilds_of p) (given (world p) s) (world p).workers new.slots.items (items out)) (SlotsFail (given (world p) s) (world p).workers)
     → MatchResult r (λ out. Plays p line new (items out)) (PlaysNot p line)
 moved_on items r old new p q line s slots keeps step note same guilds logs full sit steps =
     by_result r (λ out. SlotsStep (guilds_of p) (given (world p) s) (world p).workers new.slots.items (items out)) (λ out. Plays p line new (items out))
     (SlotsFail (given (world p) s) (world p).workers) (PlaysNot p line)
     (λ out moved.
-    let now : SlotsStand (guilds_of q) 0 new.slots.items (all_moved (given (world q) s) (world q).workers) =
-    subst (λ (m : World). SlotsStand (guilds_of q) 0 new.slots.items (all_moved (given m s) m.workers)) (sym same)
-    (subst (λ gs. SlotsStand gs 0 new.slots.items (all_moved (given (world p) s) (world p).workers)) (sym guilds) moved.0) in
+    let now : SlotsRepresent (guilds_of q) 0 new.slots.items (all_moved (given (world q) s) (world q).workers) =
+    subst (λ (m : World). SlotsRepresent (guilds_of q) 0 new.slots.items (all_moved (given m s) m.workers)) (sym same)
+    (subst (λ gs. SlotsRepresent gs 0 new.slots.items (all_moved (given (world p) s) (world p).workers)) (sym guilds) moved.0) in
     let is_full : IsFull new.slots.items = full_moved (guilds_of p) slots new.slots.items (given (world p) s) (world p).workers full sit moved.0 in
-    let still : (stepped (world q) s).logs ≡ (world q).logs = subst (λ (m : World). (stepped m s).logs ≡ m.logs) (sym same) logs in
-    plays_step p q line s new (items out) step note (stands_after new q s keeps is_full now still) moved.1.0 moved.1.1)
+    let still : (stepped wire_text (world q) s).logs ≡ (world q).logs = subst (λ (m : World). (stepped wire_text m s).logs ≡ m.logs) (sym same) logs in
+    plays_step p q line s new (items out) step note (represents_after new q s keeps is_full now still) moved.1.0 moved.1.1)
     (λ fault fails. fails_step p line s fault step fails)
     steps
 
 pub open_plays : {V : Type 0} (items : V → List Written) (r : Result V StepFault) (old new : KeptServer) (p : Server) (worker conn : ℕ) (slots : List WorkerSlot) → Keeps old p
     → has_id opened_id conn old.used ≡ false → new.bots ≡ old.bots → new.guilds ≡ old.guilds → new.logs ≡ old.logs → new.used ≡ put_id opened_id (record { number = conn; worker = worker }) old.used
-    → IsFull slots × SlotsStand (guilds_of p) 0 slots (world p).workers
+    → IsFull slots × SlotsRepresent (guilds_of p) 0 slots (world p).workers
     → MatchResult r (λ out. SlotsStep (guilds_of p) (for_worker worker (Open conn)) (world p).workers new.slots.items (items out)) (SlotsFail (for_worker worker (Open conn)) (world p).workers)
     → MatchResult r (λ out. Plays p (line.Open worker conn) new (items out)) (PlaysNot p (line.Open worker conn))
 open_plays items r old new p worker conn slots keeps unused bots guilds logs used start steps =
@@ -181,7 +184,7 @@ open_plays items r old new p worker conn slots keeps unused bots guilds logs use
 -- a line that gives one worker an input
 pub give_plays : {V : Type 0} (items : V → List Written) (r : Result V StepFault) (old new : KeptServer) (p : Server) (line : Line) (worker : ℕ) (i : Input) (slots : List WorkerSlot) → Keeps old p
     → Gives p line worker i → new.bots ≡ old.bots → new.guilds ≡ old.guilds → new.logs ≡ old.logs → new.used ≡ old.used
-    → IsFull slots × SlotsStand (guilds_of p) 0 slots (world p).workers
+    → IsFull slots × SlotsRepresent (guilds_of p) 0 slots (world p).workers
     → MatchResult r (λ out. SlotsStep (guilds_of p) (for_worker worker i) (world p).workers new.slots.items (items out)) (SlotsFail (for_worker worker i) (world p).workers)
     → MatchResult r (λ out. Plays p line new (items out)) (PlaysNot p line)
 give_plays items r old new p line worker i slots keeps gives bots guilds logs used start steps =
@@ -220,7 +223,7 @@ module _ (old : KeptServer) (p : Server) (keeps : Keeps old p) (conn worker : �
 pub tick_gives : (p : Server) (worker now : ℕ) → Gives p (line.Tick worker now) worker (Tick now)
 tick_gives p worker now = record { step = Ticks worker now; is_step = refl; notes = refl; gives = refl; logs = refl }
 
-module _ (old : KeptServer) (p : Server) (stands : Stands old p) (conn : ℕ) (unknown : option_map (λ (o : Opened). o.worker) (find_id opened_id conn old.used) ≡ None) (out : List Written) (none : out ≡ []) where
+module _ (old : KeptServer) (p : Server) (stands : Represents old p) (conn : ℕ) (unknown : option_map (λ (o : Opened). o.worker) (find_id opened_id conn old.used) ≡ None) (out : List Written) (none : out ≡ []) where
   on_none : (step : ℕ → Step) → option_map (λ (o : Opened). step o.worker) (find_id opened_id conn p.used) ≡ None
   on_none step = no_worker (find_id opened_id conn p.used) (ap (λ us. option_map (λ (o : Opened). o.worker) (find_id opened_id conn us)) (sym stands.keeps.used) ∙ unknown) step
 
@@ -243,9 +246,9 @@ declared old p g l keeps found = if_some (contains g p.guilds) l (log_with g (lo
 
 pub look_plays : {V : Type 0} (items : V → List Written) (r : Result V StepFault) (old new : KeptServer) (p : Server) (worker g : ℕ) (l : GuildLog) (entries : List Edit) (slots : List WorkerSlot) → Keeps old p
     → find_id log_id g old.logs ≡ Some l → entries ≡ l.entries → new.bots ≡ old.bots → new.guilds ≡ old.guilds → new.logs ≡ old.logs → new.used ≡ old.used
-    → IsFull slots × SlotsStand (guilds_of p) 0 slots (world p).workers
-    → (contains g (guilds_of p) ≡ true → MatchResult r (λ out. SlotsStep (guilds_of p) (λ w. for_worker worker (Look g (drop (length (w.seen g)) entries)) w) (world p).workers new.slots.items (items out))
-    (SlotsFail (λ w. for_worker worker (Look g (drop (length (w.seen g)) entries)) w) (world p).workers))
+    → IsFull slots × SlotsRepresent (guilds_of p) 0 slots (world p).workers
+    → (contains g (guilds_of p) ≡ true → MatchResult r (λ out. SlotsStep (guilds_of p) (λ w. for_worker worker (look_at g entries (length (w.logs.seen g))) w) (world p).workers new.slots.items (items out))
+    (SlotsFail (λ w. for_worker worker (look_at g entries (length (w.logs.seen g))) w) (world p).workers))
     → MatchResult r (λ out. Plays p (line.Look worker g) new (items out)) (PlaysNot p (line.Look worker g))
 look_plays items r old new p worker g l entries slots keeps found is bots guilds logs used start steps =
     let there = declared old p g l keeps found in
@@ -259,8 +262,8 @@ look_plays items r old new p worker g l entries slots keeps found is bots guilds
     })
     (ap (λ b. if b then Some (Looks worker g) else None) there.0)
     refl refl refl refl start.0 start.1
-    (subst (λ (es : List Edit). MatchResult r (λ out. SlotsStep (guilds_of p) (λ w. for_worker worker (Look g (drop (length (w.seen g)) es)) w) (world p).workers new.slots.items (items out))
-    (SlotsFail (λ w. for_worker worker (Look g (drop (length (w.seen g)) es)) w) (world p).workers)) all (steps (contains_all g p.guilds there.0)))
+    (subst (λ (es : List Edit). MatchResult r (λ out. SlotsStep (guilds_of p) (λ w. for_worker worker (look_at g es (length (w.logs.seen g))) w) (world p).workers new.slots.items (items out))
+    (SlotsFail (λ w. for_worker worker (look_at g es (length (w.logs.seen g))) w) (world p).workers)) all (steps (contains_all g p.guilds there.0)))
 
 -- ---- edits
 
@@ -296,7 +299,7 @@ pub edit_plays : (old new : KeptServer) (p : Server) (g : ℕ) (e : Edit) (l : G
     → find_id log_id g old.logs ≡ Some l → log_id held ≡ g
     → new.bots ≡ old.bots → new.guilds ≡ old.guilds → new.used ≡ old.used
     → new.logs ≡ put_id log_id (record { guild = after l.guild e; entries = l.entries ++ e ∷ [] }) (put_id log_id held old.logs)
-    → IsFull new.slots.items × SlotsStand (guilds_of p) 0 new.slots.items (world p).workers → out ≡ [] → Plays p (line.Edit g e) new out
+    → IsFull new.slots.items × SlotsRepresent (guilds_of p) 0 new.slots.items (world p).workers → out ≡ [] → Plays p (line.Edit g e) new out
 edit_plays old new p g e l held out keeps comes found at bots guilds used logs start none =
     let there = declared old p g l keeps found in
     let enter : enters p g ≡ true = entered p g (ap away (sym (keeps.logs g)) ∙ comes) in
@@ -319,12 +322,12 @@ edit_plays old new p g e l held out keeps comes found at bots guilds used logs s
             ∙ (ap (λ n. if n == h then Some next else find_id log_id h (put_id log_id held old.logs)) (log_keyed g (es ++ e ∷ []))
             ∙ (by_guild next h (g == h) refl there.0 ∙ ap (λ (all : ℕ → List Edit). if contains h p.guilds then Some (log_with h (all h)) else None) (sym is))));
       };
-      slots = has_slots (new.slots.items) start.0 (subst (λ ws. SlotsStand (guilds_of p) 0 new.slots.items ws) (sym workers) start.1);
+      slots = has_slots (new.slots.items) start.0 (subst (λ ws. SlotsRepresent (guilds_of p) 0 new.slots.items ws) (sym workers) start.1);
     })
     (none ∙ ap all_written (sym (edit_sends g e (world p) (world p).workers)))
     (edit_spends g e (world p) (world p).workers)
   where
-    has_slots : (slots : List WorkerSlot) → IsFull slots → SlotsStand (guilds_of p) 0 slots (world (with_step (Some (Edits g e)) p)).workers → HasSlotsOnceStepped slots (with_step (Some (Edits g e)) p)
+    has_slots : (slots : List WorkerSlot) → IsFull slots → SlotsRepresent (guilds_of p) 0 slots (world (with_step (Some (Edits g e)) p)).workers → HasSlotsOnceStepped slots (with_step (Some (Edits g e)) p)
     has_slots [] full sit = absurd full
     has_slots (k ∷ ks) full sit = (longer p.steps (Edits g e), sit)
 
@@ -358,9 +361,9 @@ no_items (x ∷ xs) e = absurd (omega (arith, e))
 
 -- before the first step each log is empty
 fresh_log : (p : Server) (g : ℕ) → length p.steps ≡ 0 → log p g ≡ []
-fresh_log p g e = ap (λ (ss : List Step). (run (first_world p.bots p.guilds first_workers) ss).logs g) (no_items p.steps e)
+fresh_log p g e = ap (λ (ss : List Step). (run wire_text (first_world p.bots p.guilds first_workers) ss).logs g) (no_items p.steps e)
 
-pub guild_plays : (old new : KeptServer) (p : Server) (g : ℕ) (out : List Written) → Stands old p → old.slots.items ≡ [] → find_id log_id g old.logs ≡ None
+pub guild_plays : (old new : KeptServer) (p : Server) (g : ℕ) (out : List Written) → Represents old p → old.slots.items ≡ [] → find_id log_id g old.logs ≡ None
     → new.bots ≡ old.bots → new.guilds ≡ old.guilds ++ g ∷ [] → new.used ≡ old.used → new.logs ≡ put_id log_id (log_with g []) old.logs → new.slots.items ≡ old.slots.items
     → out ≡ [] → Plays p (line.Guild g) new out
 guild_plays old new p g out stands empty unknown bots guilds used logs slots none =

@@ -63,7 +63,7 @@ written got got0 got1 old new bytes reader part server none wrote playing =
       playing = record {
         reader = reader ∙ playing.reader;
         part = ap (λ (p : _). p.items) part ∙ playing.part;
-        stands = rw server playing.stands;
+        represents = rw server playing.represents;
         wrote = rw none all;
         goes_on = playing.goes_on;
       };

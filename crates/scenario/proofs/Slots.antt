@@ -4,6 +4,7 @@ use Rattle.std.specs.Prelude.{◌==◌, ◌||◌, drop, nat_lt, max}
 use Rattle.std.proofs.lemmas.Bool.Decides.{nat_tests}
 use Rattle.std.proofs.lemmas.List.{length-append, length-drop}
 use Rattle.std.proofs.lemmas.Bool.{eqb-true}
+use Rattle.std.proofs.lemmas.Option.{same_Some}
 use Rattle.collections.specs.ById.{find_id, put_id}
 use Rattle.collections.proofs.Finds.{find-put}
 use Rattle.dispatch_types.specs.Fold.{contains}
@@ -12,18 +13,30 @@ use Rattle.dispatch_types.specs.declared.viewer.Viewer.{Viewer}
 use Rattle.session_core.specs.declared.bot.Bot.{Bot}
 use Rattle.session_core.specs.State.{State, Session, Detached, opened, has_connection, with_connection, gone}
 use Rattle.session_core.specs.Ends.{is_final, silent_of, lost, all_gone, left, client_closed}
-use Rattle.session_core.specs.Frames.{Want, Members, Presence, Voice, Move, Nothing, Answers, ClosesWith, Begins, Denies, Resumes, Wants, framed as with_frame, move_of}
-use Rattle.worker_core.specs.World.{Worker, Input, Look, Open, Frame, Lost, Closed, Tick, cursors, ended_at, taken, outputs, looked, entered, Sent, replay, begins_with, after_want, after_move}
-use Rattle.worker_core.specs.Spent.{spends}
-use Rattle.worker_core.specs.Outputs.{all_written}
-use Rattle.worker_core.specs.Telling.{FaultBy}
-use Rattle.worker_core.specs.Stands.{Stands as StandsFor, Steps, Fails}
+use Rattle.session_core.specs.Frames.{Want, Members, Presence, Voice, Move, Nothing, Answers, ClosesWith, Begins, Denies, Resumes, Wants, framed as with_frame}
+use Rattle.world_law.specs.Model.{Worker, cursors, record_of}
+use Rattle.world_law.specs.Inputs.{Input, Look, Rebase, Open, Frame, Lost, Closed, Tick, taken, outputs}
+use Rattle.world_law.specs.Sent.{ended_at, Sent}
+use Rattle.world_law.specs.Looks.{looked, looked_by, entered}
+use Rattle.world_law.specs.Greeting.{begins_with}
+use Rattle.world_law.specs.Wants.{after_want}
+use Rattle.world_law.specs.Frames.{after_move, move_at}
+use Rattle.world_law.specs.Spent.{spends}
+use Rattle.world_law.proofs.Found.{here_found}
+use Rattle.guild_model.specs.Record.{Record}
+use Rattle.edit_apply.specs.Edits.{after}
+use Rattle.worker_core.specs.declared.io.Input.{Input as Given}
+use Rattle.worker_core.specs.declared.io.Input.TheVariants as given
+use Rattle.worker_core.specs.InCode.{wire_text, wire_model}
+use Rattle.worker_core.specs.Outputs.{IsGiven, all_written}
+use Rattle.worker_core.specs.Represents.{FaultBy}
+use Rattle.worker_core.specs.Represents.{Represents as WorkerRepresents, StepsTo, Fails}
 use Rattle.worker_core.specs.declared.io.StepFault.{StepFault}
 use Rattle.worker_core.specs.declared.io.Output.{Output as Written}
-use Rattle.worker_core.proofs.Worlds.{looked_seen}
+use Rattle.world_law.proofs.Worlds.{looked_seen}
 use Rattle.scenario.specs.declared.worker_slot.WorkerSlot.{WorkerSlot}
 use Rattle.scenario.specs.Server.{for_worker, given_sends, given_spends}
-use Rattle.scenario.specs.Stands.{SlotSteps, SlotFails, SlotsStep, SlotsFail, SlotStands, SlotsStand, moved, all_moved, all_sends, any_spends, cursor_id, cursor_value, cursor_at, is_look}
+use Rattle.scenario.specs.Represents.{SlotSteps, SlotFails, SlotsStep, SlotsFail, SlotRepresents, SlotsRepresent, moved, all_moved, all_sends, any_spends, cursor_id, cursor_value, cursor_at, is_look, calm_of}
 
 differ : (a b : ℕ) → a < b → (a == b) ≡ false
 differ a b h = grind (arith, nat_tests)
@@ -62,14 +75,14 @@ module _ (gs : List ℕ) (m : ℕ) (f : Worker → Input) where
         spends = ap (λ o. given_spends w o || any_spends one_given ws) none ∙ rest.spends;
       }
 
-  pub others_stay : (ks : List WorkerSlot) (ws : List Worker) (j : ℕ) → SlotsStand gs j ks ws → m < j → Stay ws
+  pub others_stay : (ks : List WorkerSlot) (ws : List Worker) (j : ℕ) → SlotsRepresent gs j ks ws → m < j → Stay ws
   others_stay [] [] j sit h = record { moves = refl; sends = refl; spends = refl }
   others_stay [] (w ∷ ws) j sit h = absurd sit
   others_stay (k ∷ ks) [] j sit h = absurd sit
   others_stay (k ∷ ks) (w ∷ ws) j sit h =
       stay_more w ws (ap (λ n. n == m) sit.0.number ∙ differ_below j m h) (others_stay ks ws (j + 1) sit.1 (omega arith))
 
-  pub none_there : (ks : List WorkerSlot) (ws : List Worker) (j : ℕ) → SlotsStand gs j ks ws → j + length ks ≤ m → Stay ws
+  pub none_there : (ks : List WorkerSlot) (ws : List Worker) (j : ℕ) → SlotsRepresent gs j ks ws → j + length ks ≤ m → Stay ws
   none_there [] [] j sit h = record { moves = refl; sends = refl; spends = refl }
   none_there [] (w ∷ ws) j sit h = absurd sit
   none_there (k ∷ ks) [] j sit h = absurd sit
@@ -79,16 +92,16 @@ module _ (gs : List ℕ) (m : ℕ) (f : Worker → Input) where
   -- the worker of this number
   pub record Found (i n : ℕ) (ks : List WorkerSlot) (ws : List Worker) (d : WorkerSlot) : Type 0 where
     pub one : Worker
-    pub sits : SlotStands gs m (get_or ks n d) one
-    pub sends : all_sends one_given ws ≡ outputs one (f one)
-    pub spends : any_spends one_given ws ≡ spends one (f one)
-    pub moves : (k : WorkerSlot) → SlotStands gs m k (taken one (f one)) → SlotsStand gs i (set ks n k) (all_moved one_given ws)
+    pub sits : SlotRepresents gs m (get_or ks n d) one
+    pub sends : all_sends one_given ws ≡ outputs wire_model one (f one)
+    pub spends : any_spends one_given ws ≡ spends wire_model one (f one)
+    pub moves : (k : WorkerSlot) → SlotRepresents gs m k (taken wire_model one (f one)) → SlotsRepresent gs i (set ks n k) (all_moved one_given ws)
 
   false_or : (b : Bool) → (b || false) ≡ b
   false_or true = refl
   false_or false = refl
 
-  pub found : (ks : List WorkerSlot) (ws : List Worker) (i n : ℕ) (d : WorkerSlot) → m ≡ i + n → n < length ks → SlotsStand gs i ks ws → Found i n ks ws d
+  pub found : (ks : List WorkerSlot) (ws : List Worker) (i n : ℕ) (d : WorkerSlot) → m ≡ i + n → n < length ks → SlotsRepresent gs i ks ws → Found i n ks ws d
   found [] ws i n d is h sit = absurd (omega arith)
   found (k ∷ ks) [] i n d is h sit = absurd sit
   found (k ∷ ks) (w ∷ ws) i zero d is h sit =
@@ -97,12 +110,12 @@ module _ (gs : List ℕ) (m : ℕ) (f : Worker → Input) where
       let rest : Stay ws = others_stay ks ws (i + 1) sit.1 (omega arith) in
       record {
         one = w;
-        sits = subst (λ n. SlotStands gs n k w) (sym here) sit.0;
-        sends = ap (λ o. given_sends w o ++ all_sends one_given ws) some ∙ (ap (λ l. outputs w (f w) ++ l) rest.sends ∙ append-nil (outputs w (f w)));
-        spends = ap (λ o. given_spends w o || any_spends one_given ws) some ∙ (ap (λ b. spends w (f w) || b) rest.spends ∙ false_or (spends w (f w)));
+        sits = subst (λ n. SlotRepresents gs n k w) (sym here) sit.0;
+        sends = ap (λ o. given_sends w o ++ all_sends one_given ws) some ∙ (ap (λ l. outputs wire_model w (f w) ++ l) rest.sends ∙ append-nil (outputs wire_model w (f w)));
+        spends = ap (λ o. given_spends w o || any_spends one_given ws) some ∙ (ap (λ b. spends wire_model w (f w) || b) rest.spends ∙ false_or (spends wire_model w (f w)));
         moves = λ k' sits. (
-          subst (λ o. SlotStands gs i k' (moved w o)) (sym some) (subst (λ n. SlotStands gs n k' (taken w (f w))) here sits),
-          subst (λ vs. SlotsStand gs (i + 1) ks vs) (sym rest.moves) sit.1,
+          subst (λ o. SlotRepresents gs i k' (moved w o)) (sym some) (subst (λ n. SlotRepresents gs n k' (taken wire_model w (f w))) here sits),
+          subst (λ vs. SlotsRepresent gs (i + 1) ks vs) (sym rest.moves) sit.1,
         );
       }
   found (k ∷ ks) (w ∷ ws) i (suc n) d is h sit =
@@ -113,18 +126,18 @@ module _ (gs : List ℕ) (m : ℕ) (f : Worker → Input) where
         sits = rest.sits;
         sends = ap (λ o. given_sends w o ++ all_sends one_given ws) none ∙ rest.sends;
         spends = ap (λ o. given_spends w o || any_spends one_given ws) none ∙ rest.spends;
-        moves = λ k' sits. (subst (λ o. SlotStands gs i k (moved w o)) (sym none) sit.0, rest.moves k' sits);
+        moves = λ k' sits. (subst (λ o. SlotRepresents gs i k (moved w o)) (sym none) sit.0, rest.moves k' sits);
       }
 
 -- ---- a worker keeps its number and its guilds
 
-looked_number : (es : List Edit) (w : Worker) (g : ℕ) → (looked w g es).core.worker ≡ w.core.worker
-looked_number [] w g = refl
-looked_number (e ∷ es) w g = looked_number es (entered w g e) g
+looked_number : (es : List Edit) (w : Worker) (g : ℕ) (s : Record) → (looked wire_model w g s es).core.worker ≡ w.core.worker
+looked_number [] w g s = refl
+looked_number (e ∷ es) w g s = looked_number es (entered wire_model w g s e) g (after s e)
 
-looked_guilds : (es : List Edit) (w : Worker) (g : ℕ) → (looked w g es).guilds ≡ w.guilds
-looked_guilds [] w g = refl
-looked_guilds (e ∷ es) w g = looked_guilds es (entered w g e) g
+looked_guilds : (es : List Edit) (w : Worker) (g : ℕ) (s : Record) → (looked wire_model w g s es).logs.guilds ≡ w.logs.guilds
+looked_guilds [] w g s = refl
+looked_guilds (e ∷ es) w g s = looked_guilds es (entered wire_model w g s e) g (after s e)
 
 opened_number : (conn now : ℕ) (s : State Sent) → (opened conn now s).worker ≡ s.worker
 opened_number conn now s = by_tests (has_connection conn s) (nat_lt (length s.connections) 64)
@@ -147,18 +160,18 @@ moved_number conn now sent (Wants number want) s = refl
 -- a worker that differs in no more than its chunks and what its sessions were sent
 record Alike (w v : Worker) : Type 0 where
   pub number : v.core.worker ≡ w.core.worker
-  pub guilds : v.guilds ≡ w.guilds
-  pub seen : (g : ℕ) → v.seen g ≡ w.seen g
+  pub guilds : v.logs.guilds ≡ w.logs.guilds
+  pub seen : (g : ℕ) → v.logs.seen g ≡ w.logs.seen g
 
 itself : (w : Worker) → Alike w w
 itself w = record { number = refl; guilds = refl; seen = λ g. refl }
 
-after_want_alike : (want : Want) (number : ℕ) (w : Worker) → Alike w (after_want number want w)
+after_want_alike : (want : Want) (number : ℕ) (w : Worker) → Alike w (after_want wire_model number want w)
 after_want_alike (Members ask) number w = record { number = refl; guilds = refl; seen = λ g. refl }
 after_want_alike (Presence status) number w = itself w
 after_want_alike (Voice ask) number w = itself w
 
-after_move_alike : (move : Move) (w : Worker) → Alike w (after_move move w)
+after_move_alike : (move : Move) (w : Worker) → Alike w (after_move wire_model move w)
 after_move_alike Nothing w = itself w
 after_move_alike Answers w = itself w
 after_move_alike (ClosesWith code) w = itself w
@@ -168,10 +181,10 @@ after_move_alike (Resumes number older seq held) w = itself w
 after_move_alike (Wants number want) w = after_want_alike want number w
 
 -- what a frame does, and what its session's client wants
-framed_alike : (conn : ℕ) (text : List ℕ) (w : Worker) → Alike (record w { core = with_frame conn w.now (begins_with w) (move_of replay w.core w.now conn text) w.core }) (taken w (Frame conn text))
+framed_alike : (conn : ℕ) (text : List ℕ) (w : Worker) → Alike (record w { core = with_frame conn w.now (begins_with wire_model w) (move_at wire_model w conn text) w.core }) (taken wire_model w (Frame conn text))
 framed_alike conn text w =
-    let move : Move = move_of replay w.core w.now conn text in
-    after_move_alike move (record w { core = with_frame conn w.now (begins_with w) move w.core })
+    let move : Move = move_at wire_model w conn text in
+    after_move_alike move (record w { core = with_frame conn w.now (begins_with wire_model w) move w.core })
 
 all_gone_number : (conns : List ℕ) (now : ℕ) (s : State Sent) → (all_gone conns now s).worker ≡ s.worker
 all_gone_number [] now s = refl
@@ -192,35 +205,51 @@ closed_number ended conn code now s = by_code (is_final code) (has_connection co
     by_code true true = refl
     by_code true false = refl
 
-taken_number : (i : Input) (w : Worker) → is_look i ≡ false → (taken w i).core.worker ≡ w.core.worker
+taken_number : (i : Input) (w : Worker) → is_look i ≡ false → (taken wire_model w i).core.worker ≡ w.core.worker
 taken_number (Look g es) w calm = absurd (cc calm)
+taken_number (Rebase g log) w calm = absurd (cc calm)
 taken_number (Open conn) w calm = opened_number conn w.now w.core
-taken_number (Frame conn text) w calm = (framed_alike conn text w).number ∙ moved_number conn w.now (begins_with w) (move_of replay w.core w.now conn text) w.core
+taken_number (Frame conn text) w calm = (framed_alike conn text w).number ∙ moved_number conn w.now (begins_with wire_model w) (move_at wire_model w conn text) w.core
 taken_number (Lost conn) w calm = lost_number conn w.now w.core
-taken_number (Closed conn code) w calm = closed_number (ended_at (cursors w.seen)) conn code w.now w.core
+taken_number (Closed conn code) w calm = closed_number (ended_at (cursors w.logs.seen)) conn code w.now w.core
 taken_number (Tick now) w calm = all_gone_number (silent_of (max w.now now) w.core.connections) (max w.now now) w.core
 
-taken_guilds : (i : Input) (w : Worker) → is_look i ≡ false → (taken w i).guilds ≡ w.guilds
+taken_guilds : (i : Input) (w : Worker) → is_look i ≡ false → (taken wire_model w i).logs.guilds ≡ w.logs.guilds
 taken_guilds (Look g es) w calm = absurd (cc calm)
+taken_guilds (Rebase g log) w calm = absurd (cc calm)
 taken_guilds (Open conn) w calm = refl
 taken_guilds (Frame conn text) w calm = (framed_alike conn text w).guilds
 taken_guilds (Lost conn) w calm = refl
 taken_guilds (Closed conn code) w calm = refl
 taken_guilds (Tick now) w calm = refl
 
-taken_seen : (i : Input) (w : Worker) → is_look i ≡ false → (g : ℕ) → (taken w i).seen g ≡ w.seen g
+taken_seen : (i : Input) (w : Worker) → is_look i ≡ false → (g : ℕ) → (taken wire_model w i).logs.seen g ≡ w.logs.seen g
 taken_seen (Look g es) w calm h = absurd (cc calm)
+taken_seen (Rebase g log) w calm h = absurd (cc calm)
 taken_seen (Open conn) w calm h = refl
 taken_seen (Frame conn text) w calm h = (framed_alike conn text w).seen h
 taken_seen (Lost conn) w calm h = refl
 taken_seen (Closed conn code) w calm h = refl
 taken_seen (Tick now) w calm h = refl
 
+by_same : (j i : Input) → Some j ≡ Some i → is_look j ≡ false → (i ≡ j) × (is_look i ≡ false)
+by_same j i same calm = let one : j ≡ i = same_Some j i same in (sym one, subst (λ (k : Input). is_look k ≡ false) one calm)
+
+-- what is given that is no look is so in the model
+pub calm_given : (input : Given) (i : Input) → calm_of input ≡ Some i → IsGiven input i × (is_look i ≡ false)
+calm_given (given.Look guild entries) i is = absurd (cc is)
+calm_given (given.Rebase guild base basis entries) i is = absurd (cc is)
+calm_given (given.Open conn) i is = by_same (Open conn) i is refl
+calm_given (given.Frame conn text) i is = by_same (Frame conn text) i is refl
+calm_given (given.Lost conn) i is = by_same (Lost conn) i is refl
+calm_given (given.Closed conn code) i is = by_same (Closed conn code) i is refl
+calm_given (given.Tick now) i is = by_same (Tick now) i is refl
+
 -- ---- one slot
 
-module _ (gs : List ℕ) (n : ℕ) (old new : WorkerSlot) (w : Worker) (sits : SlotStands gs n old w) where
+module _ (gs : List ℕ) (n : ℕ) (old new : WorkerSlot) (w : Worker) (sits : SlotRepresents gs n old w) where
   -- a worker was given something that is no look
-  pub give_sits : (i : Input) → is_look i ≡ false → StandsFor new.worker (taken w i) → new.cursors ≡ old.cursors → SlotStands gs n new (taken w i)
+  pub give_sits : (i : Input) → is_look i ≡ false → WorkerRepresents new.worker (taken wire_model w i) → new.cursors ≡ old.cursors → SlotRepresents gs n new (taken wire_model w i)
   give_sits i calm stands cursors = record {
     number = taken_number i w calm ∙ sits.number;
     guilds = taken_guilds i w calm ∙ sits.guilds;
@@ -230,42 +259,43 @@ module _ (gs : List ℕ) (n : ℕ) (old new : WorkerSlot) (w : Worker) (sits : S
 
   -- a worker was given the entries after its cursor
   pub look_sits : (g at : ℕ) (entries : List Edit) → contains g gs ≡ true → at ≡ cursor_at g old.cursors
-      → StandsFor new.worker (taken w (Look g (drop at entries)))
-      → new.cursors ≡ put_id cursor_id (record { guild = g; at = max at (length entries) }) old.cursors → SlotStands gs n new (taken w (Look g (drop at entries)))
+      → WorkerRepresents new.worker (taken wire_model w (Look g (drop at entries)))
+      → new.cursors ≡ put_id cursor_id (record { guild = g; at = max at (length entries) }) old.cursors → SlotRepresents gs n new (taken wire_model w (Look g (drop at entries)))
   look_sits g at entries there is stands cursors =
       let es : List Edit = drop at entries in
-      let here : contains g w.guilds ≡ true = ap (contains g) sits.guilds ∙ there in
-      let looks : taken w (Look g es) ≡ looked w g es = ap (λ b. if b then looked w g es else w) here in
-      subst (λ (v : Worker). SlotStands gs n new v) (sym looks) (record {
-        number = looked_number es w g ∙ sits.number;
-        guilds = looked_guilds es w g ∙ sits.guilds;
-        worker = subst (λ (v : Worker). StandsFor new.worker v) looks stands;
+      let here : contains g w.logs.guilds ≡ true = ap (contains g) sits.guilds ∙ there in
+      let s : Record = record_of w.logs.seen g in
+      let looks : taken wire_model w (Look g es) ≡ looked wire_model w g s es = ap (λ o. looked_by wire_model o w g es) (here_found wire_text w.logs g here) in
+      subst (λ (v : Worker). SlotRepresents gs n new v) (sym looks) (record {
+        number = looked_number es w g s ∙ sits.number;
+        guilds = looked_guilds es w g s ∙ sits.guilds;
+        worker = subst (λ (v : Worker). WorkerRepresents new.worker v) looks stands;
         cursors = λ h. ap (cursor_at h) cursors ∙ (ap cursor_value (find-put cursor_id (record { guild = g; at = max at (length entries) }) h old.cursors)
-            ∙ (by_guild h (g == h) refl ∙ sym (ap length (looked_seen es w g h))));
+            ∙ (by_guild h (g == h) refl ∙ sym (ap length (looked_seen wire_text es w g s h))));
       })
     where
-      count : length (w.seen g) ≡ at → max at (length entries) ≡ length (w.seen g ++ drop at entries)
+      count : length (w.logs.seen g) ≡ at → max at (length entries) ≡ length (w.logs.seen g ++ drop at entries)
       count e = simp (length-append, length-drop) (omega (arith, e))
 
       by_guild : (h : ℕ) (b : Bool) → (g == h) ≡ b
           → cursor_value (if b then Some (record { guild = g; at = max at (length entries) }) else find_id cursor_id h old.cursors)
-          ≡ length (if b then w.seen h ++ drop at entries else w.seen h)
+          ≡ length (if b then w.logs.seen h ++ drop at entries else w.logs.seen h)
       by_guild h true e =
           let one : g ≡ h = eqb-true g h e in
-          count (sym (sits.cursors g) ∙ sym is) ∙ ap (λ k. length (w.seen k ++ drop at entries)) one
+          count (sym (sits.cursors g) ∙ sym is) ∙ ap (λ k. length (w.logs.seen k ++ drop at entries)) one
       by_guild h false e = sits.cursors h
 
   pub look_steps : (g at : ℕ) (entries next : List Edit) (out : List Written) → contains g gs ≡ true → at ≡ cursor_at g old.cursors → next ≡ drop at entries
-      → Steps w (Look g next) new.worker out → new.cursors ≡ put_id cursor_id (record { guild = g; at = max at (length entries) }) old.cursors
-      → SlotSteps gs n w (Look g (drop (length (w.seen g)) entries)) new out
+      → StepsTo w (Look g next) new.worker out → new.cursors ≡ put_id cursor_id (record { guild = g; at = max at (length entries) }) old.cursors
+      → SlotSteps gs n w (Look g (drop (length (w.logs.seen g)) entries)) new out
   look_steps g at entries next out there is given steps cursors =
-      let here : Steps w (Look g (drop at entries)) new.worker out = subst (λ (es : List Edit). Steps w (Look g es) new.worker out) given steps in
+      let here : StepsTo w (Look g (drop at entries)) new.worker out = subst (λ (es : List Edit). StepsTo w (Look g es) new.worker out) given steps in
       let all : SlotSteps gs n w (Look g (drop at entries)) new out = (look_sits g at entries there is here.0 cursors, (here.1.0, here.1.1)) in
       subst (λ (k : ℕ). SlotSteps gs n w (Look g (drop k entries)) new out) (is ∙ sits.cursors g) all
 
 -- a fault of a look that was given the entries after the cursor
-pub look_fails : (gs : List ℕ) (n : ℕ) (old : WorkerSlot) (w : Worker) → SlotStands gs n old w → (g at : ℕ) (entries next : List Edit) (fault : StepFault)
-    → at ≡ cursor_at g old.cursors → next ≡ drop at entries → Fails w (Look g next) fault → SlotFails w (Look g (drop (length (w.seen g)) entries)) fault
+pub look_fails : (gs : List ℕ) (n : ℕ) (old : WorkerSlot) (w : Worker) → SlotRepresents gs n old w → (g at : ℕ) (entries next : List Edit) (fault : StepFault)
+    → at ≡ cursor_at g old.cursors → next ≡ drop at entries → Fails w (Look g next) fault → SlotFails w (Look g (drop (length (w.logs.seen g)) entries)) fault
 look_fails gs n old w sits g at entries next fault is given fails =
     subst (λ (k : ℕ). SlotFails w (Look g (drop k entries)) fault) (is ∙ sits.cursors g) (subst (λ (es : List Edit). SlotFails w (Look g es) fault) given fails)
 
@@ -275,14 +305,14 @@ pub by_result : {V E : Type 0} (r : Result V E) (P P' : V → Type 0) (Q Q' : E 
 by_result (Ok x) P P' Q Q' f g h = f x h
 by_result (Err e) P P' Q Q' f g h = g e h
 
-module _ (gs : List ℕ) (m : ℕ) (f : Worker → Input) (ks : List WorkerSlot) (ws : List Worker) (sit : SlotsStand gs 0 ks ws) where
+module _ (gs : List ℕ) (m : ℕ) (f : Worker → Input) (ks : List WorkerSlot) (ws : List Worker) (sit : SlotsRepresent gs 0 ks ws) where
   pub stay_step : (out : List Written) → out ≡ [] → length ks ≤ m → SlotsStep gs (one_given gs m f) ws ks out
   stay_step out none h =
       let stay : Stay gs m f ws = none_there gs m f ks ws 0 sit (omega arith) in
-      (subst (λ vs. SlotsStand gs 0 ks vs) (sym stay.moves) sit, (none ∙ ap all_written (sym stay.sends), stay.spends))
+      (subst (λ vs. SlotsRepresent gs 0 ks vs) (sym stay.moves) sit, (none ∙ ap all_written (sym stay.sends), stay.spends))
 
   pub found_step : {V : Type 0} (items : V → List Written) (r : Result V StepFault) (d new : WorkerSlot) → m < length ks → d ≡ get_or ks m d
-      → ((w : Worker) → SlotStands gs m d w → MatchResult r (λ out. SlotSteps gs m w (f w) new (items out)) (SlotFails w (f w)))
+      → ((w : Worker) → SlotRepresents gs m d w → MatchResult r (λ out. SlotSteps gs m w (f w) new (items out)) (SlotFails w (f w)))
       → MatchResult r (λ out. SlotsStep gs (one_given gs m f) ws (set ks m new) (items out)) (SlotsFail (one_given gs m f) ws)
   found_step items r d new h is steps =
       let it : Found gs m f 0 m ks ws d = found gs m f ks ws 0 m d (omega arith) h sit in
@@ -290,4 +320,4 @@ module _ (gs : List ℕ) (m : ℕ) (f : Worker → Input) (ks : List WorkerSlot)
       (SlotFails it.one (f it.one)) (SlotsFail (one_given gs m f) ws)
       (λ out step. (it.moves new step.0, (step.1.0 ∙ ap all_written (sym it.sends), it.spends ∙ step.1.1)))
       (λ fault fails. subst (λ b. FaultBy b fault) (sym it.spends) fails)
-      (steps it.one (subst (λ k. SlotStands gs m k it.one) (sym is) it.sits))
+      (steps it.one (subst (λ k. SlotRepresents gs m k it.one) (sym is) it.sits))

@@ -3,18 +3,18 @@ use Rattle.std.proofs.Common.{◌≡◌, ℕ, ◌+◌, ◌<◌, List, [], ◌∷
 use Rattle.std.specs.Prelude.{if◌then◌else◌, nat_lt, not, ◌||◌}
 use Rattle.std.specs.declared.option.Option.{Option as Known}
 use Rattle.std.proofs.lemmas.Bool.Decides.{nat_tests}
-use Rattle.edit_text.specs.declared.fault.LineFault.{LineFault}
-use Rattle.edit_text.specs.declared.fault.LineFault.TheVariants.{TooLong}
+use Rattle.edit_fields.specs.declared.fault.LineFault.{LineFault}
+use Rattle.edit_fields.specs.declared.fault.LineFault.TheVariants.{TooLong}
 use Rattle.edit_text.specs.declared.line.Line.{Line}
 use Rattle.edit_text.specs.declared.line.Line.TheVariants.{Bot, Guild, Edit, Look, Open, Frame, Lost, Closed, Tick}
-use Rattle.edit_text.specs.declared.reader.StepReader.{StepReader}
+use Rattle.edit_text.specs.declared.reader_state.ReaderState.{ReaderState}
 use Rattle.edit_text.specs.Lines.{line_of, after_line, reader_after, noted, counted}
 use Rattle.scenario.specs.declared.fault.PlayFault.{PlayFault}
 use Rattle.scenario.specs.declared.fault.PlayFault.TheVariants as play
 use Rattle.scenario.specs.Server.{Server, first_server}
 use Rattle.scenario.specs.declared.server.Server.{Server as KeptServer}
 use Rattle.scenario.specs.Transcript.{first_reader, Ending, Whole, Stops, Spends, is_read, read_text, read_ending, after_run, run_text, run_ending, then_ending, text_from, ending_from, reader_from, server_from, line_spends, text_of, ending_of, reader_of, server_of}
-use Rattle.scenario.specs.Stands.{Stands}
+use Rattle.scenario.specs.Represents.{Represents}
 use Rattle.scenario.specs.Played.{Carries, CarriesFront, Leaves, RunsLine, IsCounted}
 use Rattle.scenario.proofs.Fronts.{carries_more, front_of_more, front_before}
 
@@ -29,22 +29,22 @@ read_whole : (p : Server) (n : ℕ) (r : Result (Option Line) LineFault) → rea
 read_whole p n (Ok line) e = refl
 read_whole p n (Err fault) e = absurd (cc)
 
-pub reader-more : (xs : List (List ℕ)) (r : StepReader) (ys : List (List ℕ)) → reader_from r (xs ++ ys) ≡ reader_from (reader_from r xs) ys
+pub reader-more : (xs : List (List ℕ)) (r : ReaderState) (ys : List (List ℕ)) → reader_from r (xs ++ ys) ≡ reader_from (reader_from r xs) ys
 reader-more [] r ys = refl
 reader-more (x ∷ xs) r ys = reader-more xs (reader_after r x) ys
 
-pub server-more : (xs : List (List ℕ)) (r : StepReader) (p : Server) (ys : List (List ℕ)) → server_from r p (xs ++ ys) ≡ server_from (reader_from r xs) (server_from r p xs) ys
+pub server-more : (xs : List (List ℕ)) (r : ReaderState) (p : Server) (ys : List (List ℕ)) → server_from r p (xs ++ ys) ≡ server_from (reader_from r xs) (server_from r p xs) ys
 server-more [] r p ys = refl
 server-more (x ∷ xs) r p ys = server-more xs (reader_after r x) (after_run r p x) ys
 
-pub ending-more : (xs : List (List ℕ)) (r : StepReader) (p : Server) (ys : List (List ℕ)) → ending_from r p xs ≡ Whole
+pub ending-more : (xs : List (List ℕ)) (r : ReaderState) (p : Server) (ys : List (List ℕ)) → ending_from r p xs ≡ Whole
     → ending_from r p (xs ++ ys) ≡ ending_from (reader_from r xs) (server_from r p xs) ys
 ending-more [] r p ys e = refl
 ending-more (x ∷ xs) r p ys e =
     let both = then_whole (run_ending r p x) (ending_from (reader_after r x) (after_run r p x) xs) e in
     ap (λ a. then_ending a (ending_from (reader_after r x) (after_run r p x) (xs ++ ys))) both.0 ∙ ending-more xs (reader_after r x) (after_run r p x) ys both.1
 
-pub text-more : (xs : List (List ℕ)) (r : StepReader) (p : Server) (ys : List (List ℕ)) → ending_from r p xs ≡ Whole
+pub text-more : (xs : List (List ℕ)) (r : ReaderState) (p : Server) (ys : List (List ℕ)) → ending_from r p xs ≡ Whole
     → text_from r p (xs ++ ys) ≡ text_from r p xs ++ text_from (reader_from r xs) (server_from r p xs) ys
 text-more [] r p ys e = refl
 text-more (x ∷ xs) r p ys e =
@@ -58,7 +58,7 @@ text-more (x ∷ xs) r p ys e =
 
 -- ---- one line alone
 
-pub one_text : (r : StepReader) (p : Server) (line : List ℕ) → text_from r p (line ∷ []) ≡ run_text r p line
+pub one_text : (r : ReaderState) (p : Server) (line : List ℕ) → text_from r p (line ∷ []) ≡ run_text r p line
 one_text r p line = by_read (is_read (line_of r line))
   where
     by_read : (t : Bool) → run_text r p line ++ (if t then [] else []) ≡ run_text r p line
@@ -104,7 +104,7 @@ stops_unread p m (Ok (Some line)) n f e = absurd (spends_stops (line_spends p li
 stops_unread p m (Err fault) n f e = refl
 
 -- what follows a line
-after : StepReader → Server → List ℕ → List (List ℕ) → List ℕ
+after : ReaderState → Server → List ℕ → List (List ℕ) → List ℕ
 after r p line later = if is_read (line_of r line) then text_from (reader_after r line) (after_run r p line) later else []
 
 pub ends_among : (fault : PlayFault) (xs : List (List ℕ)) (line : List ℕ) (later : List (List ℕ)) (got got0 got1 : Known (List ℕ)) (waits0 waits1 : List ℕ)
@@ -113,7 +113,7 @@ pub ends_among : (fault : PlayFault) (xs : List (List ℕ)) (line : List ℕ) (l
     → Leaves got got1 waits1 (text_of (xs ++ line ∷ later)) (ending_of (xs ++ line ∷ later)) fault
 unfolding after
 ends_among fault xs line later got got0 got1 waits0 waits1 goes wrote ends =
-    let r : StepReader = reader_of xs in
+    let r : ReaderState = reader_of xs in
     let p : Server = server_of xs in
     let end : ending_of (xs ++ line ∷ later) ≡ then_ending (run_ending r p line) (ending_from (reader_after r line) (after_run r p line) later) = ending-more xs first_reader first_server (line ∷ later) goes in
     ends_within fault got got0 got1 waits0 waits1 (text_of xs) (run_text r p line) (after r p line later) (text_of (xs ++ line ∷ later)) (run_ending r p line) (ending_of (xs ++ line ∷ later)) wrote
@@ -129,9 +129,9 @@ ends_among fault xs line later got got0 got1 waits0 waits1 goes wrote ends =
 
 pub line_is_run : (xs : List (List ℕ)) (line : List ℕ) (got got0 got1 : Known (List ℕ)) (waits0 waits1 : List ℕ) (server : KeptServer) → Carries got got0 waits0 (text_of xs) → ending_of xs ≡ Whole
     → RunsLine (reader_of xs) (server_of xs) line got0 got1 waits0 waits1 server
-    → Stands server (server_of (xs ++ line ∷ [])) × Carries got got1 waits1 (text_of (xs ++ line ∷ [])) × (ending_of (xs ++ line ∷ []) ≡ Whole)
+    → Represents server (server_of (xs ++ line ∷ [])) × Carries got got1 waits1 (text_of (xs ++ line ∷ [])) × (ending_of (xs ++ line ∷ []) ≡ Whole)
 line_is_run xs line got got0 got1 waits0 waits1 server wrote goes runs =
-    let r : StepReader = reader_of xs in
+    let r : ReaderState = reader_of xs in
     let p : Server = server_of xs in
     let text : text_of (xs ++ line ∷ []) ≡ text_of xs ++ run_text r p line = text-more xs first_reader first_server (line ∷ []) goes ∙ ap (λ l. text_of xs ++ l) (one_text r p line) in (
       rw (server-more xs first_reader first_server (line ∷ [])) runs.0,
@@ -141,22 +141,22 @@ line_is_run xs line got got0 got1 waits0 waits1 server wrote goes runs =
 
 -- ---- a line that is too long
 
-too_long : (r : StepReader) (line : List ℕ) → 65536 < length line → line_of r line ≡ Err TooLong
+too_long : (r : ReaderState) (line : List ℕ) → 65536 < length line → line_of r line ≡ Err TooLong
 unfolding line_of
 too_long r line h = let yes : nat_lt 65536 (length line) ≡ true = grind (arith, nat_tests) in simp yes refl
 
-pub long_text : (r : StepReader) (p : Server) (line more : List ℕ) → 65536 < length line → run_text r p (line ++ more) ≡ run_text r p line
+pub long_text : (r : ReaderState) (p : Server) (line more : List ℕ) → 65536 < length line → run_text r p (line ++ more) ≡ run_text r p line
 long_text r p line more h =
     let longer : 65536 < length (line ++ more) = simp length-append (omega arith) in
     ap (λ o. read_text p (after_line o r).lines o) (too_long r (line ++ more) longer ∙ sym (too_long r line h))
 
-pub long_ending : (r : StepReader) (p : Server) (line more : List ℕ) → 65536 < length line → run_ending r p (line ++ more) ≡ run_ending r p line
+pub long_ending : (r : ReaderState) (p : Server) (line more : List ℕ) → 65536 < length line → run_ending r p (line ++ more) ≡ run_ending r p line
 long_ending r p line more h =
     let longer : 65536 < length (line ++ more) = simp length-append (omega arith) in
     ap (λ o. read_ending p (after_line o r).lines o) (too_long r (line ++ more) longer ∙ sym (too_long r line h))
 
 -- a line that is too long is not played
-pub long_stops : (r : StepReader) (p : Server) (line : List ℕ) → 65536 < length line → run_ending r p line ≡ Whole → ⊥
+pub long_stops : (r : ReaderState) (p : Server) (line : List ℕ) → 65536 < length line → run_ending r p line ≡ Whole → ⊥
 long_stops r p line h whole =
     absurd (cc (whole, ap (λ o. read_ending p (after_line o r).lines o) (too_long r line h)))
 
@@ -165,11 +165,11 @@ within true b r o e = absurd (cc)
 within false true r o e = (refl, refl)
 within false false r o e = absurd (cc)
 
-tests : (r : StepReader) (line : List ℕ) (o : Option Line) → line_of r line ≡ Ok o → (nat_lt 65536 (length line) ≡ false) × (nat_lt r.lines 1000000 ≡ true)
+tests : (r : ReaderState) (line : List ℕ) (o : Option Line) → line_of r line ≡ Ok o → (nat_lt 65536 (length line) ≡ false) × (nat_lt r.lines 1000000 ≡ true)
 unfolding line_of
 tests r line o e = within (nat_lt 65536 (length line)) (nat_lt r.lines 1000000) _ o e
 
-noted_lines : (line : Line) (r : StepReader) → (noted line r).lines ≡ r.lines
+noted_lines : (line : Line) (r : ReaderState) → (noted line r).lines ≡ r.lines
 noted_lines (Bot token user name privileged) r = refl
 noted_lines (Guild id) r = refl
 noted_lines (Edit guild edit) r = refl
@@ -180,15 +180,15 @@ noted_lines (Lost conn) r = refl
 noted_lines (Closed conn code) r = refl
 noted_lines (Tick worker now) r = refl
 
-read_lines : (o : Option Line) (r : StepReader) → (after_line (Ok o) r).lines ≡ (counted r).lines
+read_lines : (o : Option Line) (r : ReaderState) → (after_line (Ok o) r).lines ≡ (counted r).lines
 read_lines None r = refl
 read_lines (Some line) r = ap (λ n. if nat_lt 1000000 n then n else n + 1) (noted_lines line r)
 
-counted_next : (r : StepReader) → r.lines < 1000000 → (counted r).lines ≡ r.lines + 1
+counted_next : (r : ReaderState) → r.lines < 1000000 → (counted r).lines ≡ r.lines + 1
 counted_next r h = let more : nat_lt 1000000 r.lines ≡ false = grind (arith, nat_tests) in ap (λ b. if b then r.lines else r.lines + 1) more
 
 -- a line that is read is not too long, and has a number that a file's lines may have
-pub counted_line : (r : StepReader) (line : List ℕ) (o : Option Line) → line_of r line ≡ Ok o → IsCounted r line (reader_after r line)
+pub counted_line : (r : ReaderState) (line : List ℕ) (o : Option Line) → line_of r line ≡ Ok o → IsCounted r line (reader_after r line)
 counted_line r line o e =
     let (is_short, is_early) = tests r line o e in
     let few : r.lines < 1000000 = grind (arith, nat_tests, is_early) in

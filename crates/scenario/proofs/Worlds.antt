@@ -2,15 +2,18 @@
 use Rattle.std.proofs.Common.{◌≡◌, ℕ, List, [], ◌∷◌, ◌++◌, Bool, true, false, Some, None, if◌then◌else◌, length, map, refl, ap, ◌∙◌}
 use Rattle.std.specs.Prelude.{◌==◌, drop}
 use Rattle.edit_apply.specs.declared.Edit.{Edit}
-use Rattle.worker_core.specs.World.{Worker, World, Step, Edits, Looks, Opens, Frames, Loses, Leaves, Ticks, Input, Look, Open, Frame, Lost, Closed, Tick, taken, stepped, run}
+use Rattle.world_law.specs.Model.{Worker}
+use Rattle.world_law.specs.World.{World, Step, Edits, Looks, Opens, Frames, Loses, Leaves, Ticks, look_at, stepped, run}
+use Rattle.world_law.specs.Inputs.{Input, Look, Open, Frame, Lost, Closed, Tick, taken}
+use Rattle.worker_core.specs.InCode.{wire_text, wire_model}
 use Rattle.scenario.specs.Server.{Server, world, given, with_step}
-use Rattle.scenario.specs.Stands.{moved, all_moved, all_sends, any_spends}
+use Rattle.scenario.specs.Represents.{moved, all_moved, all_sends, any_spends}
 
-pub run_more : (ss : List Step) (m : World) (s : Step) → run m (ss ++ s ∷ []) ≡ stepped (run m ss) s
+pub run_more : (ss : List Step) (m : World) (s : Step) → run wire_text m (ss ++ s ∷ []) ≡ stepped wire_text (run wire_text m ss) s
 run_more [] m s = refl
-run_more (x ∷ ss) m s = run_more ss (stepped m x) s
+run_more (x ∷ ss) m s = run_more ss (stepped wire_text m x) s
 
-moved_if : (b : Bool) (i : Input) (w : Worker) → (if b then taken w i else w) ≡ moved w (if b then Some i else None)
+moved_if : (b : Bool) (i : Input) (w : Worker) → (if b then taken wire_model w i else w) ≡ moved w (if b then Some i else None)
 moved_if true i w = refl
 moved_if false i w = refl
 
@@ -23,9 +26,9 @@ unmoved [] = refl
 unmoved (w ∷ ws) = ap (λ vs. w ∷ vs) (unmoved ws)
 
 -- a step gives each worker what is given to it
-pub stepped_workers : (s : Step) (m : World) → (stepped m s).workers ≡ all_moved (given m s) m.workers
+pub stepped_workers : (s : Step) (m : World) → (stepped wire_text m s).workers ≡ all_moved (given m s) m.workers
 stepped_workers (Edits g e) m = unmoved m.workers
-stepped_workers (Looks n g) m = map_same _ _ (λ w. moved_if (w.core.worker == n) (Look g (drop (length (w.seen g)) (m.logs g))) w) m.workers
+stepped_workers (Looks n g) m = map_same _ _ (λ w. moved_if (w.core.worker == n) (look_at g (m.logs g) (length (w.logs.seen g))) w) m.workers
 stepped_workers (Opens n conn) m = map_same _ _ (λ w. moved_if (w.core.worker == n) (Open conn) w) m.workers
 stepped_workers (Frames n conn text) m = map_same _ _ (λ w. moved_if (w.core.worker == n) (Frame conn text) w) m.workers
 stepped_workers (Loses n conn) m = map_same _ _ (λ w. moved_if (w.core.worker == n) (Lost conn) w) m.workers
@@ -33,7 +36,7 @@ stepped_workers (Leaves n conn code) m = map_same _ _ (λ w. moved_if (w.core.wo
 stepped_workers (Ticks n now) m = map_same _ _ (λ w. moved_if (w.core.worker == n) (Tick now) w) m.workers
 
 -- the world after one more step
-pub world_step : (p : Server) (s : Step) → world (with_step (Some s) p) ≡ stepped (world p) s
+pub world_step : (p : Server) (s : Step) → world (with_step (Some s) p) ≡ stepped wire_text (world p) s
 world_step p s = run_more p.steps _ s
 
 -- an edit gives nothing to a worker

@@ -2,5 +2,5 @@ pub mod Lines
 pub mod Server
 pub mod Texts
 pub mod Transcript
-pub mod Stands
+pub mod Represents
 pub mod Played

@@ -6,7 +6,7 @@ use Rattle.std.specs.Io.KnownBytes.{Appends, Consumes, IsAtEnd}
 use Rattle.gate_outside.specs.Causes.{Rose}
 use Rattle.gate_outside.specs.declared.faults.Fault.{Fault}
 use Rattle.gate_outside.specs.declared.faults.Fault.TheVariants as outside
-use Rattle.edit_text.specs.declared.reader.StepReader.{StepReader}
+use Rattle.edit_text.specs.declared.reader_state.ReaderState.{ReaderState}
 use Rattle.worker_core.specs.declared.io.StepFault.{StepFault}
 use Rattle.worker_core.specs.declared.io.StepFault.TheVariants as step
 use Rattle.scenario.specs.declared.fault.PlayFault.{PlayFault}
@@ -18,7 +18,7 @@ use Rattle.scenario.specs.Lines.{whole_lines, tail}
 use Rattle.scenario.specs.Server.{Server}
 use Rattle.scenario.specs.Texts.{refused_text}
 use Rattle.scenario.specs.Transcript.{outputs_text, Ending, Whole, Stops, Spends, after_run, run_text, run_ending, text_of, ending_of, reader_of, server_of, transcript, ending}
-use Rattle.scenario.specs.Stands.{Stands}
+use Rattle.scenario.specs.Represents.{Represents}
 
 -- ---- the faults of the crates below, as faults of a play
 
@@ -93,11 +93,11 @@ AtFault (Ok x) P = Unit {0}
 AtFault (Err fault) P = P fault
 
 -- a line that was played, after what waited before
-abbrev pub RunsLine : StepReader → Server → List ℕ → (got0 got1 : Option (List ℕ)) → (waits0 waits1 : List ℕ) → KeptServer → Type 0
-RunsLine r p line got0 got1 waits0 waits1 new = Stands new (after_run r p line) × (Carries got0 got1 waits1 (waits0 ++ run_text r p line) × (run_ending r p line ≡ Whole))
+abbrev pub RunsLine : ReaderState → Server → List ℕ → (got0 got1 : Option (List ℕ)) → (waits0 waits1 : List ℕ) → KeptServer → Type 0
+RunsLine r p line got0 got1 waits0 waits1 new = Represents new (after_run r p line) × (Carries got0 got1 waits1 (waits0 ++ run_text r p line) × (run_ending r p line ≡ Whole))
 
 -- a line that was read is not too long, and neither is the file
-pub record IsCounted (old : StepReader) (line : List ℕ) (new : StepReader) : Type 0 where
+pub record IsCounted (old : ReaderState) (line : List ℕ) (new : ReaderState) : Type 0 where
   pub few : old.lines < 1000000
   pub short : length line ≤ 65536
   pub next : new.lines ≡ old.lines + 1
@@ -108,7 +108,7 @@ pub record IsCounted (old : StepReader) (line : List ℕ) (new : StepReader) : T
 pub record Playing (got0 got1 : Option (List ℕ)) (k : FileRunner) (bytes : List ℕ) : Type 0 where
   pub reader : k.reader ≡ reader_of (whole_lines bytes)
   pub part : k.part.items ≡ tail bytes
-  pub stands : Stands k.server (server_of (whole_lines bytes))
+  pub represents : Represents k.server (server_of (whole_lines bytes))
   pub wrote : Carries got0 got1 k.waits.items (text_of (whole_lines bytes))
   pub goes_on : ending_of (whole_lines bytes) ≡ Whole
 

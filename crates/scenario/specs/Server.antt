@@ -15,11 +15,15 @@ use Rattle.edit_text.specs.declared.line.Line.TheVariants.{Bot, Guild, Edit, Loo
 use Rattle.session_core.specs.declared.bot.Bot.{Bot as KnownBot}
 use Rattle.worker_core.specs.declared.io.Output.{Output as Written}
 use Rattle.worker_core.specs.declared.io.Output.TheVariants.{Send, Close, Wish}
+use Rattle.worker_core.specs.InCode.{wire_text, wire_model}
 use Rattle.worker_core.specs.Outputs.{all_written}
-use Rattle.worker_core.specs.World.{Worker, World, Step, Edits, Looks, Opens, Frames, Loses, Leaves, Ticks, run, Input, outputs, Output}
-use Rattle.worker_core.specs.World.{Look as Looking, Open as Opening, Frame as Framing, Lost as Losing, Closed as Leaving, Tick as Ticking}
-use Rattle.worker_core.specs.Law.{first_world}
-use Rattle.worker_core.specs.Spent.{spends}
+use Rattle.world_law.specs.Model.{Worker}
+use Rattle.world_law.specs.World.{World, Step, Edits, Looks, Opens, Frames, Loses, Leaves, Ticks, look_at, run}
+use Rattle.world_law.specs.Inputs.{Input, outputs}
+use Rattle.world_law.specs.Outputs.{Output}
+use Rattle.world_law.specs.Inputs.{Open as Opening, Frame as Framing, Lost as Losing, Closed as Leaving, Tick as Ticking}
+use Rattle.world_law.specs.World.{first_world}
+use Rattle.world_law.specs.Spent.{spends}
 use Rattle.scenario.specs.declared.opened.Opened.{Opened}
 
 -- the bots and guilds of the head lines, each once; the connection numbers that were used, and where; the steps so far
@@ -44,7 +48,7 @@ first_workers = (0, url 0) ∷ (1, url 1) ∷ (2, url 2) ∷ (3, url 3) ∷ []
 
 -- what the steps so far make of the first world of these bots and guilds
 abbrev pub world : Server → World
-world p = run (first_world p.bots p.guilds first_workers) p.steps
+world p = run wire_text (first_world p.bots p.guilds first_workers) p.steps
 
 abbrev pub log : Server → ℕ → List GuildEdit
 log p g = (world p).logs g
@@ -134,7 +138,7 @@ for_worker n i w = if w.core.worker == n then Some i else None
 
 abbrev pub given : World → Step → Worker → Option Input
 given m (Edits g e) w = None
-given m (Looks n g) w = for_worker n (Looking g (drop (length (w.seen g)) (m.logs g))) w
+given m (Looks n g) w = for_worker n (look_at g (m.logs g) (length (w.logs.seen g))) w
 given m (Opens n conn) w = for_worker n (Opening conn) w
 given m (Frames n conn text) w = for_worker n (Framing conn text) w
 given m (Loses n conn) w = for_worker n (Losing conn) w
@@ -143,11 +147,11 @@ given m (Ticks n now) w = for_worker n (Ticking now) w
 
 abbrev pub given_sends : Worker → Option Input → List Output
 given_sends w None = []
-given_sends w (Some i) = outputs w i
+given_sends w (Some i) = outputs wire_model w i
 
 abbrev pub given_spends : Worker → Option Input → Bool
 given_spends w None = false
-given_spends w (Some i) = spends w i
+given_spends w (Some i) = spends wire_model w i
 
 -- what goes out after a step
 abbrev pub step_sends : World → Option Step → List Output

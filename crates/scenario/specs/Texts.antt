@@ -3,10 +3,10 @@ use Rattle.std.specs.Prelude.{ℕ, List, [], ◌∷◌, ◌++◌, Option, Some, 
 use Rattle.guild_model.specs.declared.verdict.Verdict.{Verdict}
 use Rattle.guild_model.specs.declared.verdict.Verdict.TheVariants as verdict
 use Rattle.guild_model.specs.Verdict.{verdict_number, verdict_name}
-use Rattle.edit_text.specs.declared.fault.LineFault.{LineFault}
-use Rattle.edit_text.specs.declared.fault.LineFault.TheVariants as fault
-use Rattle.edit_text.specs.Names.{name_text}
-use Rattle.edit_text.specs.Edits.{edit_name}
+use Rattle.edit_fields.specs.declared.fault.LineFault.{LineFault}
+use Rattle.edit_fields.specs.declared.fault.LineFault.TheVariants as fault
+use Rattle.edit_fields.specs.Names.{name_text}
+use Rattle.edit_fields.specs.Edits.{edit_name}
 use Rattle.worker_core.specs.declared.io.Output.{Output}
 use Rattle.worker_core.specs.declared.io.Output.TheVariants.{Send, Close, Wish}
 

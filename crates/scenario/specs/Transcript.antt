@@ -1,11 +1,11 @@
 -- The transcript of a step file.
 use Rattle.std.specs.Prelude.{ℕ, List, [], ◌∷◌, ◌++◌, Bool, true, false, Option, Some, None, Result, Ok, Err, if◌then◌else◌}
 use Rattle.guild_model.specs.declared.verdict.Verdict.{Verdict}
-use Rattle.edit_text.specs.declared.fault.LineFault.{LineFault}
+use Rattle.edit_fields.specs.declared.fault.LineFault.{LineFault}
 use Rattle.edit_text.specs.declared.line.FileKind.TheVariants.{Run}
 use Rattle.edit_text.specs.declared.line.Line.{Line}
 use Rattle.edit_text.specs.declared.line.Line.TheVariants.{Bot, Guild, Edit, Look, Open, Frame, Lost, Closed, Tick}
-use Rattle.edit_text.specs.declared.reader.StepReader.{StepReader}
+use Rattle.edit_text.specs.declared.reader_state.ReaderState.{ReaderState}
 use Rattle.edit_text.specs.Lines.{line_of, reader_after}
 use Rattle.worker_core.specs.declared.io.Output.{Output}
 use Rattle.worker_core.specs.declared.io.Output.TheVariants.{Send, Close, Wish}
@@ -13,7 +13,7 @@ use Rattle.scenario.specs.Lines.{lines_of}
 use Rattle.scenario.specs.Server.{Server, first_server, world, refusal, step_of, with_line, line_sends, follow, played, step_spends}
 use Rattle.scenario.specs.Texts.{written_line, refused_text, stop_line}
 
-abbrev pub first_reader : StepReader
+abbrev pub first_reader : ReaderState
 first_reader = record { kind = Run; lines = 0; stepped = false; guilds = [] }
 
 -- ---- what goes out
@@ -87,20 +87,20 @@ is_read (Ok line) = true
 is_read (Err fault) = false
 
 -- the number of a line that a reader reads next
-abbrev pub number_of : StepReader → List ℕ → ℕ
+abbrev pub number_of : ReaderState → List ℕ → ℕ
 number_of r line = (reader_after r line).lines
 
-abbrev pub run_text : StepReader → Server → List ℕ → List ℕ
+abbrev pub run_text : ReaderState → Server → List ℕ → List ℕ
 run_text r p line = read_text p (number_of r line) (line_of r line)
 
-abbrev pub after_run : StepReader → Server → List ℕ → Server
+abbrev pub after_run : ReaderState → Server → List ℕ → Server
 after_run r p line = after_read p (line_of r line)
 
-abbrev pub run_ending : StepReader → Server → List ℕ → Ending
+abbrev pub run_ending : ReaderState → Server → List ℕ → Ending
 run_ending r p line = read_ending p (number_of r line) (line_of r line)
 
 -- what is written for lines; nothing follows a line that is refused
-abbrev pub text_from : StepReader → Server → List (List ℕ) → List ℕ
+abbrev pub text_from : ReaderState → Server → List (List ℕ) → List ℕ
 text_from r p [] = []
 text_from r p (line ∷ lines) = run_text r p line ++ (if is_read (line_of r line) then text_from (reader_after r line) (after_run r p line) lines else [])
 
@@ -109,16 +109,16 @@ then_ending Whole later = later
 then_ending (Stops line fault) later = Stops line fault
 then_ending Spends later = Spends
 
-abbrev pub ending_from : StepReader → Server → List (List ℕ) → Ending
+abbrev pub ending_from : ReaderState → Server → List (List ℕ) → Ending
 ending_from r p [] = Whole
 ending_from r p (line ∷ lines) = then_ending (run_ending r p line) (ending_from (reader_after r line) (after_run r p line) lines)
 
 -- the reader and the server after lines
-abbrev pub reader_from : StepReader → List (List ℕ) → StepReader
+abbrev pub reader_from : ReaderState → List (List ℕ) → ReaderState
 reader_from r [] = r
 reader_from r (line ∷ lines) = reader_from (reader_after r line) lines
 
-abbrev pub server_from : StepReader → Server → List (List ℕ) → Server
+abbrev pub server_from : ReaderState → Server → List (List ℕ) → Server
 server_from r p [] = p
 server_from r p (line ∷ lines) = server_from (reader_after r line) (after_run r p line) lines
 
@@ -128,7 +128,7 @@ text_of lines = text_from first_reader first_server lines
 abbrev pub ending_of : List (List ℕ) → Ending
 ending_of lines = ending_from first_reader first_server lines
 
-abbrev pub reader_of : List (List ℕ) → StepReader
+abbrev pub reader_of : List (List ℕ) → ReaderState
 reader_of lines = reader_from first_reader lines
 
 abbrev pub server_of : List (List ℕ) → Server

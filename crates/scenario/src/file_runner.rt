@@ -6,7 +6,7 @@ ghost use Rattle.edit_text.specs.Lines.{reader_after};
 ghost use Rattle.scenario.specs.Lines.{IsPiece};
 ghost use Rattle.scenario.specs.Server.{Server as ModelServer, played};
 ghost use Rattle.scenario.specs.Transcript.{Ending, Whole, line_text, line_spends, line_ending, run_text, run_ending, transcript, ending};
-ghost use Rattle.scenario.specs.Stands.{Stands};
+ghost use Rattle.scenario.specs.Represents.{Represents};
 ghost use Rattle.scenario.specs.Played.{FaultCause, WriteCause, AtFault, Ends, Leaves, Carries, CarriesFront, RunsLine, IsCounted, Playing, Written, StopsAt, LeavesAt, Anything, Nothing, Fits, room};
 
 use crate::fault::PlayFault;
@@ -46,8 +46,8 @@ fn play_line<K: Sink>(
     number: u64,
     line: Line,
 ) -> Result<(), PlayFault>
-    ensures plays { (p : ModelServer) → Stands server.old p → MatchResult result
-        (λ _. Stands server.new (played p line) × (Carries (K.got sink.old) (K.got sink.new) waits.new.items (waits.old.items ++ line_text p number line) × (line_spends p line ≡ false)))
+    ensures plays { (p : ModelServer) → Represents server.old p → MatchResult result
+        (λ _. Represents server.new (played p line) × (Carries (K.got sink.old) (K.got sink.new) waits.new.items (waits.old.items ++ line_text p number line) × (line_spends p line ≡ false)))
         (Leaves (K.got sink.old) (K.got sink.new) waits.new.items (waits.old.items ++ line_text p number line) (line_ending p line)) }
     ensures cause { WriteCause (K.faults sink.old) (K.faults sink.new) result }
 {
@@ -108,7 +108,7 @@ impl FileRunner {
 
     // Runs a line.
     fn run_line<K: Sink>(&mut self, sink: &mut K, bytes: &[u8]) -> Result<(), PlayFault>
-        ensures runs { (p : ModelServer) → Stands self.old.server p → MatchResult result
+        ensures runs { (p : ModelServer) → Represents self.old.server p → MatchResult result
             (λ _. RunsLine self.old.reader p bytes.now (K.got sink.old) (K.got sink.new) self.old.waits.items self.new.waits.items self.new.server)
             (Leaves (K.got sink.old) (K.got sink.new) self.new.waits.items (self.old.waits.items ++ run_text self.old.reader p bytes.now) (run_ending self.old.reader p bytes.now)) }
         ensures reader { OnOk result (self.new.reader ≡ reader_after self.old.reader bytes.now) }
@@ -134,7 +134,7 @@ impl FileRunner {
 
     // Runs the line that has begun.
     fn end_part<K: Sink>(&mut self, sink: &mut K) -> Result<(), PlayFault>
-        ensures runs { (p : ModelServer) → Stands self.old.server p → MatchResult result
+        ensures runs { (p : ModelServer) → Represents self.old.server p → MatchResult result
             (λ _. RunsLine self.old.reader p self.old.part.items (K.got sink.old) (K.got sink.new) self.old.waits.items self.new.waits.items self.new.server)
             (Leaves (K.got sink.old) (K.got sink.new) self.new.waits.items (self.old.waits.items ++ run_text self.old.reader p self.old.part.items) (run_ending self.old.reader p self.old.part.items)) }
         ensures reader { OnOk result (self.new.reader ≡ reader_after self.old.reader self.old.part.items) }

@@ -1,7 +1,7 @@
 //! The log of a guild.
 ghost use Rattle.std.specs.Prelude.{◌≡◌, ◌++◌, ◌∷◌, [], None, drop, IfOk, OnOk};
 ghost use Rattle.edit_apply.specs.Edits.{verdict, applied, after};
-ghost use Rattle.scenario.specs.Stands.{log_with};
+ghost use Rattle.scenario.specs.Represents.{log_with};
 
 use collections::{Keyed, Seq};
 use edit_apply::{Edit, judge, make};

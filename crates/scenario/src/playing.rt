@@ -1,8 +1,6 @@
 //! Plays a step file from a source to a sink.
 ghost use Rattle.std.specs.Prelude.{◌≡◌, true, OnOk, MatchResult};
-ghost use Rattle.worker_core.specs.Law.{EachRunHolds, EachSendHolds};
-ghost use Rattle.worker_core.specs.Entries.{EachEntryHolds, EachMessageHolds};
-ghost use Rattle.worker_core.specs.Resumes.{EachResumeHolds};
+ghost use Rattle.world_law.specs.TheLaw.{TheLaw};
 ghost use Rattle.scenario.specs.Played.{PlaysAll, PlaysTo, PlayCause};
 
 use crate::fault::PlayFault;
@@ -10,10 +8,7 @@ use crate::file_runner::FileRunner;
 use gate_outside::piece::Piece;
 use gate_outside::streams::{Sink, Source};
 use std::alloc::Global;
-use worker_core::law::{
-    entries_are_told, messages_are_told, projection_of_a_prefix, resumes_go_on,
-    sends_are_of_sessions,
-};
+use world_law::the_law;
 
 /// Plays a step file on four workers, from its source to its end, and writes its transcript: a line
 /// for each text that goes out, for each edit that is refused, and for a line that is refused, which
@@ -32,17 +27,9 @@ pub fn play<S: Source, K: Sink>(
         (PlaysTo (S.left source.old) (S.left source.new) (K.got sink.old) (K.got sink.new)) }
     ensures ended { OnOk result (S.ended source.new ≡ true) }
     ensures cause { PlayCause (S.faults source.old) (S.faults source.new) (K.faults sink.old) (K.faults sink.new) result }
-    ensures folds { EachRunHolds }
-    ensures sends { EachSendHolds }
-    ensures entries { EachEntryHolds }
-    ensures messages { EachMessageHolds }
-    ensures resumes { EachResumeHolds }
+    ensures law { TheLaw }
 {
-    projection_of_a_prefix();
-    sends_are_of_sessions();
-    entries_are_told();
-    messages_are_told();
-    resumes_go_on();
+    the_law();
     let mut play = FileRunner::new(alloc);
     let mut piece = Piece::new(alloc)?;
     piece.fill(source)?;

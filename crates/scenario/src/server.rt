@@ -1,11 +1,11 @@
 //! The server that a step file drives: bots, guilds, logs and workers.
-ghost use Rattle.std.specs.Prelude.{◌≡◌, false, option_map, OnOk, IfOk, MatchResult, []};
+ghost use Rattle.std.specs.Prelude.{◌≡◌, Some, option_map, OnOk, IfOk, MatchResult, []};
 ghost use Rattle.edit_text.specs.declared.line.Line.{Line};
-ghost use Rattle.worker_core.specs.Outputs.{input_of};
+ghost use Rattle.world_law.specs.Inputs.{Input as ModelInput};
 ghost use Rattle.collections.specs.ById.{find_id};
 ghost use Rattle.edit_text.specs.declared.line.Line.TheVariants as line;
 ghost use Rattle.scenario.specs.Server.{Server as ModelServer, follow, has_token, refusal, first_server, opened_id};
-ghost use Rattle.scenario.specs.Stands.{Stands, Plays, PlaysNot, Gives, is_look, log_id, away};
+ghost use Rattle.scenario.specs.Represents.{Represents, Plays, PlaysNot, Gives, calm_of, log_id, away};
 ghost use Rattle.scenario.specs.Transcript.{line_refusal, wish_refusal};
 
 use crate::guild_log::GuildLog;
@@ -43,6 +43,19 @@ pub struct Answer {
     pub outputs: Vec<Output>,
 }
 
+impl Answer {
+    // What a worker sends.
+    fn sends(outputs: Vec<Output>) -> Answer
+        ensures refusal { result.refusal ≡ None }
+        ensures outputs { result.outputs ≡ outputs }
+    {
+        Answer {
+            refusal: None,
+            outputs,
+        }
+    }
+}
+
 fn knows(bots: &[Bot], token: &str) -> bool
     ensures { result ≡ has_token token.now bots.now }
 {
@@ -52,7 +65,7 @@ fn knows(bots: &[Bot], token: &str) -> bool
 impl Server {
     /// Before the first line.
     pub fn new(alloc: Global) -> Server
-        ensures { Stands result first_server }
+        ensures { Represents result first_server }
     {
         Server {
             alloc,
@@ -65,7 +78,7 @@ impl Server {
     }
 
     fn add_bot(&mut self, bot: Bot) -> Result<(), AllocError>
-        ensures { OnOk result ((p : ModelServer) → Stands self.old p → Plays p (line.Bot bot.token bot.user bot.name bot.privileged) self.new []) }
+        ensures { OnOk result ((p : ModelServer) → Represents self.old p → Plays p (line.Bot bot.token bot.user bot.name bot.privileged) self.new []) }
     {
         if !self.slots.is_empty() || knows(self.bots.as_slice(), bot.token.as_str()) {
             return Ok(());
@@ -74,7 +87,7 @@ impl Server {
     }
 
     fn add_guild(&mut self, id: Snowflake) -> Result<(), AllocError>
-        ensures { OnOk result ((p : ModelServer) → Stands self.old p → Plays p (line.Guild id) self.new []) }
+        ensures { OnOk result ((p : ModelServer) → Represents self.old p → Plays p (line.Guild id) self.new []) }
     {
         if !self.slots.is_empty() || self.logs.contains(id.0) {
             return Ok(());
@@ -102,8 +115,8 @@ impl Server {
     // Adds an edit to the guild's log, and says why it is refused, if it is. An edit of a guild without a
     // head line, and one that finds the log full, is not added.
     fn edit(&mut self, guild: Snowflake, edit: Edit) -> Result<Option<Verdict>, AllocError>
-        ensures answer { IfOk result (λ answer. (p : ModelServer) → Stands self.old p → answer ≡ refusal p guild edit) }
-        ensures plays { OnOk result ((p : ModelServer) → Stands self.old p → Plays p (line.Edit guild edit) self.new []) }
+        ensures answer { IfOk result (λ answer. (p : ModelServer) → Represents self.old p → answer ≡ refusal p guild edit) }
+        ensures plays { OnOk result ((p : ModelServer) → Represents self.old p → Plays p (line.Edit guild edit) self.new []) }
     {
         if let Some(verdict) = self.turned_away(guild) {
             drop(edit);
@@ -129,8 +142,8 @@ impl Server {
 
     /// Adds a wish to the log of its guild at once, and says why it is refused, if it is.
     pub fn follow(&mut self, output: &Output) -> Result<Option<Verdict>, AllocError>
-        ensures answer { IfOk result (λ answer. (p : ModelServer) → Stands self.old p → answer ≡ wish_refusal p output.now) }
-        ensures follows { OnOk result ((p : ModelServer) → Stands self.old p → Stands self.new (follow p output.now)) }
+        ensures answer { IfOk result (λ answer. (p : ModelServer) → Represents self.old p → answer ≡ wish_refusal p output.now) }
+        ensures follows { OnOk result ((p : ModelServer) → Represents self.old p → Represents self.new (follow p output.now)) }
     {
         match output {
             Output::Wish(guild, edit) => {
@@ -142,7 +155,7 @@ impl Server {
     }
 
     fn look(&mut self, worker: u8, guild: Snowflake) -> Result<Vec<Output>, StepFault>
-        ensures { (p : ModelServer) → Stands self.old p → MatchResult result (λ out. Plays p (line.Look worker guild) self.new out.items) (PlaysNot p (line.Look worker guild)) }
+        ensures { (p : ModelServer) → Represents self.old p → MatchResult result (λ out. Plays p (line.Look worker guild) self.new out.items) (PlaysNot p (line.Look worker guild)) }
     {
         let Some(log) = self.logs.get(guild.0) else {
             return Ok(Vec::new(self.alloc));
@@ -163,7 +176,7 @@ impl Server {
     }
 
     fn open(&mut self, worker: u8, conn: u32) -> Result<Vec<Output>, StepFault>
-        ensures { (p : ModelServer) → Stands self.old p → MatchResult result (λ out. Plays p (line.Open worker conn) self.new out.items) (PlaysNot p (line.Open worker conn)) }
+        ensures { (p : ModelServer) → Represents self.old p → MatchResult result (λ out. Plays p (line.Open worker conn) self.new out.items) (PlaysNot p (line.Open worker conn)) }
     {
         if self.used.contains(conn as u64) {
             return Ok(Vec::new(self.alloc));
@@ -183,8 +196,7 @@ impl Server {
 
     // Passes a worker any input but a look.
     fn give(&mut self, worker: u8, input: Input) -> Result<Vec<Output>, StepFault>
-        requires { is_look (input_of input) ≡ false }
-        ensures { (p : ModelServer) (line : Line) → Stands self.old p → Gives p line worker (input_of input)
+        ensures { (p : ModelServer) (line : Line) (i : ModelInput) → Represents self.old p → calm_of input ≡ Some i → Gives p line worker i
             → MatchResult result (λ out. Plays p line self.new out.items) (PlaysNot p line) }
     {
         start(
@@ -205,7 +217,7 @@ impl Server {
     }
 
     fn frame(&mut self, conn: u32, text: Text) -> Result<Vec<Output>, StepFault>
-        ensures { (p : ModelServer) → Stands self.old p → MatchResult result (λ out. Plays p (line.Frame conn text) self.new out.items) (PlaysNot p (line.Frame conn text)) }
+        ensures { (p : ModelServer) → Represents self.old p → MatchResult result (λ out. Plays p (line.Frame conn text) self.new out.items) (PlaysNot p (line.Frame conn text)) }
     {
         let Some(worker) = self.worker_of(conn) else {
             return Ok(Vec::new(self.alloc));
@@ -214,7 +226,7 @@ impl Server {
     }
 
     fn lost(&mut self, conn: u32) -> Result<Vec<Output>, StepFault>
-        ensures { (p : ModelServer) → Stands self.old p → MatchResult result (λ out. Plays p (line.Lost conn) self.new out.items) (PlaysNot p (line.Lost conn)) }
+        ensures { (p : ModelServer) → Represents self.old p → MatchResult result (λ out. Plays p (line.Lost conn) self.new out.items) (PlaysNot p (line.Lost conn)) }
     {
         let Some(worker) = self.worker_of(conn) else {
             return Ok(Vec::new(self.alloc));
@@ -223,7 +235,7 @@ impl Server {
     }
 
     fn closed(&mut self, conn: u32, code: u16) -> Result<Vec<Output>, StepFault>
-        ensures { (p : ModelServer) → Stands self.old p → MatchResult result (λ out. Plays p (line.Closed conn code) self.new out.items) (PlaysNot p (line.Closed conn code)) }
+        ensures { (p : ModelServer) → Represents self.old p → MatchResult result (λ out. Plays p (line.Closed conn code) self.new out.items) (PlaysNot p (line.Closed conn code)) }
     {
         let Some(worker) = self.worker_of(conn) else {
             return Ok(Vec::new(self.alloc));
@@ -232,31 +244,14 @@ impl Server {
     }
 
     fn tick(&mut self, worker: u8, now: u64) -> Result<Vec<Output>, StepFault>
-        ensures { (p : ModelServer) → Stands self.old p → MatchResult result (λ out. Plays p (line.Tick worker now) self.new out.items) (PlaysNot p (line.Tick worker now)) }
+        ensures { (p : ModelServer) → Represents self.old p → MatchResult result (λ out. Plays p (line.Tick worker now) self.new out.items) (PlaysNot p (line.Tick worker now)) }
     {
         self.give(worker, Input::Tick(now))
     }
 
-    fn nothing(&self) -> Answer
-        ensures refusal { result.refusal ≡ None }
-        ensures outputs { result.outputs.items ≡ [] }
-    {
-        self.sends(Vec::new(self.alloc))
-    }
-
-    fn sends(&self, outputs: Vec<Output>) -> Answer
-        ensures refusal { result.refusal ≡ None }
-        ensures outputs { result.outputs ≡ outputs }
-    {
-        Answer {
-            refusal: None,
-            outputs,
-        }
-    }
-
     /// Runs a line that was read.
     pub fn play(&mut self, line: Line) -> Result<Answer, StepFault>
-        ensures { (p : ModelServer) → Stands self.old p → MatchResult result (λ a. (a.refusal ≡ line_refusal p line) × Plays p line self.new a.outputs.items) (PlaysNot p line) }
+        ensures { (p : ModelServer) → Represents self.old p → MatchResult result (λ a. (a.refusal ≡ line_refusal p line) × Plays p line self.new a.outputs.items) (PlaysNot p line) }
     {
         match line {
             Line::Bot {
@@ -271,40 +266,22 @@ impl Server {
                     name,
                     privileged,
                 })?;
-                Ok(self.nothing())
+                Ok(Answer::sends(Vec::new(self.alloc)))
             }
             Line::Guild { id } => {
                 self.add_guild(id)?;
-                Ok(self.nothing())
+                Ok(Answer::sends(Vec::new(self.alloc)))
             }
             Line::Edit { guild, edit } => Ok(Answer {
                 refusal: self.edit(guild, edit)?,
                 outputs: Vec::new(self.alloc),
             }),
-            Line::Look { worker, guild } => {
-                let outputs = self.look(worker, guild)?;
-                Ok(self.sends(outputs))
-            }
-            Line::Open { worker, conn } => {
-                let outputs = self.open(worker, conn)?;
-                Ok(self.sends(outputs))
-            }
-            Line::Frame { conn, text } => {
-                let outputs = self.frame(conn, text)?;
-                Ok(self.sends(outputs))
-            }
-            Line::Lost { conn } => {
-                let outputs = self.lost(conn)?;
-                Ok(self.sends(outputs))
-            }
-            Line::Closed { conn, code } => {
-                let outputs = self.closed(conn, code)?;
-                Ok(self.sends(outputs))
-            }
-            Line::Tick { worker, now } => {
-                let outputs = self.tick(worker, now)?;
-                Ok(self.sends(outputs))
-            }
+            Line::Look { worker, guild } => Ok(Answer::sends(self.look(worker, guild)?)),
+            Line::Open { worker, conn } => Ok(Answer::sends(self.open(worker, conn)?)),
+            Line::Frame { conn, text } => Ok(Answer::sends(self.frame(conn, text)?)),
+            Line::Lost { conn } => Ok(Answer::sends(self.lost(conn)?)),
+            Line::Closed { conn, code } => Ok(Answer::sends(self.closed(conn, code)?)),
+            Line::Tick { worker, now } => Ok(Answer::sends(self.tick(worker, now)?)),
         }
     }
 }

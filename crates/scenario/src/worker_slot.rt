@@ -1,13 +1,13 @@
 //! The four workers, each with how far it has looked at each log.
-ghost use Rattle.std.specs.Prelude.{◌≡◌, ℕ, List, [], length, true, false, drop, IfOk, OnOk, MatchResult};
+ghost use Rattle.std.specs.Prelude.{◌≡◌, ℕ, List, [], length, true, Some, IfOk, OnOk, MatchResult};
 ghost use Rattle.collections.specs.ById.{put_all};
 ghost use Rattle.guild_model.specs.Record.{own_id};
 ghost use Rattle.dispatch_types.specs.Fold.{contains};
-ghost use Rattle.worker_core.specs.World.{Worker as ModelWorker, Look as Looks, first_worker};
-ghost use Rattle.worker_core.specs.Law.{first_world};
-ghost use Rattle.worker_core.specs.Outputs.{input_of};
+ghost use Rattle.world_law.specs.Model.{Worker as ModelWorker, first_worker};
+ghost use Rattle.world_law.specs.Inputs.{Input as ModelInput};
+ghost use Rattle.world_law.specs.World.{look_at, first_world};
 ghost use Rattle.scenario.specs.Server.{Server, url, first_workers, for_worker};
-ghost use Rattle.scenario.specs.Stands.{SlotStands, SlotsStand, SlotSteps, SlotFails, SlotsStep, SlotsFail, HasSlotsOnceStepped, HasSlots, IsFull, cursor_at, is_look};
+ghost use Rattle.scenario.specs.Represents.{SlotRepresents, SlotsRepresent, SlotSteps, SlotFails, SlotsStep, SlotsFail, HasSlotsOnceStepped, HasSlots, IsFull, cursor_at, calm_of};
 
 use crate::guild_log::entries_after;
 use collections::{ById, Keyed, Text};
@@ -46,7 +46,7 @@ impl WorkerSlot {
         bots: &[Bot],
         guilds: &[Snowflake],
     ) -> Result<WorkerSlot, AllocError>
-        ensures { IfOk result (λ slot. SlotStands (put_all own_id [] guilds.now) number slot (first_worker bots.now guilds.now number (url number))) }
+        ensures { IfOk result (λ slot. SlotRepresents (put_all own_id [] guilds.now) number slot (first_worker bots.now guilds.now number (url number))) }
     {
         let url = url_of(alloc, number)?;
         let bots = copies_of(alloc, bots)?;
@@ -72,8 +72,8 @@ impl WorkerSlot {
         guild: Snowflake,
         entries: &[Edit],
     ) -> Result<Vec<Output>, StepFault>
-        ensures { (guilds : List ℕ) (number : ℕ) (w : ModelWorker) → contains guild guilds ≡ true → SlotStands guilds number self.old w
-            → let input = Looks guild (drop (length (w.seen guild)) entries.now) in MatchResult result (λ out. SlotSteps guilds number w input self.new out.items) (SlotFails w input) }
+        ensures { (guilds : List ℕ) (number : ℕ) (w : ModelWorker) → contains guild guilds ≡ true → SlotRepresents guilds number self.old w
+            → let input = look_at guild entries.now (length (w.logs.seen guild)) in MatchResult result (λ out. SlotSteps guilds number w input self.new out.items) (SlotFails w input) }
     {
         let at = self.cursor(guild);
         let next = entries_after(alloc, entries, at)?;
@@ -87,9 +87,8 @@ impl WorkerSlot {
 
     // Passes the worker any input but a look.
     fn give(&mut self, input: Input) -> Result<Vec<Output>, StepFault>
-        requires { is_look (input_of input) ≡ false }
-        ensures { (guilds : List ℕ) (number : ℕ) (w : ModelWorker) → SlotStands guilds number self.old w
-            → MatchResult result (λ out. SlotSteps guilds number w (input_of input) self.new out.items) (SlotFails w (input_of input)) }
+        ensures { (guilds : List ℕ) (number : ℕ) (w : ModelWorker) (i : ModelInput) → SlotRepresents guilds number self.old w → calm_of input ≡ Some i
+            → MatchResult result (λ out. SlotSteps guilds number w i self.new out.items) (SlotFails w i) }
     {
         self.worker.step(input)
     }
@@ -129,7 +128,7 @@ fn first_slots(
     bots: &[Bot],
     guilds: &[Snowflake],
 ) -> Result<Vec<WorkerSlot>, AllocError>
-    ensures sit { IfOk result (λ slots. SlotsStand (put_all own_id [] guilds.now) 0 slots.items (first_world bots.now guilds.now first_workers).workers) }
+    ensures sit { IfOk result (λ slots. SlotsRepresent (put_all own_id [] guilds.now) 0 slots.items (first_world bots.now guilds.now first_workers).workers) }
     ensures full { IfOk result (λ slots. IsFull slots.items) }
 {
     let mut slots = Vec::new(alloc);
@@ -163,8 +162,8 @@ pub fn look(
     guild: Snowflake,
     entries: &[Edit],
 ) -> Result<Vec<Output>, StepFault>
-    ensures { (guilds : List ℕ) (ws : List ModelWorker) → contains guild guilds ≡ true → SlotsStand guilds 0 slots.old.items ws
-        → let given = λ (w : ModelWorker). for_worker number (Looks guild (drop (length (w.seen guild)) entries.now)) w in
+    ensures { (guilds : List ℕ) (ws : List ModelWorker) → contains guild guilds ≡ true → SlotsRepresent guilds 0 slots.old.items ws
+        → let given = λ (w : ModelWorker). for_worker number (look_at guild entries.now (length (w.logs.seen guild))) w in
         MatchResult result (λ out. SlotsStep guilds given ws slots.new.items out.items) (SlotsFail given ws) }
 {
     let index = number as usize;
@@ -181,9 +180,8 @@ pub fn give(
     number: u8,
     input: Input,
 ) -> Result<Vec<Output>, StepFault>
-    requires { is_look (input_of input) ≡ false }
-    ensures { (guilds : List ℕ) (ws : List ModelWorker) → SlotsStand guilds 0 slots.old.items ws
-        → MatchResult result (λ out. SlotsStep guilds (for_worker number (input_of input)) ws slots.new.items out.items) (SlotsFail (for_worker number (input_of input)) ws) }
+    ensures { (guilds : List ℕ) (ws : List ModelWorker) (i : ModelInput) → SlotsRepresent guilds 0 slots.old.items ws → calm_of input ≡ Some i
+        → MatchResult result (λ out. SlotsStep guilds (for_worker number i) ws slots.new.items out.items) (SlotsFail (for_worker number i) ws) }
 {
     let index = number as usize;
     if index >= slots.len() {

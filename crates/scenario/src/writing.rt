@@ -4,7 +4,7 @@ ghost use Rattle.std.specs.Io.KnownBytes.{Appends};
 ghost use Rattle.gate_outside.specs.Causes.{FaultHasCause};
 ghost use Rattle.scenario.specs.Server.{Server as ModelServer, follow, followed};
 ghost use Rattle.scenario.specs.Transcript.{output_text, outputs_text};
-ghost use Rattle.scenario.specs.Stands.{Stands};
+ghost use Rattle.scenario.specs.Represents.{Represents};
 ghost use Rattle.scenario.specs.Played.{AppendsFront, IsFront, Carries, CarriesFront, answer_text};
 
 use crate::server::{Answer, Server};
@@ -48,8 +48,8 @@ fn put_followed(
     line: u64,
     output: &Output,
 ) -> Result<(), AllocError>
-    ensures { (p : ModelServer) → Stands server.old p → MatchResult result
-        (λ _. Stands server.new (follow p output.now) × (waits.new.items ≡ waits.old.items ++ output_text p line output.now))
+    ensures { (p : ModelServer) → Represents server.old p → MatchResult result
+        (λ _. Represents server.new (follow p output.now) × (waits.new.items ≡ waits.old.items ++ output_text p line output.now))
         (λ _. IsFront waits.new.items (waits.old.items ++ output_text p line output.now)) }
 {
     put_output(waits, output)?;
@@ -65,8 +65,8 @@ fn write_output<K: Sink>(
     line: u64,
     output: &Output,
 ) -> Result<(), Fault>
-    ensures follows { (p : ModelServer) → Stands server.old p → MatchResult result
-        (λ _. Stands server.new (follow p output.now) × Carries (K.got sink.old) (K.got sink.new) waits.new.items (waits.old.items ++ output_text p line output.now))
+    ensures follows { (p : ModelServer) → Represents server.old p → MatchResult result
+        (λ _. Represents server.new (follow p output.now) × Carries (K.got sink.old) (K.got sink.new) waits.new.items (waits.old.items ++ output_text p line output.now))
         (λ _. CarriesFront (K.got sink.old) (K.got sink.new) waits.new.items (waits.old.items ++ output_text p line output.now)) }
     ensures cause { FaultHasCause (K.faults sink.old) (K.faults sink.new) result }
 {
@@ -82,8 +82,8 @@ fn write_outputs<K: Sink>(
     line: u64,
     outputs: &[Output],
 ) -> Result<(), Fault>
-    ensures follows { (p : ModelServer) → Stands server.old p → MatchResult result
-        (λ _. Stands server.new (followed p outputs.now) × Carries (K.got sink.old) (K.got sink.new) waits.new.items (waits.old.items ++ outputs_text p line outputs.now))
+    ensures follows { (p : ModelServer) → Represents server.old p → MatchResult result
+        (λ _. Represents server.new (followed p outputs.now) × Carries (K.got sink.old) (K.got sink.new) waits.new.items (waits.old.items ++ outputs_text p line outputs.now))
         (λ _. CarriesFront (K.got sink.old) (K.got sink.new) waits.new.items (waits.old.items ++ outputs_text p line outputs.now)) }
     ensures cause { FaultHasCause (K.faults sink.old) (K.faults sink.new) result }
 {
@@ -101,8 +101,8 @@ pub fn write_answer<K: Sink>(
     line: u64,
     answer: &Answer,
 ) -> Result<(), Fault>
-    ensures follows { (p : ModelServer) → Stands server.old p → MatchResult result
-        (λ _. Stands server.new (followed p answer.now.outputs.items) × Carries (K.got sink.old) (K.got sink.new) waits.new.items (waits.old.items ++ answer_text p line answer.now))
+    ensures follows { (p : ModelServer) → Represents server.old p → MatchResult result
+        (λ _. Represents server.new (followed p answer.now.outputs.items) × Carries (K.got sink.old) (K.got sink.new) waits.new.items (waits.old.items ++ answer_text p line answer.now))
         (λ _. CarriesFront (K.got sink.old) (K.got sink.new) waits.new.items (waits.old.items ++ answer_text p line answer.now)) }
     ensures cause { FaultHasCause (K.faults sink.old) (K.faults sink.new) result }
 {

@@ -1,13 +1,13 @@
 -- What is kept of the sessions moves as they do.
 use Rattle.std.proofs.Common.{◌≡◌, ℕ, ◌+◌, List, [], ◌∷◌, ◌++◌, Bool, true, false, Option, Some, None, Result, Ok, Err, if◌then◌else◌, suc, length, map, refl, sym, ap, ◌∙◌, append_assoc}
-use Rattle.std.specs.Prelude.{◌==◌, ◌||◌, ◌&&◌, option_map, filter, flat_map, nat_lt, nat_le}
+use Rattle.std.specs.Prelude.{◌==◌, ◌||◌, ◌&&◌, not, is_some, option_map, filter, flat_map, nat_lt, nat_le}
 use Rattle.std.specs.List.{find, list_any}
 use Rattle.std.specs.Str.{bytes_eq}
-use Rattle.guild_model.specs.Record.{Record, closed}
+use Rattle.guild_model.specs.Record.{Record}
+use Rattle.worker_core.specs.declared.replica.Replica.{Replica}
 use Rattle.dispatch_types.specs.declared.viewer.Viewer.{Viewer}
-use Rattle.edit_apply.specs.Edits.{after, state}
 use Rattle.edit_apply.specs.declared.Edit.{Edit}
-use Rattle.edit_events.specs.Due.{owed}
+use Rattle.edit_events.specs.Due.{due}
 use Rattle.gateway_frames.specs.declared.frame.Frame.{Frame}
 use Rattle.gateway_frames.specs.declared.frame.Frame.TheVariants as frame
 use Rattle.gateway_frames.specs.declared.fault.FrameFault.{FrameFault}
@@ -15,20 +15,26 @@ use Rattle.gateway_frames.specs.declared.frame.Identify.{Identify}
 use Rattle.gateway_frames.specs.Read.{frame_of}
 use Rattle.session_core.specs.declared.bot.Bot.{Bot}
 use Rattle.session_core.specs.declared.reply.Mark.TheVariants.{Entry}
-use Rattle.session_core.specs.State.{State, Session, Condition, Attached, Detached, Ended, is_on, is_live, has_connection, number_on, released, opened, gone, begun}
+use Rattle.session_core.specs.State.{State, Session, Condition, Attached, Detached, Ended, Connection, is_on, is_live, has_connection, has_session, session_on, number_on, released, opened, gone, begun}
 use Rattle.session_core.specs.Identify.{authorized_of, identified, bot_of}
-use Rattle.replay_ring.specs.Replay.{Replay, pushed_all}
+use Rattle.replay_ring.specs.Replay.{Replay}
 use Rattle.session_core.specs.Frames.{Move, Nothing, Answers, ClosesWith, Begins, Denies, Resumes, Wants, identify_move, resume_move, move_before_session, read_move, move_of, moved, framed, as_kept}
 use Rattle.session_core.specs.Resume.{session_id, session_named, joined, resumed, resume_by, resume_answer}
 use Rattle.gateway_frames.specs.declared.frame.Resume.{Resume}
 use Rattle.session_core.specs.Rate.{is_rated, frame_counted}
-use Rattle.session_core.specs.Ends.{is_final, lost, all_gone, left_of, left, client_closed, kept_for, expired, ticked, silent_of}
-use Rattle.worker_core.specs.World.{ended_at, Seen, Cursors, cursors, seen_with, told, Sent, texts_from, replay, Worker, sends, after_entry, entry_sends, entered, looked, look_sends, begins_with}
-use Rattle.worker_core.specs.Spent.{is_past, entry_spends, look_spends, told_spends, kept_spends}
-use Rattle.worker_core.specs.Kept.{counted, kept_session, kept, told_more, told_sends, kept_looked, kept_sends}
-use Rattle.worker_core.proofs.Lists.{append_none, map_join}
-use Rattle.worker_core.proofs.Folds.{state_join, same_id}
-use Rattle.worker_core.proofs.Replays.{last_is, replay_told}
+use Rattle.session_core.specs.Ends.{is_final, lost, all_gone, left_of, left, client_closed, kept_for, expired, ticked, silent_of, connection_number, all_ended, ended_if_live, session_conns}
+use Rattle.world_law.specs.Keeping.{Cursors}
+use Rattle.world_law.specs.Model.{Seen, Worker, cursors, record_of, replay, seen_with}
+use Rattle.world_law.specs.Sent.{Sent, ended_at, told}
+use Rattle.world_law.specs.Looks.{after_entry, entry_sends}
+use Rattle.world_law.proofs.Lists.{append_none, map_join}
+use Rattle.world_law.proofs.Entered.{batch, told_entry}
+use Rattle.world_law.specs.Greeting.{begins_with}
+use Rattle.worker_core.specs.Represents.{counted, kept, kept_session}
+use Rattle.world_law.specs.Spent.{entry_spends, is_past}
+use Rattle.worker_core.specs.InCode.{wire_model, held_with, in_code, wire_text}
+use Rattle.world_law.proofs.Replays.{last_is, replay_told}
+use Rattle.world_law.specs.Outputs.{sends}
 
 pub flat_map_join : {A B : Type 0} (f : A → List B) (xs ys : List A) → flat_map f (xs ++ ys) ≡ flat_map f xs ++ flat_map f ys
 flat_map_join f [] ys = refl
@@ -47,88 +53,60 @@ any_join p (x ∷ xs) ys = by_test (p x) (any_join p xs ys)
     by_test false rest = rest
 
 -- one entry
-module _ (seen : Seen) (g : ℕ) (e : Edit) where
+module _ (seen : Seen) (g : ℕ) (e : Edit) (replicas : List Replica) where
   abbrev here : Record
-  here = state g (seen g)
+  here = record_of seen g
 
-  one_told : (x : Session Sent) → kept_session (after_entry seen g e x) ≡ map (told_more here e) (kept_session x)
+  one_told : (x : Session Sent) → kept_session (told_entry seen g e x) ≡ map (after_entry in_code replicas g here e) (kept_session x)
   one_told x = by_condition x.condition
     where
-      more : replay (record x.sent { told = x.sent.told ++ told (Entry g (length (seen g) + 1)) (cursors seen) (cursors (seen_with seen g e)) (owed here e x.viewer) })
-          ≡ pushed_all (replay x.sent) (texts_from (replay x.sent).last (owed here e x.viewer))
-      more = replay_told x.sent.told x.sent.end (Entry g (length (seen g) + 1)) (cursors seen) (cursors (seen_with seen g e)) (owed here e x.viewer)
+      more : replay wire_text (record x.sent { told = x.sent.told ++ batch seen g e x }) ≡ held_with (due here e x.viewer) (replay wire_text x.sent)
+      more = replay_told wire_text x.sent.told x.sent.end (Entry g (length (seen g) + 1)) (cursors seen) (cursors (seen_with seen g e)) (due here e x.viewer)
 
-      by_condition : (condition : Condition) → kept_session (after_entry seen g e (record x { condition = condition })) ≡ map (told_more here e) (kept_session (record x { condition = condition }))
+      by_condition : (condition : Condition) → kept_session (told_entry seen g e (record x { condition = condition })) ≡ map (after_entry in_code replicas g here e) (kept_session (record x { condition = condition }))
       by_condition (Attached conn) = ap (λ r. record { number = x.number; token = x.token; name = x.name; viewer = x.viewer; condition = Attached conn; sent = r } ∷ []) more
       by_condition (Detached since) = ap (λ r. record { number = x.number; token = x.token; name = x.name; viewer = x.viewer; condition = Detached since; sent = r } ∷ []) more
       by_condition Ended = refl
 
-  one_sends : (x : Session Sent) → entry_sends seen g e x ≡ flat_map (told_sends here e) (kept_session x)
+  pub each_told : (xs : List (Session Sent)) → flat_map kept_session (map (told_entry seen g e) xs) ≡ map (after_entry in_code replicas g here e) (flat_map kept_session xs)
+  each_told [] = refl
+  each_told (x ∷ xs) =
+      ap (λ ys. ys ++ flat_map kept_session (map (told_entry seen g e) xs)) (one_told x)
+      ∙ (ap (λ ys. map (after_entry in_code replicas g here e) (kept_session x) ++ ys) (each_told xs) ∙ sym (map_join (after_entry in_code replicas g here e) (kept_session x) (flat_map kept_session xs)))
+
+-- what goes out for it, and whether a count is spent
+module _ (s : Record) (e : Edit) where
+  one_sends : (x : Session Sent) → entry_sends wire_model s e x ≡ flat_map (entry_sends in_code s e) (kept_session x)
   one_sends x = by_condition x.condition
     where
-      by_condition : (condition : Condition) → entry_sends seen g e (record x { condition = condition }) ≡ flat_map (told_sends here e) (kept_session (record x { condition = condition }))
+      by_condition : (condition : Condition) → entry_sends wire_model s e (record x { condition = condition }) ≡ flat_map (entry_sends in_code s e) (kept_session (record x { condition = condition }))
       by_condition (Attached conn) =
-          ap (λ n. sends (Attached conn) n (owed here e x.viewer)) (sym (last_is x.sent)) ∙ sym (append_none (sends (Attached conn) (replay x.sent).last (owed here e x.viewer)))
+          ap (λ n. sends wire_text (Attached conn) n (due s e x.viewer)) (sym (last_is wire_text x.sent)) ∙ sym (append_none (sends wire_text (Attached conn) (replay wire_text x.sent).last (due s e x.viewer)))
       by_condition (Detached since) = refl
       by_condition Ended = refl
 
-  each_told : (xs : List (Session Sent)) → flat_map kept_session (map (after_entry seen g e) xs) ≡ map (told_more here e) (flat_map kept_session xs)
-  each_told [] = refl
-  each_told (x ∷ xs) =
-      ap (λ ys. ys ++ flat_map kept_session (map (after_entry seen g e) xs)) (one_told x)
-      ∙ (ap (λ ys. map (told_more here e) (kept_session x) ++ ys) (each_told xs) ∙ sym (map_join (told_more here e) (kept_session x) (flat_map kept_session xs)))
-
-  each_sends : (xs : List (Session Sent)) → flat_map (entry_sends seen g e) xs ≡ flat_map (told_sends here e) (flat_map kept_session xs)
+  pub each_sends : (xs : List (Session Sent)) → flat_map (entry_sends wire_model s e) xs ≡ flat_map (entry_sends in_code s e) (flat_map kept_session xs)
   each_sends [] = refl
   each_sends (x ∷ xs) =
-      ap (λ ys. ys ++ flat_map (entry_sends seen g e) xs) (one_sends x)
-      ∙ (ap (λ ys. flat_map (told_sends here e) (kept_session x) ++ ys) (each_sends xs) ∙ sym (flat_map_join (told_sends here e) (kept_session x) (flat_map kept_session xs)))
+      ap (λ ys. ys ++ flat_map (entry_sends wire_model s e) xs) (one_sends x)
+      ∙ (ap (λ ys. flat_map (entry_sends in_code s e) (kept_session x) ++ ys) (each_sends xs) ∙ sym (flat_map_join (entry_sends in_code s e) (kept_session x) (flat_map kept_session xs)))
 
-  one_spends : (x : Session Sent) → entry_spends seen g e x ≡ list_any (told_spends here e) (kept_session x)
+  one_spends : (x : Session Sent) → entry_spends wire_model s e x ≡ list_any (entry_spends in_code s e) (kept_session x)
   one_spends x = by_condition x.condition
     where
-      past : is_past (length x.sent.told) (length (owed here e x.viewer)) ≡ (is_past (replay x.sent).last (length (owed here e x.viewer)) || false)
-      past = ap (λ n. is_past n (length (owed here e x.viewer))) (sym (last_is x.sent)) ∙ sym (or_false (is_past (replay x.sent).last (length (owed here e x.viewer))))
+      past : is_past (length x.sent.told) (length (due s e x.viewer)) ≡ (is_past (replay wire_text x.sent).last (length (due s e x.viewer)) || false)
+      past = ap (λ n. is_past n (length (due s e x.viewer))) (sym (last_is wire_text x.sent)) ∙ sym (or_false (is_past (replay wire_text x.sent).last (length (due s e x.viewer))))
 
-      by_condition : (condition : Condition) → entry_spends seen g e (record x { condition = condition }) ≡ list_any (told_spends here e) (kept_session (record x { condition = condition }))
+      by_condition : (condition : Condition) → entry_spends wire_model s e (record x { condition = condition }) ≡ list_any (entry_spends in_code s e) (kept_session (record x { condition = condition }))
       by_condition (Attached conn) = past
       by_condition (Detached since) = past
       by_condition Ended = refl
 
-  each_spends : (xs : List (Session Sent)) → list_any (entry_spends seen g e) xs ≡ list_any (told_spends here e) (flat_map kept_session xs)
+  pub each_spends : (xs : List (Session Sent)) → list_any (entry_spends wire_model s e) xs ≡ list_any (entry_spends in_code s e) (flat_map kept_session xs)
   each_spends [] = refl
   each_spends (x ∷ xs) =
-      ap (λ b. b || list_any (entry_spends seen g e) xs) (one_spends x)
-      ∙ (ap (λ b. list_any (told_spends here e) (kept_session x) || b) (each_spends xs) ∙ sym (any_join (told_spends here e) (kept_session x) (flat_map kept_session xs)))
-
-  state_entered : state g (seen_with seen g e g) ≡ after here e
-  state_entered = simp (same_id g) (state_join (closed g) (seen g) (e ∷ []))
-
--- a look
-pub look_kept : (es : List Edit) (w : Worker) (g : ℕ) → flat_map kept_session (looked w g es).core.sessions ≡ kept_looked (state g (w.seen g)) es (flat_map kept_session w.core.sessions)
-look_kept [] w g = refl
-look_kept (e ∷ es) w g =
-    look_kept es (entered w g e) g
-    ∙ (ap (λ s. kept_looked s es (flat_map kept_session (map (after_entry w.seen g e) w.core.sessions))) (state_entered w.seen g e)
-    ∙ ap (λ xs. kept_looked (after (state g (w.seen g)) e) es xs) (each_told w.seen g e w.core.sessions))
-
-pub look_sent : (es : List Edit) (w : Worker) (g : ℕ) → look_sends w g es ≡ kept_sends (state g (w.seen g)) es (flat_map kept_session w.core.sessions)
-look_sent [] w g = refl
-look_sent (e ∷ es) w g =
-    ap (λ xs. xs ++ look_sends (entered w g e) g es) (each_sends w.seen g e w.core.sessions)
-    ∙ ap (λ xs. flat_map (told_sends (state g (w.seen g)) e) (flat_map kept_session w.core.sessions) ++ xs)
-    (look_sent es (entered w g e) g
-    ∙ (ap (λ s. kept_sends s es (flat_map kept_session (map (after_entry w.seen g e) w.core.sessions))) (state_entered w.seen g e)
-    ∙ ap (λ xs. kept_sends (after (state g (w.seen g)) e) es xs) (each_told w.seen g e w.core.sessions)))
-
-pub look_spent : (es : List Edit) (w : Worker) (g : ℕ) → look_spends w g es ≡ kept_spends (state g (w.seen g)) es (flat_map kept_session w.core.sessions)
-look_spent [] w g = refl
-look_spent (e ∷ es) w g =
-    ap (λ b. b || look_spends (entered w g e) g es) (each_spends w.seen g e w.core.sessions)
-    ∙ ap (λ b. list_any (told_spends (state g (w.seen g)) e) (flat_map kept_session w.core.sessions) || b)
-    (look_spent es (entered w g e) g
-    ∙ (ap (λ s. kept_spends s es (flat_map kept_session (map (after_entry w.seen g e) w.core.sessions))) (state_entered w.seen g e)
-    ∙ ap (λ xs. kept_spends (after (state g (w.seen g)) e) es xs) (each_told w.seen g e w.core.sessions)))
+      ap (λ b. b || list_any (entry_spends wire_model s e) xs) (one_spends x)
+      ∙ (ap (λ b. list_any (entry_spends in_code s e) (kept_session x) || b) (each_spends xs) ∙ sym (any_join (entry_spends in_code s e) (kept_session x) (flat_map kept_session xs)))
 
 -- the number of a connection's session is kept
 abbrev number_of : Session Sent → ℕ
@@ -190,17 +168,17 @@ named_kept worker id (x ∷ xs) = by_condition x.condition (named_kept worker id
     by_condition (Detached since) same = by_test (record x { condition = Detached since }) (bytes_eq (session_id worker x.number) id) _ _ same
     by_condition Ended same = same
 
-resume_by_kept : (r : Resume) (o : Option (Session Sent)) → resume_by replay r o ≡ resume_by as_kept r (option_map counted o)
+resume_by_kept : (r : Resume) (o : Option (Session Sent)) → resume_by (replay wire_text) r o ≡ resume_by as_kept r (option_map counted o)
 resume_by_kept r None = refl
 resume_by_kept r (Some x) = refl
 
-resume_kept : (s : State Sent) (r : Resume) → resume_answer replay s r ≡ resume_answer as_kept (kept s) r
+resume_kept : (s : State Sent) (r : Resume) → resume_answer (replay wire_text) s r ≡ resume_answer as_kept (kept s) r
 resume_kept s r = resume_by_kept r (session_named r.session s) ∙ ap (λ o. resume_by as_kept r o) (named_kept s.worker r.session s.sessions)
 
-pub move_kept : (s : State Sent) (now conn : ℕ) (text : List ℕ) → move_of replay s now conn text ≡ move_of as_kept (kept s) now conn text
+pub move_kept : (s : State Sent) (now conn : ℕ) (text : List ℕ) → move_of (replay wire_text) s now conn text ≡ move_of as_kept (kept s) now conn text
 move_kept s now conn text = by_connection (has_connection conn s) (is_rated conn now s)
   where
-    by_frame : (f : Frame) → move_before_session replay s f ≡ move_before_session as_kept (kept s) f
+    by_frame : (f : Frame) → move_before_session (replay wire_text) s f ≡ move_before_session as_kept (kept s) f
     by_frame (frame.Heartbeat seq) = refl
     by_frame (frame.Identify i) = ap (λ r. identify_move i r) (identified_kept s i)
     by_frame (frame.Resume r) = ap resume_move (resume_kept s r)
@@ -208,12 +186,12 @@ move_kept s now conn text = by_connection (has_connection conn s) (is_rated conn
     by_frame (frame.Voice ask) = refl
     by_frame (frame.Ask ask) = refl
 
-    by_read : (session : Option ℕ) (r : Result Frame FrameFault) → read_move replay s session r ≡ read_move as_kept (kept s) session r
+    by_read : (session : Option ℕ) (r : Result Frame FrameFault) → read_move (replay wire_text) s session r ≡ read_move as_kept (kept s) session r
     by_read session (Err fault) = refl
     by_read (Some number) (Ok f) = refl
     by_read None (Ok f) = by_frame f
 
-    by_connection : (b rated : Bool) → (if b then (if rated then ClosesWith 4008 else read_move replay s (number_on conn s) (frame_of text)) else Nothing)
+    by_connection : (b rated : Bool) → (if b then (if rated then ClosesWith 4008 else read_move (replay wire_text) s (number_on conn s) (frame_of text)) else Nothing)
         ≡ (if b then (if rated then ClosesWith 4008 else read_move as_kept (kept s) (number_on conn (kept s)) (frame_of text)) else Nothing)
     by_connection true false = by_read (number_on conn s) (frame_of text) ∙ ap (λ o. read_move as_kept (kept s) o (frame_of text)) (number_kept conn s.sessions)
     by_connection true true = refl
@@ -268,19 +246,19 @@ resumed_kept conn now number (Some older) s = ap (λ xs. record (gone older (Det
 
 -- what is kept of the dispatches that a session begins with
 abbrev pub begins_kept : Worker → Bot → Viewer → ℕ → Replay
-begins_kept w bot v n = replay (begins_with w bot v n)
+begins_kept w bot v n = replay wire_text (begins_with wire_model w bot v n)
 
-pub moved_kept : (w : Worker) (conn now : ℕ) (move : Move) → kept (moved conn now (begins_with w) move w.core) ≡ moved conn now (begins_kept w) move (kept w.core)
+pub moved_kept : (w : Worker) (conn now : ℕ) (move : Move) → kept (moved conn now (begins_with wire_model w) move w.core) ≡ moved conn now (begins_kept w) move (kept w.core)
 moved_kept w conn now Nothing = refl
 moved_kept w conn now Answers = refl
 moved_kept w conn now (ClosesWith code) = ap (λ xs. record (gone conn (Detached now) (kept w.core)) { sessions = xs }) (each_released conn now w.core.sessions)
 moved_kept w conn now (Begins bot v) = ap (λ xs. record (begun conn bot v (begins_kept w bot v) (kept w.core)) { sessions = xs })
-    (flat_map_join kept_session w.core.sessions (record { number = w.core.made + 1; token = bot.token; name = bot.name; viewer = v; condition = Attached conn; sent = begins_with w bot v (w.core.made + 1) } ∷ []))
+    (flat_map_join kept_session w.core.sessions (record { number = w.core.made + 1; token = bot.token; name = bot.name; viewer = v; condition = Attached conn; sent = begins_with wire_model w bot v (w.core.made + 1) } ∷ []))
 moved_kept w conn now Denies = refl
 moved_kept w conn now (Resumes number older seq held) = resumed_kept conn now number older w.core
 moved_kept w conn now (Wants number want) = refl
 
-pub framed_kept : (w : Worker) (conn now : ℕ) (move : Move) → kept (framed conn now (begins_with w) move w.core) ≡ framed conn now (begins_kept w) move (kept w.core)
+pub framed_kept : (w : Worker) (conn now : ℕ) (move : Move) → kept (framed conn now (begins_with wire_model w) move w.core) ≡ framed conn now (begins_kept w) move (kept w.core)
 framed_kept w conn now move = ap (frame_counted conn now) (moved_kept w conn now move)
 
 pub opened_kept : (s : State Sent) (conn now : ℕ) → kept (opened conn now s) ≡ opened conn now (kept s)
@@ -311,6 +289,24 @@ lost_kept s conn now = by_connection (has_connection conn s)
     by_connection : (b : Bool) → kept (if b then gone conn (Detached now) s else s) ≡ (if b then gone conn (Detached now) (kept s) else kept s)
     by_connection true = gone_kept s conn now
     by_connection false = refl
+
+filter_same : {A : Type 0} (p q : A → Bool) → ((x : A) → p x ≡ q x) → (xs : List A) → filter p xs ≡ filter q xs
+filter_same p q same [] = refl
+filter_same p q same (x ∷ xs) = ap (λ b. if b then x ∷ filter p xs else filter p xs) (same x) ∙ by_test (q x) (filter_same p q same xs)
+  where
+    by_test : (b : Bool) → filter p xs ≡ filter q xs → (if b then x ∷ filter p xs else filter p xs) ≡ (if b then x ∷ filter q xs else filter q xs)
+    by_test true rest = ap (λ ys. x ∷ ys) rest
+    by_test false rest = rest
+
+-- a connection has a session, or has none
+has_kept : (conn : ℕ) (s : State Sent) → has_session conn s ≡ has_session conn (kept s)
+has_kept conn s = same_there (session_on conn s) (session_on conn (kept s)) (number_kept conn s.sessions)
+  where
+    same_there : (o : Option (Session Sent)) (o' : Option (Session Replay)) → option_map number_of o ≡ option_map kept_number_of o' → is_some o ≡ is_some o'
+    same_there None None e = refl
+    same_there (Some x) (Some y) e = refl
+    same_there None (Some y) e = absurd (cc e)
+    same_there (Some x) None e = absurd (cc e)
 
 -- of a session that has ended nothing is kept
 abbrev forgotten : Session Replay → List (Session Replay)
@@ -363,3 +359,22 @@ module _ (last : Cursors) where
   ticked_kept s now =
       expired_kept (all_gone (silent_of now s.connections) now s) now
       ∙ ap (expired forgotten now) (all_gone_kept (silent_of now s.connections) now s)
+
+  ended_one : (x : Session Sent) → flat_map kept_session (ended_if_live (ended_at last) x) ≡ flat_map (ended_if_live forgotten) (kept_session x)
+  ended_one x = by_condition x.condition
+    where
+      by_condition : (condition : Condition) → flat_map kept_session (ended_if_live (ended_at last) (record x { condition = condition })) ≡ flat_map (ended_if_live forgotten) (kept_session (record x { condition = condition }))
+      by_condition (Attached c) = refl
+      by_condition (Detached since) = refl
+      by_condition Ended = refl
+
+  pub all_ended_kept : (s : State Sent) → kept (all_ended (ended_at last) s) ≡ all_ended forgotten (kept s)
+  all_ended_kept s =
+      ap (λ xs. record (kept s) { connections = filter (λ (l : Connection). not (has_session l.number s)) s.connections; sessions = xs })
+      (each_through kept_session (ended_if_live (ended_at last)) (ended_if_live forgotten) ended_one s.sessions)
+      ∙ ap (λ ls. record (kept s) { connections = ls; sessions = flat_map (ended_if_live forgotten) (flat_map kept_session s.sessions) })
+      (filter_same (λ (l : Connection). not (has_session l.number s)) (λ (l : Connection). not (has_session l.number (kept s))) (λ l. ap not (has_kept l.number s)) s.connections)
+
+pub session_conns_kept : (s : State Sent) → session_conns s ≡ session_conns (kept s)
+session_conns_kept s = ap (map connection_number)
+    (filter_same (λ (l : Connection). has_session l.number s) (λ (l : Connection). has_session l.number (kept s)) (λ l. has_kept l.number s) s.connections)

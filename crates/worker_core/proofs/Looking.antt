@@ -7,34 +7,35 @@ use Rattle.std.proofs.lemmas.Option.{get_or_from_slice_get, slice_get-map}
 use Rattle.guild_model.specs.Record.{Record}
 use Rattle.dispatch_types.specs.declared.dispatch.Dispatch.{Dispatch}
 use Rattle.dispatch_types.specs.declared.viewer.Viewer.{Viewer}
-use Rattle.dispatch_types.specs.Serves.{served}
 use Rattle.std.specs.Option.{is_none}
 use Rattle.guild_model.specs.declared.verdict.Verdict.{Verdict}
 use Rattle.edit_apply.specs.Edits.{verdict, accepts, applied, after, after_verdict}
 use Rattle.edit_apply.specs.declared.Edit.{Edit}
-use Rattle.edit_events.specs.Due.{owed, due_between}
-use Rattle.edit_events.specs.Was.{was_of}
+use Rattle.edit_events.specs.Due.{due, due_of_accepted}
 use Rattle.replay_ring.specs.Replay.{Replay}
 use Rattle.session_core.specs.State.{State, Session, Condition, Attached, Detached, Ended}
-use Rattle.worker_core.specs.World.{sends}
-use Rattle.worker_core.specs.Kept.{told_more, told_sends, kept_looked, kept_sends}
-use Rattle.worker_core.specs.Outputs.{written, all_written}
-use Rattle.worker_core.specs.Spent.{is_past, told_spends, kept_spends}
-use Rattle.worker_core.specs.Telling.{FaultBy, further, kept_with, IsAt, TellsAt, FailsAt, TellsEach, FailsEach}
 use Rattle.worker_core.specs.declared.io.Output.{Output as Written}
 use Rattle.worker_core.specs.declared.io.StepFault.{StepFault}
 use Rattle.worker_core.specs.declared.io.StepFault.TheVariants.{Spent, Memory}
-use Rattle.worker_core.proofs.Lists.{append_none, map_join}
-use Rattle.worker_core.proofs.Kept.{any_join, flat_map_join}
+use Rattle.worker_core.specs.Telling.{FailsAt, FailsEach, IsAt, TellsAt, TellsEach, further}
+use Rattle.worker_core.specs.Represents.{FaultBy}
+use Rattle.worker_core.proofs.Picking.{Item, as_many_picked, at_index, item_at}
 use Rattle.worker_core.specs.Recipients.{Picks, picked_by, viewer_of}
-use Rattle.worker_core.proofs.Picking.{Item, item_at, at_index, as_many_picked}
-use Rattle.worker_core.proofs.Telling.{last_taken, rest_dropped, past_no}
+use Rattle.worker_core.specs.Outputs.{all_written, written}
+use Rattle.worker_core.proofs.Kept.{any_join, flat_map_join}
+use Rattle.world_law.proofs.Lists.{append_none, map_join}
+use Rattle.world_law.specs.Spent.{is_past}
+use Rattle.worker_core.specs.Looked.{kept_looked, kept_sends, kept_spends, told_more, told_sends, told_spends}
+use Rattle.worker_core.proofs.Telling.{last_taken, past_no, rest_dropped}
+use Rattle.world_law.specs.Outputs.{sends}
+use Rattle.worker_core.specs.InCode.{wire_text}
+use Rattle.world_law.specs.Keeping.{with_sessions}
 
--- what is owed to the session at an index, where it is picked by its viewer
-pub owed_at : (s : Record) (e : Edit) (viewers : List Viewer) (whose : List ℕ) (told : List (List Dispatch)) (which : List ℕ) (xs : List (Session Replay)) (i k d : ℕ) → i < length xs → (here : Item xs i)
-    → Picks viewers whose (map viewer_of xs) → Picks told which (map (owed s e) viewers) → k ≡ get_or whose i d
-    → picked_by told (slice_get which k) ≡ Some (owed s e here.item.viewer)
-owed_at s e viewers whose told which xs i k d lt here recipients picks is =
+-- what is due to the session at an index, where it is picked by its viewer
+pub due_at : (s : Record) (e : Edit) (viewers : List Viewer) (whose : List ℕ) (told : List (List Dispatch)) (which : List ℕ) (xs : List (Session Replay)) (i k d : ℕ) → i < length xs → (here : Item xs i)
+    → Picks viewers whose (map viewer_of xs) → Picks told which (map (due s e) viewers) → k ≡ get_or whose i d
+    → picked_by told (slice_get which k) ≡ Some (due s e here.item.viewer)
+due_at s e viewers whose told which xs i k d lt here recipients picks is =
     let v : Viewer = here.item.viewer in
     let many : length whose ≡ length xs = as_many_picked viewers whose (map viewer_of xs) recipients ∙ length-map xs viewer_of in
     let index = item_at whose i (omega (arith, lt, many)) in
@@ -42,16 +43,16 @@ owed_at s e viewers whose told which xs i k d lt here recipients picks is =
     let mine : slice_get (map viewer_of xs) i ≡ Some v = slice_get-map viewer_of xs i ∙ ap (option_map viewer_of) here.found in
     let found : slice_get viewers k ≡ Some v =
     ap (slice_get viewers) same ∙ (ap (picked_by viewers) (sym index.found) ∙ at_index viewers whose (map viewer_of xs) i v recipients mine) in
-    at_index told which (map (owed s e) viewers) k (owed s e v) picks (slice_get-map (owed s e) viewers k ∙ ap (option_map (owed s e)) found)
+    at_index told which (map (due s e) viewers) k (due s e v) picks (slice_get-map (due s e) viewers k ∙ ap (option_map (due s e)) found)
 
 -- the viewers of sessions stay
 pub viewers_stay : (s : Record) (e : Edit) (xs : List (Session Replay)) → map viewer_of (map (told_more s e) xs) ≡ map viewer_of xs
 viewers_stay s e [] = refl
 viewers_stay s e (x ∷ xs) = ap (λ vs. x.viewer ∷ vs) (viewers_stay s e xs)
 
-pub owed_accepted : (s : Record) (e : Edit) (v : Viewer) → accepts s e ≡ true → due_between (applied s e) v (was_of s v e) (served v (applied s e)) e ≡ owed s e v
-unfolding owed
-owed_accepted s e v accepted = simp accepted refl
+pub due_accepted : (s : Record) (e : Edit) (v : Viewer) → accepts s e ≡ true → due_of_accepted s e v ≡ due s e v
+unfolding due
+due_accepted s e v accepted = simp accepted refl
 
 pub after_accepted : (s : Record) (e : Edit) → accepts s e ≡ true → after s e ≡ applied s e
 after_accepted s e accepted = made (verdict s e) accepted
@@ -60,9 +61,9 @@ after_accepted s e accepted = made (verdict s e) accepted
     made None fine = refl
     made (Some v) fine = absurd (cc)
 
-owed_refused : (s : Record) (e : Edit) (v : Viewer) → accepts s e ≡ false → owed s e v ≡ []
-unfolding owed
-owed_refused s e v refused = simp refused refl
+due_refused : (s : Record) (e : Edit) (v : Viewer) → accepts s e ≡ false → due s e v ≡ []
+unfolding due
+due_refused s e v refused = simp refused refl
 
 module _ (s : Record) (e : Edit) (old : State Replay) where
   abbrev xs : List (Session Replay)
@@ -70,11 +71,11 @@ module _ (s : Record) (e : Edit) (old : State Replay) where
 
   -- the sessions before an index are told
   pub record SentDispatch (i : ℕ) (mid : State Replay) (before outm : List Written) : Type 0 where
-    pub sessions : mid ≡ kept_with (map (told_more s e) (take i xs) ++ drop i xs) old
+    pub sessions : mid ≡ with_sessions (map (told_more s e) (take i xs) ++ drop i xs) old
     pub out : outm ≡ before ++ all_written (flat_map (told_sends s e) (take i xs))
     pub counted : list_any (told_spends s e) (take i xs) ≡ false
 
-  module _ (ds : List Dispatch) (mid : State Replay) (before outm : List Written) (i : ℕ) (lt : i < length xs) (here : Item xs i) (told : SentDispatch i mid before outm) (due : ds ≡ owed s e here.item.viewer) where
+  module _ (ds : List Dispatch) (mid : State Replay) (before outm : List Written) (i : ℕ) (lt : i < length xs) (here : Item xs i) (told : SentDispatch i mid before outm) (is_due : ds ≡ due s e here.item.viewer) where
     between : IsAt i (map (told_more s e) (take i xs)) here.item (drop (i + 1) xs) mid
     between = (
       ap (λ (m : State Replay). m.sessions) told.sessions ∙ ap (λ ys. map (told_more s e) (take i xs) ++ ys) (rest_dropped xs i here.item lt here.read),
@@ -88,14 +89,14 @@ module _ (s : Record) (e : Edit) (old : State Replay) where
         let taken = last_taken xs i x lt here.read in
         record {
           sessions = step.0
-              ∙ (ap (λ ds. kept_with (map (told_more s e) (take i xs) ++ further ds x ∷ drop (i + 1) xs) mid) due
-              ∙ (ap (λ (m : State Replay). kept_with (map (told_more s e) (take i xs) ++ told_more s e x ∷ drop (i + 1) xs) m) told.sessions
-              ∙ ap (λ ys. kept_with ys old)
+              ∙ (ap (λ ds. with_sessions (map (told_more s e) (take i xs) ++ further ds x ∷ drop (i + 1) xs) mid) is_due
+              ∙ (ap (λ (m : State Replay). with_sessions (map (told_more s e) (take i xs) ++ told_more s e x ∷ drop (i + 1) xs) m) told.sessions
+              ∙ ap (λ ys. with_sessions ys old)
               (sym (append_assoc (map (told_more s e) (take i xs)) (told_more s e x ∷ []) (drop (i + 1) xs))
               ∙ ap (λ ys. ys ++ drop (i + 1) xs) (sym (map_join (told_more s e) (take i xs) (x ∷ [])) ∙ ap (map (told_more s e)) (sym taken)))));
           out = step.1.0
-              ∙ (ap (λ ws. ws ++ all_written (sends x.condition x.sent.last ds)) told.out
-              ∙ (ap (λ ds. (before ++ all_written (flat_map (told_sends s e) (take i xs))) ++ all_written (sends x.condition x.sent.last ds)) due
+              ∙ (ap (λ ws. ws ++ all_written (sends wire_text x.condition x.sent.last ds)) told.out
+              ∙ (ap (λ ds. (before ++ all_written (flat_map (told_sends s e) (take i xs))) ++ all_written (sends wire_text x.condition x.sent.last ds)) is_due
               ∙ (append_assoc before (all_written (flat_map (told_sends s e) (take i xs))) (all_written (told_sends s e x))
               ∙ ap (λ ws. before ++ ws)
               (sym (map_join written (flat_map (told_sends s e) (take i xs)) (told_sends s e x))
@@ -103,7 +104,7 @@ module _ (s : Record) (e : Edit) (old : State Replay) where
               (ap (λ os. flat_map (told_sends s e) (take i xs) ++ os) (sym (append_none (told_sends s e x)))
               ∙ (sym (flat_map_join (told_sends s e) (take i xs) (x ∷ [])) ∙ ap (flat_map (told_sends s e)) (sym taken)))))));
           counted =
-              let one : told_spends s e x ≡ false = ap (λ ds. is_past x.sent.last (length ds)) (sym due) ∙ step.1.1 in
+              let one : told_spends s e x ≡ false = ap (λ ds. is_past x.sent.last (length ds)) (sym is_due) ∙ step.1.1 in
               ap (list_any (told_spends s e)) taken ∙ (any_join (told_spends s e) (take i xs) (x ∷ [])
               ∙ (ap (λ b. b || list_any (told_spends s e) (x ∷ [])) told.counted ∙ ap (λ b. b || false) one));
         }
@@ -112,7 +113,7 @@ module _ (s : Record) (e : Edit) (old : State Replay) where
     each_fails Memory fails = tt
     each_fails Spent fails =
         let x = here.item in
-        let past : told_spends s e x ≡ true = ap (λ ds. is_past x.sent.last (length ds)) (sym due) ∙ fails (map (told_more s e) (take i xs)) (drop (i + 1) xs) x between in
+        let past : told_spends s e x ≡ true = ap (λ ds. is_past x.sent.last (length ds)) (sym is_due) ∙ fails (map (told_more s e) (take i xs)) (drop (i + 1) xs) x between in
         let whole : xs ≡ take i xs ++ x ∷ drop (i + 1) xs = sym (take-append-drop i xs) ∙ ap (λ ys. take i xs ++ ys) (rest_dropped xs i x lt here.read) in
         ap (list_any (told_spends s e)) whole ∙ (any_join (told_spends s e) (take i xs) (x ∷ drop (i + 1) xs)
         ∙ (ap (λ b. list_any (told_spends s e) (take i xs) || (b || list_any (told_spends s e) (drop (i + 1) xs))) past
@@ -125,34 +126,34 @@ module _ (s : Record) (e : Edit) (old : State Replay) where
   -- a refused entry tells nothing
   pub none_told : accepts s e ≡ false → (before : List Written) → TellsEach s e old old before before
   none_told refused before = (
-    ap (λ ys. kept_with ys old) (sym (same xs)),
+    ap (λ ys. with_sessions ys old) (sym (same xs)),
     (sym (ap (λ os. before ++ all_written os) (silent xs) ∙ append_none before), uncounted xs),
   )
     where
       one : (x : Session Replay) → told_more s e x ≡ x
-      one x = ap (λ ds. further ds x) (owed_refused s e x.viewer refused)
+      one x = ap (λ ds. further ds x) (due_refused s e x.viewer refused)
 
       same : (ys : List (Session Replay)) → map (told_more s e) ys ≡ ys
       same [] = refl
       same (y ∷ ys) = ap (λ z. z ∷ map (told_more s e) ys) (one y) ∙ ap (λ zs. y ∷ zs) (same ys)
 
-      nothing : (p : Condition) (n : ℕ) → sends p n [] ≡ []
+      nothing : (p : Condition) (n : ℕ) → sends wire_text p n [] ≡ []
       nothing (Attached conn) n = refl
       nothing (Detached since) n = refl
       nothing Ended n = refl
 
       silent : (ys : List (Session Replay)) → flat_map (told_sends s e) ys ≡ []
       silent [] = refl
-      silent (y ∷ ys) = ap (λ os. os ++ flat_map (told_sends s e) ys) (ap (λ ds. sends y.condition y.sent.last ds) (owed_refused s e y.viewer refused) ∙ nothing y.condition y.sent.last) ∙ silent ys
+      silent (y ∷ ys) = ap (λ os. os ++ flat_map (told_sends s e) ys) (ap (λ ds. sends wire_text y.condition y.sent.last ds) (due_refused s e y.viewer refused) ∙ nothing y.condition y.sent.last) ∙ silent ys
 
       uncounted : (ys : List (Session Replay)) → list_any (told_spends s e) ys ≡ false
       uncounted [] = refl
-      uncounted (y ∷ ys) = ap (λ b. b || list_any (told_spends s e) ys) (ap (λ ds. is_past y.sent.last (length ds)) (owed_refused s e y.viewer refused) ∙ past_no y.sent.last) ∙ uncounted ys
+      uncounted (y ∷ ys) = ap (λ b. b || list_any (told_spends s e) ys) (ap (λ ds. is_past y.sent.last (length ds)) (due_refused s e y.viewer refused) ∙ past_no y.sent.last) ∙ uncounted ys
 
 -- one entry more
 module _ (g : Record) (e : Edit) (es : List Edit) (old new : State Replay) (before out : List Written) (told : TellsEach g e old new before out) where
-  pub looked_more : kept_with (kept_looked (after g e) es new.sessions) new ≡ kept_with (kept_looked g (e ∷ es) old.sessions) old
-  looked_more = ap (λ (n : State Replay). kept_with (kept_looked (after g e) es n.sessions) n) told.0
+  pub looked_more : with_sessions (kept_looked (after g e) es new.sessions) new ≡ with_sessions (kept_looked g (e ∷ es) old.sessions) old
+  looked_more = ap (λ (n : State Replay). with_sessions (kept_looked (after g e) es n.sessions) n) told.0
 
   pub sent_more : out ++ all_written (kept_sends (after g e) es new.sessions) ≡ before ++ all_written (kept_sends g (e ∷ es) old.sessions)
   sent_more =

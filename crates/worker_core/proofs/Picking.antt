@@ -3,9 +3,9 @@ use Rattle.std.proofs.Common.{◌≡◌, ℕ, zero, suc, ◌+◌, ◌<◌, List,
 use Rattle.std.specs.Prelude.{slice_get}
 use Rattle.std.proofs.lemmas.List.{length-map}
 use Rattle.std.proofs.lemmas.Option.{get_or_from_slice_get}
-use Rattle.worker_core.specs.Recipients.{Picks, IsLonger, picked_by}
-use Rattle.worker_core.proofs.Lists.{map_join}
-use Rattle.worker_core.proofs.Telling.{split_at, get_at, last_taken}
+use Rattle.worker_core.specs.Recipients.{IsLonger, Picks, picked_by}
+use Rattle.worker_core.proofs.Telling.{get_at, last_taken, split_at}
+use Rattle.world_law.proofs.Lists.{map_join}
 
 -- what stands in a list at an index
 pub record Item {A : Type 0} (xs : List A) (i : ℕ) : Type 0 where

@@ -13,15 +13,17 @@ use Rattle.std.proofs.lemmas.Bool.Decides.{nat_tests}
 use Rattle.dispatch_types.specs.declared.dispatch.Dispatch.{Dispatch}
 use Rattle.session_core.specs.State.{State, Session, Condition, Attached, Detached, Ended, attached}
 use Rattle.session_core.specs.Pushes.{next_number, further_by, pushed_at}
-use Rattle.worker_core.specs.World.{Tells, sends, texts_from}
-use Rattle.worker_core.specs.Outputs.{written, all_written}
-use Rattle.worker_core.specs.Spent.{is_past}
-use Rattle.worker_core.specs.Telling.{further, kept_with, sent_to, IsAt, TellsAt, FailsAt}
 use Rattle.worker_core.specs.declared.io.Output.{Output as Written}
 use Rattle.worker_core.specs.declared.io.StepFault.{StepFault}
 use Rattle.worker_core.specs.declared.io.StepFault.TheVariants.{Spent, Memory}
-use Rattle.worker_core.proofs.Lists.{map_join}
-use Rattle.worker_core.proofs.Replays.{texts_join, length_texts}
+use Rattle.worker_core.specs.Telling.{FailsAt, IsAt, TellsAt, further, sent_to}
+use Rattle.world_law.specs.Outputs.{Sends, sends, texts_from}
+use Rattle.worker_core.specs.Outputs.{all_written, written}
+use Rattle.world_law.specs.Spent.{is_past}
+use Rattle.world_law.proofs.Replays.{length_texts, texts_join}
+use Rattle.world_law.proofs.Lists.{map_join}
+use Rattle.worker_core.specs.InCode.{wire_text}
+use Rattle.world_law.specs.Keeping.{with_sessions}
 
 one_more : (i : ℕ) → i + 1 ≡ suc i
 one_more i = omega arith
@@ -51,9 +53,9 @@ split_at (x ∷ xs) (suc i) lt =
 
 -- one text kept
 pushed_is : (index : ℕ) (text : List ℕ) (front : List (Session Replay)) (x : Session Replay) (back : List (Session Replay)) (old : State Replay) → IsAt index front x back old
-    → pushed_at index text old ≡ kept_with (front ++ further_by text x ∷ back) old
+    → pushed_at index text old ≡ with_sessions (front ++ further_by text x ∷ back) old
 pushed_is index text front x back old at =
-    ap (λ xs. kept_with xs old)
+    ap (λ xs. with_sessions xs old)
     (ap (λ xs. option_map_or (λ y. slice_set xs index (further_by text y)) (slice_get xs index) xs) at.0
     ∙ (ap (λ n. option_map_or (λ y. slice_set (front ++ x ∷ back) n (further_by text y)) (slice_get (front ++ x ∷ back) n) (front ++ x ∷ back)) at.1
     ∙ (ap (λ o. option_map_or (λ y. slice_set (front ++ x ∷ back) (length front) (further_by text y)) o (front ++ x ∷ back)) (get_at front x back)
@@ -65,24 +67,24 @@ last_pushed r [] = omega arith
 last_pushed r (t ∷ texts) = last_pushed (pushed r t) texts ∙ omega arith
 
 last_further : (ds : List Dispatch) (x : Session Replay) → (further ds x).sent.last ≡ x.sent.last + length ds
-last_further ds x = last_pushed x.sent (texts_from x.sent.last ds) ∙ ap (λ n. x.sent.last + n) (length_texts x.sent.last ds)
+last_further ds x = last_pushed x.sent (texts_from wire_text x.sent.last ds) ∙ ap (λ n. x.sent.last + n) (length_texts wire_text x.sent.last ds)
 
 -- dispatches more, and then more
 further_join : (ds es : List Dispatch) (x : Session Replay) → further es (further ds x) ≡ further (ds ++ es) x
 further_join ds es x =
-    ap (λ n. record x { sent = pushed_all (further ds x).sent (texts_from n es) }) (last_further ds x)
+    ap (λ n. record x { sent = pushed_all (further ds x).sent (texts_from wire_text n es) }) (last_further ds x)
     ∙ ap (λ r. record x { sent = r })
-    (sym (fold-append pushed x.sent (texts_from x.sent.last ds) (texts_from (x.sent.last + length ds) es)) ∙ ap (pushed_all x.sent) (sym (texts_join x.sent.last ds es)))
+    (sym (fold-append pushed x.sent (texts_from wire_text x.sent.last ds) (texts_from wire_text (x.sent.last + length ds) es)) ∙ ap (pushed_all x.sent) (sym (texts_join wire_text x.sent.last ds es)))
 
 pub found_at : (index : ℕ) (front : List (Session Replay)) (x : Session Replay) (back : List (Session Replay)) (old : State Replay) → IsAt index front x back old
     → slice_get old.sessions index ≡ Some x
 found_at index front x back old at = ap (λ xs. slice_get xs index) at.0 ∙ (ap (λ n. slice_get (front ++ x ∷ back) n) at.1 ∙ get_at front x back)
 
 -- what goes out of two lists of dispatches
-pub sends_join : (condition : Condition) (n : ℕ) (ds es : List Dispatch) → sends condition n (ds ++ es) ≡ sends condition n ds ++ sends condition (n + length ds) es
-sends_join (Attached conn) n [] es = ap (λ m. sends (Attached conn) m es) (omega arith)
-sends_join (Attached conn) n (d ∷ ds) es = ap (λ out. Tells conn (n + 1) d ∷ out)
-    (sends_join (Attached conn) (n + 1) ds es ∙ ap (λ m. sends (Attached conn) (n + 1) ds ++ sends (Attached conn) m es) (omega arith))
+pub sends_join : (condition : Condition) (n : ℕ) (ds es : List Dispatch) → sends wire_text condition n (ds ++ es) ≡ sends wire_text condition n ds ++ sends wire_text condition (n + length ds) es
+sends_join (Attached conn) n [] es = ap (λ m. sends wire_text (Attached conn) m es) (omega arith)
+sends_join (Attached conn) n (d ∷ ds) es = ap (λ out. Sends conn (wire_text (n + 1) d) ∷ out)
+    (sends_join (Attached conn) (n + 1) ds es ∙ ap (λ m. sends wire_text (Attached conn) (n + 1) ds ++ sends wire_text (Attached conn) m es) (omega arith))
 sends_join (Detached since) n ds es = refl
 sends_join Ended n ds es = refl
 
@@ -114,14 +116,14 @@ module _ (index : ℕ) (ds : List Dispatch) (d : Dispatch) (old mid : State Repl
       let count : length (ds ++ d ∷ []) ≡ length ds + 1 = length-append ds (d ∷ []) in
       let last : (further ds x).sent.last ≡ x.sent.last + length ds = last_further ds x in (
         after.0
-            ∙ (ap (λ (s : State Replay). kept_with (front ++ further (d ∷ []) (further ds x) ∷ back) s) first.0
-            ∙ ap (λ (y : Session Replay). kept_with (front ++ y ∷ back) old) (further_join ds (d ∷ []) x)),
+            ∙ (ap (λ (s : State Replay). with_sessions (front ++ further (d ∷ []) (further ds x) ∷ back) s) first.0
+            ∙ ap (λ (y : Session Replay). with_sessions (front ++ y ∷ back) old) (further_join ds (d ∷ []) x)),
         (
-          after.1.0 ∙ (ap (λ ws. ws ++ all_written (sends x.condition (further ds x).sent.last (d ∷ []))) first.1.0
-              ∙ (ap (λ n. (before ++ all_written (sends x.condition x.sent.last ds)) ++ all_written (sends x.condition n (d ∷ []))) last
-              ∙ (append_assoc before (all_written (sends x.condition x.sent.last ds)) (all_written (sends x.condition (x.sent.last + length ds) (d ∷ [])))
+          after.1.0 ∙ (ap (λ ws. ws ++ all_written (sends wire_text x.condition (further ds x).sent.last (d ∷ []))) first.1.0
+              ∙ (ap (λ n. (before ++ all_written (sends wire_text x.condition x.sent.last ds)) ++ all_written (sends wire_text x.condition n (d ∷ []))) last
+              ∙ (append_assoc before (all_written (sends wire_text x.condition x.sent.last ds)) (all_written (sends wire_text x.condition (x.sent.last + length ds) (d ∷ [])))
               ∙ ap (λ ws. before ++ ws)
-              (sym (map_join written (sends x.condition x.sent.last ds) (sends x.condition (x.sent.last + length ds) (d ∷ [])))
+              (sym (map_join written (sends wire_text x.condition x.sent.last ds) (sends wire_text x.condition (x.sent.last + length ds) (d ∷ [])))
               ∙ ap all_written (sym (sends_join x.condition x.sent.last ds (d ∷ []))))))),
           ap (λ n. is_past x.sent.last n) count ∙ (sym (past_step x.sent.last (length ds)) ∙ (ap (λ n. is_past n 1) (sym last) ∙ after.1.1)),
         ),
@@ -151,7 +153,7 @@ tells_one index d old new number conn text before out by fits goes is kept sent 
       ),
     )
   where
-    by_condition : (p : Condition) → sent_to (attached p) (compact_text (data_of d (x.sent.last + 1))) ≡ all_written (sends p x.sent.last (d ∷ []))
+    by_condition : (p : Condition) → sent_to (attached p) (compact_text (data_of d (x.sent.last + 1))) ≡ all_written (sends wire_text p x.sent.last (d ∷ []))
     by_condition (Attached c) = refl
     by_condition (Detached since) = refl
     by_condition Ended = refl

@@ -1,3 +1,4 @@
+-- internal: cited by private functions only
 -- What is left by a call that sends dispatches to sessions by their indexes.
 use Rattle.std.specs.Prelude.{◌≡◌, ℕ, List, [], ◌∷◌, ◌++◌, Option, Some, None, Bool, true, false, length, map, flat_map}
 use Rattle.std.specs.List.{list_any}
@@ -5,20 +6,17 @@ use Rattle.guild_model.specs.Record.{Record}
 use Rattle.dispatch_types.specs.declared.dispatch.Dispatch.{Dispatch}
 use Rattle.edit_apply.specs.declared.Edit.{Edit}
 use Rattle.session_core.specs.State.{State, Session}
-use Rattle.replay_ring.specs.Replay.{Replay, pushed_all}
-use Rattle.worker_core.specs.World.{sends, texts_from}
-use Rattle.worker_core.specs.Kept.{told_more, told_sends}
+use Rattle.replay_ring.specs.Replay.{Replay}
+use Rattle.world_law.specs.Keeping.{with_sessions}
+use Rattle.world_law.specs.Outputs.{sends}
+use Rattle.world_law.specs.Spent.{is_past}
+use Rattle.worker_core.specs.InCode.{wire_text, held_with}
+use Rattle.worker_core.specs.Represents.{FaultBy}
 use Rattle.worker_core.specs.Outputs.{all_written}
-use Rattle.worker_core.specs.Spent.{is_past, told_spends}
+use Rattle.worker_core.specs.Looked.{told_more, told_sends, told_spends}
 use Rattle.worker_core.specs.declared.io.Output.{Output as Written}
 use Rattle.worker_core.specs.declared.io.Output.TheVariants.{Send}
 use Rattle.worker_core.specs.declared.io.StepFault.{StepFault}
-use Rattle.worker_core.specs.declared.io.StepFault.TheVariants.{Spent, Memory}
-
--- a fault that says that a count is spent says so rightly
-abbrev pub FaultBy : Bool → StepFault → Type 0
-FaultBy spent Spent = spent ≡ true
-FaultBy spent Memory = Unit {0}
 
 -- a text on its way to a connection, if there is one
 abbrev pub sent_to : Option ℕ → List ℕ → List Written
@@ -27,10 +25,7 @@ sent_to (Some conn) text = Send conn text ∷ []
 
 -- with these dispatches more
 abbrev pub further : List Dispatch → Session Replay → Session Replay
-further ds x = record x { sent = pushed_all x.sent (texts_from x.sent.last ds) }
-
-abbrev pub kept_with : List (Session Replay) → State Replay → State Replay
-kept_with xs s = record s { sessions = xs }
+further ds x = record x { sent = held_with ds x.sent }
 
 -- the session at this index stands between these
 abbrev pub IsAt : ℕ → List (Session Replay) → Session Replay → List (Session Replay) → State Replay → Type 0
@@ -40,8 +35,8 @@ module _ (index : ℕ) (due : Session Replay → List Dispatch) (old : State Rep
   -- the session at the index is sent what is due to it
   abbrev pub TellsAt : State Replay → List Written → List Written → Type 0
   TellsAt new before out = (front back : List (Session Replay)) (x : Session Replay) → IsAt index front x back old
-      → (new ≡ kept_with (front ++ further (due x) x ∷ back) old)
-      × ((out ≡ before ++ all_written (sends x.condition x.sent.last (due x))) × (is_past x.sent.last (length (due x)) ≡ false))
+      → (new ≡ with_sessions (front ++ further (due x) x ∷ back) old)
+      × ((out ≡ before ++ all_written (sends wire_text x.condition x.sent.last (due x))) × (is_past x.sent.last (length (due x)) ≡ false))
 
   abbrev pub FailsAt : StepFault → Type 0
   FailsAt fault = (front back : List (Session Replay)) (x : Session Replay) → IsAt index front x back old → FaultBy (is_past x.sent.last (length (due x))) fault
@@ -49,7 +44,7 @@ module _ (index : ℕ) (due : Session Replay → List Dispatch) (old : State Rep
 -- each session is sent what an entry owes to it
 module _ (s : Record) (e : Edit) (old : State Replay) where
   abbrev pub TellsEach : State Replay → List Written → List Written → Type 0
-  TellsEach new before out = (new ≡ kept_with (map (told_more s e) old.sessions) old)
+  TellsEach new before out = (new ≡ with_sessions (map (told_more s e) old.sessions) old)
       × ((out ≡ before ++ all_written (flat_map (told_sends s e) old.sessions)) × (list_any (told_spends s e) old.sessions ≡ false))
 
   abbrev pub FailsEach : StepFault → Type 0

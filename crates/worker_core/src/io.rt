@@ -4,6 +4,7 @@ ghost use Rattle.std.specs.Prelude.{◌≡◌, [], ◌∷◌, ◌++◌, OnOk};
 
 use collections::{Seq, Text};
 use edit_apply::Edit;
+use guild_model::Guild;
 use payload_text::Payload;
 use session_core::{SessionFault, Spent};
 use snowflake_id::Snowflake;
@@ -14,6 +15,9 @@ use std::alloc::AllocError;
 pub enum Input {
     /// The entries of a guild's log that follow those that the worker has looked at, in order.
     Look(Snowflake, Seq<Edit>),
+    /// A log of which the worker has missed too much: how many entries its base has, the record after
+    /// these, and the entries that follow them.
+    Rebase(Snowflake, u64, Guild, Seq<Edit>),
     /// A client has connected; its connection has this number.
     Open(u32),
     /// A text has come on a connection.

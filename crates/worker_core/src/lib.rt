@@ -1,16 +1,15 @@
-//! Workers that follow the logs of guilds and serve sessions: the model of a world of them, the laws over
-//! every run, and the worker itself.
+//! Workers that follow the logs of guilds and serve sessions. The model of a world of them, and its law, stand in
+//! `world_law`.
 #![tactic(auto)]
 
+mod due;
 mod form_index;
 pub mod io;
-pub mod law;
 mod look;
 mod ready;
 mod recipients;
 pub mod replica;
 mod tell;
-mod told;
 mod wish;
 pub mod worker;
 

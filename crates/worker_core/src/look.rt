@@ -2,17 +2,20 @@
 
 ghost use Rattle.std.specs.Prelude.{◌≡◌, ◌++◌, true, false, length, map, IfOk, OnOk, MatchResult};
 ghost use Rattle.guild_model.specs.Record.{Record};
-ghost use Rattle.edit_apply.specs.Edits.{accepts, applied, after, state_from};
+ghost use Rattle.edit_apply.specs.declared.Edit.{Edit};
+ghost use Rattle.edit_apply.specs.Edits.{after, state_from};
+ghost use Rattle.edit_events.specs.Due.{due};
 ghost use Rattle.edit_events.specs.Was.{was_of};
 ghost use Rattle.worker_core.specs.Recipients.{Picks, viewer_of};
-ghost use Rattle.worker_core.specs.Kept.{kept_looked, kept_sends};
+ghost use Rattle.world_law.specs.Keeping.{with_sessions};
+ghost use Rattle.worker_core.specs.Looked.{kept_looked, kept_sends, kept_spends};
 ghost use Rattle.worker_core.specs.Outputs.{all_written};
-ghost use Rattle.worker_core.specs.Spent.{kept_spends};
-ghost use Rattle.worker_core.specs.Telling.{TellsEach, FailsEach, FaultBy, kept_with};
+ghost use Rattle.worker_core.specs.Represents.{FaultBy};
+ghost use Rattle.worker_core.specs.Telling.{TellsEach, FailsEach};
 
+use crate::due::DueDispatches;
 use crate::io::{Output, StepFault};
 use crate::recipients::Recipients;
-use crate::told::Owed;
 use dispatch_types::Viewer;
 use edit_apply::{Edit, judge, make};
 use edit_events::{Was, note};
@@ -36,26 +39,32 @@ fn notes(
     Ok(notes)
 }
 
-/// An accepted entry, told to each session, by the record after it and the notes of that before it.
+/// What an accepted entry owes, sent to each session.
 fn tell_each(
-    alloc: Global,
-    guild: &Guild,
-    entry: &Edit,
-    notes: &[Was],
+    lists: &DueDispatches,
     recipients: &Recipients,
     sessions: &mut Sessions,
     out: &mut Vec<Output>,
 ) -> Result<(), StepFault>
-    requires notes { length notes.now ≡ length recipients.now.viewers.items }
-    requires recipients { Picks recipients.now.viewers.items recipients.now.whose.items (map viewer_of sessions.old.sessions) }
-    ensures { (s : Record) → notes.now ≡ map (λ v. was_of s v entry.now) recipients.now.viewers.items → guild.now ≡ applied s entry.now → accepts s entry.now ≡ true
-        → MatchResult result (λ _. TellsEach s entry.now sessions.old sessions.new out.old.items out.new.items) (FailsEach s entry.now sessions.old) }
+    requires { Picks recipients.now.viewers.items recipients.now.whose.items (map viewer_of sessions.old.sessions) }
+    ensures { (s : Record) (e : Edit) → Picks lists.now.told.items lists.now.whose.items (map (due s e) recipients.now.viewers.items)
+        → MatchResult result (λ _. TellsEach s e sessions.old sessions.new out.old.items out.new.items) (FailsEach s e sessions.old) }
 {
-    let owed = Owed::of(alloc, guild, entry, notes, recipients.viewers.as_slice())?;
     let whose = recipients.whose.as_slice();
     for index in 0..whose.len() {
-        owed.tell(whose[index], sessions, index, out)?;
+        lists.tell(whose[index], sessions, index, out)?;
     }
+    Ok(())
+}
+
+/// The record after an entry. An entry that is refused changes nothing.
+fn apply_one(alloc: Global, guild: &mut Guild, entry: &Edit) -> Result<(), AllocError>
+    ensures { OnOk result (guild.new ≡ after guild.old entry.now) }
+{
+    if judge(guild, entry).is_err() {
+        return Ok(());
+    }
+    make(alloc, guild, entry.copy(alloc)?)?;
     Ok(())
 }
 
@@ -76,17 +85,11 @@ fn enter(
     if judge(guild, entry).is_err() {
         return Ok(());
     }
-    let notes = notes(alloc, guild, entry, recipients.viewers.as_slice())?;
+    let viewers = recipients.viewers.as_slice();
+    let notes = notes(alloc, guild, entry, viewers)?;
     make(alloc, guild, entry.copy(alloc)?)?;
-    tell_each(
-        alloc,
-        guild,
-        entry,
-        notes.as_slice(),
-        recipients,
-        sessions,
-        out,
-    )
+    let lists = DueDispatches::of(alloc, guild, entry, notes.as_slice(), viewers)?;
+    tell_each(&lists, recipients, sessions, out)
 }
 
 /// Entries in their order.
@@ -98,13 +101,23 @@ pub fn look(
     out: &mut Vec<Output>,
 ) -> Result<(), StepFault>
     ensures guild { OnOk result (guild.new ≡ state_from guild.old entries.now) }
-    ensures sessions { OnOk result (sessions.new ≡ kept_with (kept_looked guild.old entries.now sessions.old.sessions) sessions.old) }
+    ensures sessions { OnOk result (sessions.new ≡ with_sessions (kept_looked guild.old entries.now sessions.old.sessions) sessions.old) }
     ensures out { OnOk result (out.new.items ≡ out.old.items ++ all_written (kept_sends guild.old entries.now sessions.old.sessions)) }
     ensures spent { MatchResult result (λ _. kept_spends guild.old entries.now sessions.old.sessions ≡ false) (FaultBy (kept_spends guild.old entries.now sessions.old.sessions)) }
 {
     let recipients = Recipients::of(alloc, sessions)?;
     for entry in entries {
         enter(alloc, guild, entry, &recipients, sessions, out)?;
+    }
+    Ok(())
+}
+
+/// Entries in their order, for the record alone.
+pub fn apply_each(alloc: Global, guild: &mut Guild, entries: &[Edit]) -> Result<(), AllocError>
+    ensures { OnOk result (guild.new ≡ state_from guild.old entries.now) }
+{
+    for entry in entries {
+        apply_one(alloc, guild, entry)?;
     }
     Ok(())
 }

@@ -4,7 +4,8 @@ ghost use Rattle.std.specs.Prelude.{◌≡◌, ◌++◌, [], map, filter, flat_m
 ghost use Rattle.perm_bits.specs.Bits.{has_bit};
 ghost use Rattle.intent_set.specs.Intents.{guilds};
 ghost use Rattle.dispatch_types.specs.Serves.{serves};
-ghost use Rattle.worker_core.specs.Stands.{replica_id, kept_greeting};
+ghost use Rattle.world_law.specs.Greeting.{greeting_of};
+ghost use Rattle.worker_core.specs.InCode.{replica_id};
 
 use crate::replica::Replica;
 use collections::Seq;
@@ -41,7 +42,7 @@ pub fn guild_creates(
     viewer: &Viewer,
     list: &mut Vec<Dispatch>,
 ) -> Result<(), AllocError>
-    ensures { OnOk result (list.new.items ≡ list.old.items ++ flat_map (kept_greeting viewer.now) replicas.now) }
+    ensures { OnOk result (list.new.items ≡ list.old.items ++ flat_map (λ r. greeting_of viewer.now r.guild) replicas.now) }
 {
     if !viewer.intents.has(Intents::GUILDS) {
         return Ok(());

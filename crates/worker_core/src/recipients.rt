@@ -1,4 +1,4 @@
-//! The viewers of sessions: sessions of one viewer are owed the same.
+//! The viewers of sessions: sessions of one viewer are due the same.
 
 ghost use Rattle.std.specs.Prelude.{◌≡◌, Some, length, map, slice_get, IfOk, OnOk};
 ghost use Rattle.worker_core.specs.Recipients.{Picks, IsLonger, viewer_of};

@@ -2,9 +2,9 @@
 
 ghost use Rattle.std.specs.Prelude.{◌≡◌, ◌++◌, flat_map, OnOk};
 ghost use Rattle.wishes.specs.Wishes.{presence_wish, voice_wish};
-ghost use Rattle.worker_core.specs.World.{wished};
+ghost use Rattle.world_law.specs.Wants.{wished};
 ghost use Rattle.worker_core.specs.Outputs.{all_written};
-ghost use Rattle.worker_core.specs.Stands.{replica_id};
+ghost use Rattle.worker_core.specs.InCode.{replica_id};
 
 use crate::io::{Output, put};
 use crate::replica::Replica;

@@ -1,25 +1,34 @@
 //! A worker: its state and its step.
 
-ghost use Rattle.std.specs.Prelude.{◌≡◌, ◌+◌, ◌<◌, ℕ, [], ◌∷◌, false, true, max, flat_map, position, option_map, length, Some, None, Err, IfOk, OnOk, OnErr, IsSome, MatchResult, slice_get};
+ghost use Rattle.std.specs.Prelude.{◌≡◌, ◌+◌, ◌<◌, ℕ, List, [], ◌∷◌, false, true, max, flat_map, map, position, option_map, length, Some, None, Err, IfOk, OnOk, OnErr, MatchResult, IsSome, slice_get};
 ghost use Rattle.std.specs.List.{list_all};
 ghost use Rattle.std.specs.Option.{option_map_or, option_copied};
-ghost use Rattle.collections.specs.ById.{find_id, put_id};
+ghost use Rattle.collections.specs.ById.{IsById, find_id, has_id, put_id};
 ghost use Rattle.guild_model.specs.Record.{closed};
-ghost use Rattle.edit_apply.specs.Edits.{state_from};
-ghost use Rattle.session_core.specs.State.{open_replies};
-ghost use Rattle.session_core.specs.Ends.{tick_replies};
+ghost use Rattle.edit_apply.specs.Edits.{state, state_from};
+ghost use Rattle.edit_apply.specs.declared.Edit.{Edit as ModelEdit};
+ghost use Rattle.session_core.specs.State.{live, open_replies};
+ghost use Rattle.session_core.specs.Ends.{tick_replies, end_all_replies, all_ended};
 ghost use Rattle.session_core.specs.declared.reply.Reply.{Reply as ModelReply};
 ghost use Rattle.session_core.specs.Frames.{Members, Presence, Voice, move_of, move_replies, is_spent, none_sent, as_kept};
 ghost use Rattle.session_core.specs.declared.fault.SessionFault.TheVariants as SessionFault;
-ghost use Rattle.worker_core.specs.World.{Worker as ModelWorker, Look as Looks, Open as Opens, Frame as Frames, Lost, Closed, Tick, Says, first_worker};
-ghost use Rattle.worker_core.specs.Kept.{kept_looked, kept_sends};
-ghost use Rattle.worker_core.specs.Outputs.{input_of, written, all_written};
-ghost use Rattle.worker_core.specs.Spent.{is_past, kept_spends};
-ghost use Rattle.worker_core.specs.Telling.{FaultBy, TellsAt, FailsAt, kept_with};
-ghost use Rattle.worker_core.specs.Stands.{Stands, Steps, Fails, Greets, GreetsNot, Replies, RepliesNot, greeted, kept_ready, replica_id, after_open, after_frame, after_lost, after_closed, after_tick, is_of, kept_numbered, kept_answer, Gives, GivesNot, is_plain, plain};
+ghost use Rattle.world_law.specs.Keeping.{with_sessions};
+ghost use Rattle.world_law.specs.Outputs.{Says};
+ghost use Rattle.world_law.specs.Greeting.{ready as ready_of};
+ghost use Rattle.world_law.specs.Wants.{is_numbered, numbered, answer_to};
+ghost use Rattle.world_law.specs.Frames.{move_at};
+ghost use Rattle.world_law.specs.Inputs.{Input as ModelInput, Look, Rebase, Open, Frame, Lost, Closed, Tick};
+ghost use Rattle.world_law.specs.Model.{Worker as ModelWorker, first_worker};
+ghost use Rattle.world_law.specs.Spent.{is_past};
+ghost use Rattle.worker_core.specs.InCode.{replica_id, in_code, kept_after, after_frame};
+ghost use Rattle.worker_core.specs.Outputs.{IsGiven, written, all_written};
+ghost use Rattle.worker_core.specs.Represents.{Represents, StepsTo, Fails, Takes, TakesNot, FaultBy};
+ghost use Rattle.worker_core.specs.Looked.{kept_looked, kept_sends, kept_spends};
+ghost use Rattle.worker_core.specs.Telling.{TellsAt, FailsAt};
+ghost use Rattle.worker_core.specs.Replies.{Greets, GreetsNot, Replies, RepliesNot, greeted, Gives, GivesNot, is_plain, plain};
 
 use crate::io::{Input, Output, StepFault, put};
-use crate::look::look;
+use crate::look::{apply_each, look};
 use crate::ready::{guild_creates, ready_guilds};
 use crate::replica::Replica;
 use crate::tell::tell;
@@ -50,11 +59,11 @@ pub struct Worker {
 }
 
 impl Model for Worker {
-    ghost use Rattle.worker_core.specs.Stands.{KeptWorker};
+    ghost use Rattle.worker_core.specs.InCode.{KeptWorker};
 
     ghost Value = { KeptWorker };
 
-    ghost view = { λ w. record { finished = w.finished; url = w.url; now = w.clock; chunks = w.chunks; replicas = w.replicas; core = w.sessions } };
+    ghost view = { λ w. record { finished = w.finished; machine = record { url = w.url; now = w.clock; chunks = w.chunks; logs = w.replicas; core = w.sessions } } };
 }
 
 impl Worker {
@@ -67,7 +76,7 @@ impl Worker {
         bots: Vec<Bot>,
         guilds: &[Snowflake],
     ) -> Result<Worker, AllocError>
-        ensures { IfOk result (λ worker. Stands worker (first_worker bots.items guilds.now number url)) }
+        ensures { IfOk result (λ worker. Represents worker (first_worker bots.items guilds.now number url)) }
     {
         let mut replicas = ById::new(alloc);
         for id in guilds {
@@ -93,7 +102,7 @@ impl Worker {
     /// `Spent` exactly if there is memory and a count of sessions, of chunks or of a session's
     /// dispatches would pass its last value. After an `Err` the worker is finished: each later step answers the same.
     pub fn step(&mut self, input: Input) -> Result<Vec<Output>, StepFault>
-        ensures steps { (w : ModelWorker) → Stands self.old w → MatchResult result (λ out. Steps w (input_of input) self.new out.items) (Fails w (input_of input)) }
+        ensures steps { (w : ModelWorker) (i : ModelInput) → Represents self.old w → IsGiven input i → MatchResult result (λ out. StepsTo w i self.new out.items) (Fails w i) }
         ensures ended { (fault : StepFault) → result ≡ Err fault → self.new.finished ≡ Some fault }
         ensures stays { (fault : StepFault) → self.old.finished ≡ Some fault → result ≡ Err fault }
     {
@@ -108,10 +117,13 @@ impl Worker {
     }
 
     fn take(&mut self, input: Input) -> Result<Vec<Output>, StepFault>
-        ensures { (w : ModelWorker) → Stands self.old w → MatchResult result (λ out. Steps w (input_of input) self.new out.items) (Fails w (input_of input)) }
+        ensures { (i : ModelInput) → IsGiven input i → MatchResult result (λ out. Takes self.old i self.new out.items) (TakesNot self.old i) }
     {
         match input {
             Input::Look(guild, entries) => self.look(guild, entries.as_slice()),
+            Input::Rebase(guild, _, basis, entries) => {
+                self.rebase(guild, basis, entries.as_slice())
+            }
             Input::Open(conn) => self.open(conn),
             Input::Frame(conn, text) => self.frame(conn, text.as_str()),
             Input::Lost(conn) => self.lost(conn),
@@ -121,7 +133,7 @@ impl Worker {
     }
 
     fn look(&mut self, guild: Snowflake, entries: &[Edit]) -> Result<Vec<Output>, StepFault>
-        ensures { (w : ModelWorker) → Stands self.old w → MatchResult result (λ out. Steps w (Looks guild entries.now) self.new out.items) (Fails w (Looks guild entries.now)) }
+        ensures { MatchResult result (λ out. Takes self.old (Look guild entries.now) self.new out.items) (TakesNot self.old (Look guild entries.now)) }
     {
         let Some(mut replica) = self.take_replica(guild) else {
             return Ok(Vec::new(self.alloc));
@@ -133,11 +145,13 @@ impl Worker {
 
     /// Takes the replica of a guild out of the worker, which has an empty one instead.
     fn take_replica(&mut self, guild: Snowflake) -> Option<Replica>
-        ensures found { result ≡ find_id replica_id guild self.old.replicas }
+        ensures found { result ≡ find_id replica_id guild self.old.machine.logs }
         ensures none { result ≡ None → self.new ≡ self.old }
-        ensures taken { (r : Replica) → result ≡ Some r → self.new ≡ record self.old { replicas = put_id replica_id (record { guild = closed guild }) self.old.replicas } }
+        ensures taken { (r : Replica) → result ≡ Some r
+            → self.new ≡ record self.old { machine = record self.old.machine { logs = put_id replica_id (record { guild = closed guild }) self.old.machine.logs } } }
+        ensures ascend { IsById replica_id self.old.machine.logs }
     {
-        if !self.replicas.contains(guild.0) {
+        if !self.has_replica(guild) {
             return None;
         }
         let replica = self.replicas.exchange(Replica {
@@ -146,9 +160,19 @@ impl Worker {
         Some(replica)
     }
 
+    /// Whether the worker has a guild.
+    fn has_replica(&self, guild: Snowflake) -> bool
+        ensures found { result ≡ has_id replica_id guild self.now.machine.logs }
+        ensures ascend { IsById replica_id self.now.machine.logs }
+    {
+        // Brings the list's invariant into the proof.
+        let _replicas = self.replicas.as_slice();
+        self.replicas.contains(guild.0)
+    }
+
     fn put_replica(&mut self, replica: Replica)
-        requires { IsSome (find_id replica_id (replica_id replica) self.old.replicas) }
-        ensures { self.new ≡ record self.old { replicas = put_id replica_id replica self.old.replicas } }
+        requires { IsSome (find_id replica_id (replica_id replica) self.old.machine.logs) }
+        ensures { self.new ≡ record self.old { machine = record self.old.machine { logs = put_id replica_id replica self.old.machine.logs } } }
     {
         self.replicas.replace(replica);
     }
@@ -156,81 +180,118 @@ impl Worker {
     /// Handles the entries of a guild, for its record and for each session.
     fn follow(&mut self, guild: &mut Guild, entries: &[Edit]) -> Result<Vec<Output>, StepFault>
         ensures guild { OnOk result (guild.new ≡ state_from guild.old entries.now) }
-        ensures core { OnOk result (self.new ≡ record self.old { core = kept_with (kept_looked guild.old entries.now self.old.core.sessions) self.old.core }) }
-        ensures out { IfOk result (λ out. out.items ≡ all_written (kept_sends guild.old entries.now self.old.core.sessions)) }
-        ensures spent { MatchResult result (λ _. kept_spends guild.old entries.now self.old.core.sessions ≡ false) (FaultBy (kept_spends guild.old entries.now self.old.core.sessions)) }
+        ensures core { OnOk result (self.new ≡ record self.old { machine = record self.old.machine { core = with_sessions (kept_looked guild.old entries.now self.old.machine.core.sessions) self.old.machine.core } }) }
+        ensures out { IfOk result (λ out. out.items ≡ all_written (kept_sends guild.old entries.now self.old.machine.core.sessions)) }
+        ensures spent { MatchResult result (λ _. kept_spends guild.old entries.now self.old.machine.core.sessions ≡ false) (FaultBy (kept_spends guild.old entries.now self.old.machine.core.sessions)) }
+        ensures live { length (live self.old.machine.core) ≡ length self.old.machine.core.sessions }
     {
         let mut out = Vec::with_capacity(self.alloc, self.sessions.len())?;
         look(self.alloc, guild, entries, &mut self.sessions, &mut out)?;
         Ok(out)
     }
 
+    /// Takes over a log of which too much was missed: the record after its first entries, and those that follow
+    /// them. All sessions end, and each connection that has one is closed.
+    fn rebase(
+        &mut self,
+        guild: Snowflake,
+        basis: Guild,
+        entries: &[Edit],
+    ) -> Result<Vec<Output>, StepFault>
+        ensures { (log : List ModelEdit) → state_from basis entries.now ≡ state guild log
+            → MatchResult result (λ out. Takes self.old (Rebase guild log) self.new out.items) (TakesNot self.old (Rebase guild log)) }
+    {
+        if !self.has_replica(guild) {
+            return Ok(Vec::new(self.alloc));
+        }
+        self.replace_record(basis, entries)?;
+        let replies = self.end_sessions()?;
+        self.reply_each(replies)
+    }
+
+    /// Replaces the record of a guild by this one with entries more.
+    fn replace_record(&mut self, basis: Guild, entries: &[Edit]) -> Result<(), AllocError>
+        ensures { OnOk result (self.new ≡ record self.old { machine = record self.old.machine { logs = put_id replica_id (record { guild = state_from basis entries.now }) self.old.machine.logs } }) }
+    {
+        let mut guild = basis;
+        apply_each(self.alloc, &mut guild, entries)?;
+        self.replicas.put(Replica { guild })?;
+        Ok(())
+    }
+
+    fn end_sessions(&mut self) -> Result<Vec<Reply>, AllocError>
+        ensures replies { IfOk result (λ replies. replies.items ≡ end_all_replies self.old.machine.core) }
+        ensures ended { OnOk result (self.new ≡ record self.old { machine = record self.old.machine { core = all_ended (λ x. []) self.old.machine.core } }) }
+    {
+        self.sessions.end_all()
+    }
+
     fn open(&mut self, conn: u32) -> Result<Vec<Output>, StepFault>
-        ensures { (w : ModelWorker) → Stands self.old w → MatchResult result (λ out. Steps w (Opens conn) self.new out.items) (Fails w (Opens conn)) }
+        ensures { MatchResult result (λ out. Takes self.old (Open conn) self.new out.items) (TakesNot self.old (Open conn)) }
     {
         let replies = self.open_session(conn)?;
         self.reply_each(replies)
     }
 
     fn open_session(&mut self, conn: u32) -> Result<Vec<Reply>, AllocError>
-        ensures replies { IfOk result (λ replies. replies.items ≡ open_replies conn self.old.core) }
-        ensures opened { OnOk result (self.new ≡ after_open self.old conn) }
+        ensures replies { IfOk result (λ replies. replies.items ≡ open_replies conn self.old.machine.core) }
+        ensures opened { OnOk result (self.new ≡ kept_after self.old (Open conn)) }
     {
         self.sessions.open(conn, self.clock)
     }
 
     fn frame(&mut self, conn: u32, text: &str) -> Result<Vec<Output>, StepFault>
-        ensures { (w : ModelWorker) → Stands self.old w → MatchResult result (λ out. Steps w (Frames conn text.now) self.new out.items) (Fails w (Frames conn text.now)) }
+        ensures { MatchResult result (λ out. Takes self.old (Frame conn text.now) self.new out.items) (TakesNot self.old (Frame conn text.now)) }
     {
         let replies = self.frame_session(conn, text)?;
         self.reply_each(replies)
     }
 
     fn frame_session(&mut self, conn: u32, text: &str) -> Result<Vec<Reply>, SessionFault>
-        ensures replies { IfOk result (λ replies. replies.items ≡ move_replies conn (move_of as_kept self.old.core self.old.now conn text.now) self.old.core) }
-        ensures moved { OnOk result (self.new ≡ after_frame self.old conn (move_of as_kept self.old.core self.old.now conn text.now) none_sent) }
-        ensures counted { OnOk result (is_spent (move_of as_kept self.old.core self.old.now conn text.now) self.old.core ≡ false) }
-        ensures spent { result ≡ Err SessionFault.Spent → is_spent (move_of as_kept self.old.core self.old.now conn text.now) self.old.core ≡ true }
+        ensures replies { IfOk result (λ replies. replies.items ≡ move_replies conn (move_at in_code self.old.machine conn text.now) self.old.machine.core) }
+        ensures moved { OnOk result (self.new ≡ after_frame self.old conn (move_at in_code self.old.machine conn text.now)) }
+        ensures counted { OnOk result (is_spent (move_at in_code self.old.machine conn text.now) self.old.machine.core ≡ false) }
+        ensures spent { result ≡ Err SessionFault.Spent → is_spent (move_at in_code self.old.machine conn text.now) self.old.machine.core ≡ true }
     {
         self.sessions.frame(conn, text, self.clock)
     }
 
     fn lost(&mut self, conn: u32) -> Result<Vec<Output>, StepFault>
-        ensures { (w : ModelWorker) → Stands self.old w → MatchResult result (λ out. Steps w (Lost conn) self.new out.items) (Fails w (Lost conn)) }
+        ensures { MatchResult result (λ out. Takes self.old (Lost conn) self.new out.items) (TakesNot self.old (Lost conn)) }
     {
         self.lose_session(conn);
         Ok(Vec::new(self.alloc))
     }
 
     fn lose_session(&mut self, conn: u32)
-        ensures { self.new ≡ after_lost self.old conn }
+        ensures { self.new ≡ kept_after self.old (Lost conn) }
     {
         self.sessions.lost(conn, self.clock);
     }
 
     fn closed(&mut self, conn: u32, code: u16) -> Result<Vec<Output>, StepFault>
-        ensures { (w : ModelWorker) → Stands self.old w → MatchResult result (λ out. Steps w (Closed conn code) self.new out.items) (Fails w (Closed conn code)) }
+        ensures { MatchResult result (λ out. Takes self.old (Closed conn code) self.new out.items) (TakesNot self.old (Closed conn code)) }
     {
         self.close_session(conn, code);
         Ok(Vec::new(self.alloc))
     }
 
     fn close_session(&mut self, conn: u32, code: u16)
-        ensures { self.new ≡ after_closed self.old conn code }
+        ensures { self.new ≡ kept_after self.old (Closed conn code) }
     {
         self.sessions.closed(conn, code, self.clock);
     }
 
     fn tick(&mut self, now: u64) -> Result<Vec<Output>, StepFault>
-        ensures { (w : ModelWorker) → Stands self.old w → MatchResult result (λ out. Steps w (Tick now) self.new out.items) (Fails w (Tick now)) }
+        ensures { MatchResult result (λ out. Takes self.old (Tick now) self.new out.items) (TakesNot self.old (Tick now)) }
     {
         let replies = self.tick_sessions(now)?;
         self.reply_each(replies)
     }
 
     fn tick_sessions(&mut self, now: u64) -> Result<Vec<Reply>, AllocError>
-        ensures replies { IfOk result (λ replies. replies.items ≡ tick_replies (max self.old.now now) self.old.core) }
-        ensures ticked { OnOk result (self.new ≡ after_tick self.old (max self.old.now now)) }
+        ensures replies { IfOk result (λ replies. replies.items ≡ tick_replies (max self.old.machine.now now) self.old.machine.core) }
+        ensures ticked { OnOk result (self.new ≡ kept_after self.old (Tick now)) }
     {
         self.clock = self.clock.max(now);
         self.sessions.tick(self.clock)
@@ -238,7 +299,7 @@ impl Worker {
 
     /// The outputs for the replies of a call, in order.
     fn reply_each(&mut self, replies: Vec<Reply>) -> Result<Vec<Output>, StepFault>
-        ensures plain { list_all is_plain replies.items ≡ true → MatchResult result (λ out. (self.new ≡ self.old) × (out.items ≡ flat_map plain replies.items)) (FaultBy false) }
+        ensures plain { list_all is_plain replies.items ≡ true → MatchResult result (λ out. (self.new ≡ self.old) × (out.items ≡ all_written (flat_map plain replies.items))) (FaultBy false) }
         ensures one { (r : ModelReply) → replies.items ≡ r ∷ [] → MatchResult result (λ out. Replies r self.old self.new [] out.items) (RepliesNot r self.old) }
     {
         let mut out = Vec::new(self.alloc);
@@ -276,7 +337,7 @@ impl Worker {
 
     /// READY and the guilds of the session at an index.
     fn first_dispatches(&self, session: u32, index: usize) -> Result<Vec<Dispatch>, AllocError>
-        ensures { IfOk result (λ list. option_map_or (greeted self.now session) (slice_get self.now.core.sessions index) [] ≡ list.items) }
+        ensures { IfOk result (λ list. option_map_or (greeted self.now.machine session) (slice_get self.now.machine.core.sessions index) [] ≡ list.items) }
     {
         let mut list = Vec::new(self.alloc);
         let (Some(viewer), Some(name)) = (
@@ -291,7 +352,7 @@ impl Worker {
     }
 
     fn ready(&self, viewer: &Viewer, name: &str, session: u32) -> Result<Ready, AllocError>
-        ensures { IfOk result (λ ready. ready ≡ kept_ready self.now viewer.now name.now session) }
+        ensures { IfOk result (λ ready. ready ≡ ready_of in_code self.now.machine viewer.now name.now session) }
     {
         Ok(Ready {
             user: User {
@@ -309,20 +370,22 @@ impl Worker {
 
 impl Worker {
     fn index_of(&self, session: u32) -> Option<usize>
-        ensures { result ≡ position (is_of session) self.now.core.sessions }
+        ensures { result ≡ position (is_numbered session) self.now.machine.core.sessions }
     {
+        // Brings that no session has ended into the proof.
+        let _live = self.sessions.len();
         self.sessions.index_of(session)
     }
 
     fn viewer_at(&self, index: usize) -> Option<&Viewer>
-        ensures { option_copied result ≡ option_map (λ x. x.viewer) (slice_get self.now.core.sessions index) }
+        ensures { option_copied result ≡ option_map (λ x. x.viewer) (slice_get self.now.machine.core.sessions index) }
     {
         self.sessions.viewer_at(index)
     }
 
     /// The viewer of a session.
     fn viewer_of(&self, session: u32) -> Option<&Viewer>
-        ensures { option_copied result ≡ option_map (λ x. x.viewer) (kept_numbered self.now session) }
+        ensures { option_copied result ≡ option_map (λ x. x.viewer) (numbered session self.now.machine.core.sessions) }
     {
         match self.index_of(session) {
             Some(index) => self.viewer_at(index),
@@ -331,13 +394,13 @@ impl Worker {
     }
 
     fn replicas(&self) -> &[Replica]
-        ensures { result.now ≡ self.now.replicas }
+        ensures { result.now ≡ self.now.machine.logs }
     {
         self.replicas.as_slice()
     }
 
     fn replica(&self, guild: Snowflake) -> Option<&Replica>
-        ensures { option_copied result ≡ find_id replica_id guild self.now.replicas }
+        ensures { option_copied result ≡ find_id replica_id guild self.now.machine.logs }
     {
         self.replicas.get(guild.0)
     }
@@ -390,7 +453,7 @@ impl Worker {
         ask: &Ask,
         out: &mut Vec<Output>,
     ) -> Result<(), StepFault>
-        requires { position (is_of session) self.old.core.sessions ≡ Some index }
+        requires { position (is_numbered session) self.old.machine.core.sessions ≡ Some index }
         ensures { MatchResult result (λ _. Gives self.old session (Members ask.now) self.new out.old.items out.new.items) (GivesNot self.old session (Members ask.now)) }
     {
         let chunks = self.chunks_at(index, ask)?;
@@ -400,7 +463,7 @@ impl Worker {
 
     /// The chunks that answer the session at an index.
     fn chunks_at(&self, index: usize, ask: &Ask) -> Result<Vec<Dispatch>, AllocError>
-        ensures { IfOk result (λ list. option_map_or (kept_answer self.now ask.now) (slice_get self.now.core.sessions index) [] ≡ list.items) }
+        ensures { IfOk result (λ list. option_map_or (answer_to in_code self.now.machine ask.now) (slice_get self.now.machine.core.sessions index) [] ≡ list.items) }
     {
         let (Some(viewer), Some(replica)) = (
             self.sessions.viewer_at(index),
@@ -413,9 +476,9 @@ impl Worker {
 
     /// Counts chunks that were made.
     fn count_chunks(&mut self, more: usize) -> Result<(), Spent>
-        ensures ok { OnOk result (self.new ≡ record self.old { chunks = self.old.chunks + more }) }
-        ensures counted { OnOk result (is_past self.old.chunks more ≡ false) }
-        ensures spent { OnErr result (is_past self.old.chunks more ≡ true) }
+        ensures ok { OnOk result (self.new ≡ record self.old { machine = record self.old.machine { chunks = self.old.machine.chunks + more } }) }
+        ensures counted { OnOk result (is_past self.old.machine.chunks more ≡ false) }
+        ensures spent { OnErr result (is_past self.old.machine.chunks more ≡ true) }
     {
         let Some(chunks) = self.chunks.checked_add(more as u64) else {
             return Err(Spent);
@@ -431,9 +494,9 @@ impl Worker {
         dispatches: &[Dispatch],
         out: &mut Vec<Output>,
     ) -> Result<(), StepFault>
-        requires { index < length self.old.core.sessions }
-        ensures core { OnOk result (self.new ≡ record self.old { core = self.new.core }) }
-        ensures told { MatchResult result (λ _. TellsAt index (λ x. dispatches.now) self.old.core self.new.core out.old.items out.new.items) (FailsAt index (λ x. dispatches.now) self.old.core) }
+        requires { index < length self.old.machine.core.sessions }
+        ensures core { OnOk result (self.new ≡ record self.old { machine = record self.old.machine { core = self.new.machine.core } }) }
+        ensures told { MatchResult result (λ _. TellsAt index (λ x. dispatches.now) self.old.machine.core self.new.machine.core out.old.items out.new.items) (FailsAt index (λ x. dispatches.now) self.old.machine.core) }
     {
         tell(self.alloc, &mut self.sessions, index, dispatches, out)
     }

@@ -4,17 +4,17 @@ use Rattle.std.proofs.lemmas.Result.{err_from_is_err_and}
 use Rattle.dispatch_types.specs.declared.viewer.Viewer.{Viewer}
 use Rattle.replay_ring.specs.Replay.{Replay}
 use Rattle.session_core.specs.State.{State}
-use Rattle.worker_core.specs.Recipients.{Picks, viewer_of}
 use Rattle.edit_apply.specs.Edits.{state_from}
 use Rattle.edit_apply.specs.declared.Edit.{Edit}
 use Rattle.worker_core.specs.declared.io.StepFault.{StepFault}
-use Rattle.worker_core.specs.Kept.{kept_looked, kept_sends}
-use Rattle.worker_core.specs.Outputs.{all_written}
-use Rattle.worker_core.specs.Spent.{kept_spends}
-use Rattle.worker_core.specs.Telling.{FaultBy, kept_with}
 use Rattle.worker_core.proofs.look.look.Goals as goal
+use Rattle.worker_core.specs.Represents.{FaultBy}
+use Rattle.worker_core.specs.Recipients.{Picks, viewer_of}
+use Rattle.worker_core.specs.Outputs.{all_written}
+use Rattle.worker_core.specs.Looked.{kept_looked, kept_sends, kept_spends}
+use Rattle.worker_core.proofs.Looking.{looked_more, sent_more, spent_first, spent_more, viewers_stay}
 use Rattle.worker_core.proofs.Telling.{rest_dropped}
-use Rattle.worker_core.proofs.Looking.{looked_more, sent_more, spent_more, spent_first, viewers_stay}
+use Rattle.world_law.specs.Keeping.{with_sessions}
 
 pub returns-in_err-enter-clause-spent : goal.returns-in_err-enter-clause-spent
 returns-in_err-enter-clause-spent c =
@@ -47,9 +47,9 @@ loop-entry-preserved c =
       recipients = subst (λ (vs : List Viewer). Picks c.in_ok-recipients.recipients.viewers.items c.in_ok-recipients.recipients.whose.items vs)
           (sym (ap (λ (n : State Replay). map viewer_of n.sessions) told.0 ∙ viewers_stay g e s.sessions)) c.loop-entry.invariant.recipients;
       guild = ap (λ h. state_from h later) now ∙ (ap (state_from g) (sym rest) ∙ c.loop-entry.invariant.guild);
-      sessions = ap (λ h. kept_with (kept_looked h later c.enter.new.sessions.sessions) c.enter.new.sessions) now
+      sessions = ap (λ h. with_sessions (kept_looked h later c.enter.new.sessions.sessions) c.enter.new.sessions) now
           ∙ (looked_more g e later s c.enter.new.sessions c.loop-entry.out.items c.enter.new.out.items told
-          ∙ (ap (λ (ds : List Edit). kept_with (kept_looked g ds s.sessions) s) (sym rest) ∙ c.loop-entry.invariant.sessions));
+          ∙ (ap (λ (ds : List Edit). with_sessions (kept_looked g ds s.sessions) s) (sym rest) ∙ c.loop-entry.invariant.sessions));
       out = ap (λ h. c.enter.new.out.items ++ all_written (kept_sends h later c.enter.new.sessions.sessions)) now
           ∙ (sent_more g e later s c.enter.new.sessions c.loop-entry.out.items c.enter.new.out.items told
           ∙ (ap (λ (ds : List Edit). c.loop-entry.out.items ++ all_written (kept_sends g ds s.sessions)) (sym rest) ∙ c.loop-entry.invariant.out));

@@ -4,9 +4,9 @@ use Rattle.std.proofs.lemmas.Result.{err_from_is_err_and}
 use Rattle.std.proofs.lemmas.List.{take-append-drop}
 use Rattle.dispatch_types.specs.declared.dispatch.Dispatch.{Dispatch}
 use Rattle.worker_core.specs.declared.io.StepFault.{StepFault}
-use Rattle.worker_core.specs.Telling.{TellsAt, FailsAt}
 use Rattle.worker_core.proofs.tell.tell_written.Goals as goal
-use Rattle.worker_core.proofs.Telling.{tells_more, fails_more, as_many_at, last_taken, rest_dropped}
+use Rattle.worker_core.specs.Telling.{FailsAt, TellsAt}
+use Rattle.worker_core.proofs.Telling.{as_many_at, fails_more, last_taken, rest_dropped, tells_more}
 
 pub returns-in_err-tell_one : goal.returns-in_err-tell_one
 returns-in_err-tell_one c =

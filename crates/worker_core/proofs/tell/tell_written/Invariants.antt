@@ -1,6 +1,6 @@
 use Rattle.std.proofs.Common.{◌≡◌, length, take}
-use Rattle.worker_core.specs.Telling.{TellsAt}
 use Rattle.worker_core.proofs.tell.tell_written.Given as goal
+use Rattle.worker_core.specs.Telling.{TellsAt}
 
 abbrev pub invariant-loop-next : goal.invariant-loop-next
 invariant-loop-next l = record {

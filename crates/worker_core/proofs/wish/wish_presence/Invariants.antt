@@ -2,10 +2,10 @@ use Rattle.std.proofs.Common.{◌≡◌, ◌++◌, take}
 use Rattle.std.specs.Prelude.{flat_map}
 use Rattle.wishes.specs.Wishes.{presence_wish}
 use Rattle.worker_core.specs.declared.replica.Replica.{Replica}
-use Rattle.worker_core.specs.World.{wished}
-use Rattle.worker_core.specs.Outputs.{all_written}
-use Rattle.worker_core.specs.Stands.{replica_id}
 use Rattle.worker_core.proofs.wish.wish_presence.Given as goal
+use Rattle.worker_core.specs.Outputs.{all_written}
+use Rattle.worker_core.specs.InCode.{replica_id}
+use Rattle.world_law.specs.Wants.{wished}
 
 abbrev pub invariant-loop-replica : goal.invariant-loop-replica
 invariant-loop-replica l = l.out.items ≡ l.fn.out.items ++ all_written (flat_map (λ (r : Replica). wished (replica_id r) (presence_wish r.guild l.viewer l.status)) (take l.replica-index l.replicas))

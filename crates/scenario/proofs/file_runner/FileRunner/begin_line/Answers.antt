@@ -16,7 +16,7 @@ returns-then-len-gt-MAX_LINE_BYTES-clause-plays g c got bytes playing =
     let is : c.extend_from_slice.new.self.items ≡ c.args.self.now.part.items ++ c.args.piece.now = grind (arith, common_steps) in
     let long : 65536 < length c.extend_from_slice.new.self.items = grind (arith, common_steps) in
     long_plays got (g.K.Sink.got c.args.sink.now) (g.K.Sink.got c.end_part.new.sink) c.args.self.now bytes playing c.args.piece.now c.extend_from_slice.new.self.items c.requires is long
-    c.end_part.result c.end_part.new.self (c.end_part.ensures.runs (server_of (whole_lines bytes)) playing.stands)
+    c.end_part.result c.end_part.new.self (c.end_part.ensures.runs (server_of (whole_lines bytes)) playing.represents)
 
 pub returns-clause-plays : goal.returns-clause-plays
 returns-clause-plays g c got bytes playing =

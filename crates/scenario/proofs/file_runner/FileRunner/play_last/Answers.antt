@@ -14,4 +14,4 @@ pub returns-clause-plays : goal.returns-clause-plays
 returns-clause-plays g c got bytes playing =
     let some : ¬ (c.args.self.now.part.items ≡ []) = λ e. (let none : length c.args.self.now.part.items ≡ 0 = ap length e in grind (arith, common_steps, none)) in
     end_plays got (g.K.Sink.got c.args.sink.now) (g.K.Sink.got c.end_part.new.sink) c.args.self.now bytes playing c.end_part.result c.end_part.new.self some
-    (c.end_part.ensures.runs (server_of (whole_lines bytes)) playing.stands)
+    (c.end_part.ensures.runs (server_of (whole_lines bytes)) playing.represents)

@@ -1,10 +1,10 @@
 use Rattle.std.proofs.Common.{◌≡◌, ◌++◌, false, Some, Ok, refl, sym, ap, ◌∙◌, subst}
 use Rattle.edit_text.specs.declared.line.Line.{Line}
-use Rattle.edit_text.specs.declared.reader.StepReader.{StepReader}
+use Rattle.edit_text.specs.declared.reader_state.ReaderState.{ReaderState}
 use Rattle.edit_text.specs.Lines.{line_of, reader_after}
 use Rattle.scenario.specs.Server.{played}
 use Rattle.scenario.specs.Transcript.{line_text, line_spends, line_ending, run_text, run_ending}
-use Rattle.scenario.specs.Stands.{Stands}
+use Rattle.scenario.specs.Represents.{Represents}
 use Rattle.scenario.specs.Played.{Carries, Leaves, RunsLine, IsCounted}
 use Rattle.scenario.proofs.Slots.{by_result}
 use Rattle.scenario.proofs.Fronts.{puts_front}
@@ -14,16 +14,16 @@ use Rattle.scenario.proofs.file_runner.FileRunner.run_line.Goals as goal
 
 pub returns-in-Ok-None-clause-counted : goal.returns-in-Ok-None-clause-counted
 returns-in-Ok-None-clause-counted g c =
-    let r : StepReader = c.args.self.now.reader in
+    let r : ReaderState = c.args.self.now.reader in
     let after : c.line-line.new.self ≡ reader_after r c.args.bytes.now = reader_moved (Ok c.in-Ok-None.field-0) c.in-Ok-None.field-0 c.line-line.new.self _ refl c.in-Ok-None.ensures.after in
-    subst (λ (n : StepReader). IsCounted r c.args.bytes.now n) (sym after)
+    subst (λ (n : ReaderState). IsCounted r c.args.bytes.now n) (sym after)
     (counted_line r c.args.bytes.now c.in-Ok-None.field-0 (read_ok (Ok c.in-Ok-None.field-0) _ c.in-Ok-None.field-0 refl c.in-Ok-None.ensures.line))
 
 pub returns-in-Ok-Some-clause-counted : goal.returns-in-Ok-Some-clause-counted
 returns-in-Ok-Some-clause-counted g c =
-    let r : StepReader = c.args.self.now.reader in
+    let r : ReaderState = c.args.self.now.reader in
     let after : c.line-line.new.self ≡ reader_after r c.args.bytes.now = reader_moved (Ok c.in-Ok-Some.field-0) c.in-Ok-Some.field-0 c.line-line.new.self _ refl c.in-Ok-Some.ensures.after in
-    ok_always c.play_line.result _ (subst (λ (n : StepReader). IsCounted r c.args.bytes.now n) (sym after)
+    ok_always c.play_line.result _ (subst (λ (n : ReaderState). IsCounted r c.args.bytes.now n) (sym after)
     (counted_line r c.args.bytes.now c.in-Ok-Some.field-0 (read_ok (Ok c.in-Ok-Some.field-0) _ c.in-Ok-Some.field-0 refl c.in-Ok-Some.ensures.line)))
 
 pub returns-in-Err-Memory-clause-runs : goal.returns-in-Err-Memory-clause-runs
@@ -34,7 +34,7 @@ returns-in-Err-Memory-clause-runs g c p stands =
 
 pub returns-in-Ok-Some-clause-runs : goal.returns-in-Ok-Some-clause-runs
 returns-in-Ok-Some-clause-runs g c p stands =
-    let r : StepReader = c.args.self.now.reader in
+    let r : ReaderState = c.args.self.now.reader in
     let line : Line = c.in-Ok-Some.line in
     let bytes = c.args.bytes.now in
     let got0 = g.K.Sink.got c.args.sink.now in
@@ -42,10 +42,10 @@ returns-in-Ok-Some-clause-runs g c p stands =
     let waits0 = c.args.self.now.waits.items in
     let waits1 = c.play_line.new.waits.items in
     let after : c.line-line.new.self ≡ reader_after r bytes = reader_moved (Ok c.in-Ok-Some.field-0) c.in-Ok-Some.field-0 c.line-line.new.self _ refl c.in-Ok-Some.ensures.after in
-    let counted : c.lines-number.result ≡ (reader_after r bytes).lines = c.lines-number.ensures ∙ ap (λ (r : StepReader). r.lines) after in
+    let counted : c.lines-number.result ≡ (reader_after r bytes).lines = c.lines-number.ensures ∙ ap (λ (r : ReaderState). r.lines) after in
     let is : line_of r bytes ≡ Ok (Some line) = read_ok (Ok c.in-Ok-Some.field-0) _ c.in-Ok-Some.field-0 refl c.in-Ok-Some.ensures.line ∙ ap Ok c.in-Ok-Some.field-0-is in
     by_result c.play_line.result
-    (λ _. Stands c.play_line.new.server (played p line) × (Carries got0 got1 waits1 (waits0 ++ line_text p c.lines-number.result line) × (line_spends p line ≡ false)))
+    (λ _. Represents c.play_line.new.server (played p line) × (Carries got0 got1 waits1 (waits0 ++ line_text p c.lines-number.result line) × (line_spends p line ≡ false)))
     (λ _. RunsLine r p bytes got0 got1 waits0 waits1 c.play_line.new.server)
     (Leaves got0 got1 waits1 (waits0 ++ line_text p c.lines-number.result line) (line_ending p line))
     (Leaves got0 got1 waits1 (waits0 ++ run_text r p bytes) (run_ending r p bytes))

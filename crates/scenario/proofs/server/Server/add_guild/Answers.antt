@@ -3,7 +3,7 @@ use Rattle.std.specs.Prelude.{is_some}
 use Rattle.std.proofs.lemmas.Grind.{common_steps}
 use Rattle.std.proofs.lemmas.Result.{on_ok_weaker}
 use Rattle.collections.specs.ById.{find_id, put_id}
-use Rattle.scenario.specs.Stands.{log_id}
+use Rattle.scenario.specs.Represents.{log_id}
 use Rattle.scenario.proofs.Servers.{guild_plays, is_none}
 use Rattle.scenario.proofs.server.Server.add_guild.Goals as goal
 

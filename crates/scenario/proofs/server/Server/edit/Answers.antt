@@ -2,7 +2,7 @@ use Rattle.std.proofs.Common.{◌≡◌, ℕ, List, ◌++◌, ◌∷◌, [], Som
 use Rattle.collections.specs.ById.{find_id, put_id}
 use Rattle.edit_apply.specs.Edits.{after}
 use Rattle.scenario.specs.declared.guild_log.GuildLog.{GuildLog}
-use Rattle.scenario.specs.Stands.{log_id}
+use Rattle.scenario.specs.Represents.{log_id}
 use Rattle.scenario.proofs.Servers.{edit_plays, log_keyed}
 use Rattle.scenario.proofs.server.Server.edit.Goals as goal
 

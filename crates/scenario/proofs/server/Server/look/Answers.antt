@@ -1,7 +1,7 @@
 use Rattle.std.proofs.Common.{◌≡◌, ℕ, Some, refl, sym, subst, ◌∙◌}
 use Rattle.collections.specs.ById.{find_id}
 use Rattle.scenario.specs.Server.{world}
-use Rattle.scenario.specs.Stands.{guilds_of, log_id}
+use Rattle.scenario.specs.Represents.{guilds_of, log_id}
 use Rattle.scenario.proofs.Servers.{look_plays}
 use Rattle.scenario.proofs.server.Server.look.Goals as goal
 

@@ -1,43 +1,48 @@
--- A look is that of the model.
+-- A look.
 use Rattle.std.proofs.Common.{◌≡◌, List, refl, sym, ap, subst, ◌∙◌}
 use Rattle.std.proofs.lemmas.Result.{err_from_is_err_and}
 use Rattle.std.specs.Prelude.{IsSome}
 use Rattle.collections.specs.ById.{find_id, put_id}
-use Rattle.worker_core.specs.Kept.{kept_looked}
-use Rattle.worker_core.specs.Telling.{kept_with}
+use Rattle.world_law.specs.Keeping.{with_sessions}
+use Rattle.world_law.specs.Inputs.{Look}
 use Rattle.worker_core.specs.declared.replica.Replica.{Replica}
 use Rattle.worker_core.specs.declared.io.StepFault.{StepFault}
-use Rattle.worker_core.specs.World.{Look, taken}
-use Rattle.worker_core.specs.Stands.{KeptWorker, Stands, Fails, replica_id}
-use Rattle.worker_core.proofs.Standing.{looks_at_none}
-use Rattle.worker_core.proofs.Moving.{look_made, look_fails, is_there, empty}
+use Rattle.worker_core.specs.InCode.{replica_id, KeptWorker}
+use Rattle.worker_core.specs.Looked.{kept_looked}
+use Rattle.worker_core.specs.Represents.{TakesNot}
+use Rattle.worker_core.proofs.Moving.{look_made, look_fails, look_past, live_at, is_there, empty}
 use Rattle.worker_core.proofs.worker.Worker.look.Goals as goal
 
 pub returns-in_default : goal.returns-in_default
-returns-in_default c w stands =
-    let step = looks_at_none c.args.self.now w stands c.args.guild c.args.entries.now (sym c.take_replica.ensures.found ∙ c.in_default.is) in
-    (subst (λ (k : KeptWorker). Stands k (taken w (Look c.args.guild c.args.entries.now))) (sym (c.in_default.ensures.none refl)) step.0, (c.new.ensures.items ∙ sym step.1.0, step.1.1))
+returns-in_default c =
+    look_past c.args.self.now c.args.guild c.args.entries.now c.take_replica.new.self c.new.result.items (sym c.take_replica.ensures.found ∙ c.in_default.is) (c.in_default.ensures.none refl) c.new.ensures.items
 
 pub returns-in_err-out : goal.returns-in_err-out
-returns-in_err-out c w stands =
+returns-in_err-out c =
+    let k : KeptWorker = c.args.self.now in
     let r : Replica = c.in-Some.replica in
-    let found = sym c.take_replica.ensures.found ∙ c.in-Some.is in
+    let one = c.take_replica.ensures.taken r c.in-Some.is in
     let p = err_from_is_err_and c.from_residual.result c.from_residual.ensures.1 in
-    rw p.1 (subst (λ (f : StepFault). Fails w (Look c.args.guild c.args.entries.now) f) (sym p.2)
-    (look_fails c.args.self.now c.args.guild c.args.entries.now r found w stands c.take_replica.new.self c.in_err-out.field-0.0 (c.take_replica.ensures.taken r c.in-Some.is) c.in_err-out.ensures.spent))
+    rw p.1 (subst (λ (f : StepFault). TakesNot k (Look c.args.guild c.args.entries.now) f) (sym p.2)
+    (look_fails k c.args.guild c.args.entries.now r (sym c.take_replica.ensures.found ∙ c.in-Some.is) (live_at k c.take_replica.new.self _ one c.follow.ensures.live)
+    c.take_replica.new.self c.in_err-out.field-0.0 one c.in_err-out.ensures.spent))
 
 pub put_replica-requires : goal.put_replica-requires
 put_replica-requires c =
+    let k : KeptWorker = c.args.self.now in
     let r : Replica = c.in-Some.replica in
-    let found = sym c.take_replica.ensures.found ∙ c.in-Some.is in
-    let there = is_there c.args.self.now c.args.guild c.args.entries.now r found (record { guild = c.follow.new.guild }) (ap (λ g. record { guild = g }) c.in_ok-out.ensures.guild) in
-    let replicas : c.follow.new.self.replicas ≡ put_id replica_id (empty c.args.guild) c.args.self.now.replicas =
-    ap (λ (k : KeptWorker). k.replicas) (c.in_ok-out.ensures.core ∙ ap (λ (k : KeptWorker). record k { core = kept_with (kept_looked r.guild c.args.entries.now k.core.sessions) k.core }) (c.take_replica.ensures.taken r c.in-Some.is)) in
-    subst (λ (rs : List Replica). IsSome (find_id replica_id (replica_id (record { guild = c.follow.new.guild })) rs)) (sym replicas) there
+    let there = is_there k.machine c.args.guild c.args.entries.now r (sym c.take_replica.ensures.found ∙ c.in-Some.is) (record { guild = c.follow.new.guild }) (ap (λ g. record { guild = g }) c.in_ok-out.ensures.guild) in
+    let logs : c.follow.new.self.machine.logs ≡ put_id replica_id (empty c.args.guild) k.machine.logs =
+    ap (λ (h : KeptWorker). h.machine.logs)
+    (c.in_ok-out.ensures.core
+    ∙ ap (λ (h : KeptWorker). record h { machine = record h.machine { core = with_sessions (kept_looked r.guild c.args.entries.now h.machine.core.sessions) h.machine.core } }) (c.take_replica.ensures.taken r c.in-Some.is)) in
+    subst (λ (rs : List Replica). IsSome (find_id replica_id (replica_id (record { guild = c.follow.new.guild })) rs)) (sym logs) there
 
 pub returns : goal.returns
-returns c w stands =
+returns c =
+    let k : KeptWorker = c.args.self.now in
     let r : Replica = c.in-Some.replica in
-    let found = sym c.take_replica.ensures.found ∙ c.in-Some.is in
-    look_made c.args.self.now c.args.guild c.args.entries.now r found w stands c.take_replica.new.self c.follow.new.self c.put_replica.new.self _ c.in_ok-out.out.items
-    (c.take_replica.ensures.taken r c.in-Some.is) c.in_ok-out.ensures.core c.put_replica.ensures (ap (λ g. record { guild = g }) c.in_ok-out.ensures.guild) c.in_ok-out.ensures.out c.in_ok-out.ensures.spent
+    let one = c.take_replica.ensures.taken r c.in-Some.is in
+    look_made k c.args.guild c.args.entries.now r (sym c.take_replica.ensures.found ∙ c.in-Some.is) (live_at k c.take_replica.new.self _ one c.follow.ensures.live)
+    c.take_replica.new.self c.follow.new.self c.put_replica.new.self _ c.in_ok-out.out.items c.take_replica.ensures.ascend
+    one c.in_ok-out.ensures.core c.put_replica.ensures (ap (λ g. record { guild = g }) c.in_ok-out.ensures.guild) c.in_ok-out.ensures.out c.in_ok-out.ensures.spent

@@ -4,14 +4,17 @@ use Rattle.std.proofs.lemmas.Result.{err_from_is_err_and}
 use Rattle.std.specs.Vec.Iter.{into_iter_items}
 use Rattle.session_core.specs.declared.reply.Reply.{Reply}
 use Rattle.worker_core.specs.declared.io.StepFault.{StepFault}
-use Rattle.worker_core.specs.Stands.{KeptWorker, Replies, RepliesNot, is_plain, plain}
-use Rattle.worker_core.proofs.Moving.{alone, nothing_left, still_first, plain_reply, plain_last}
-use Rattle.worker_core.proofs.Lists.{append_none}
-use Rattle.worker_core.proofs.Kept.{flat_map_join}
 use Rattle.std.specs.Prelude.{flat_map}
 use Rattle.std.specs.List.{list_all}
 use Rattle.worker_core.specs.declared.io.Output.{Output as Written}
 use Rattle.worker_core.proofs.worker.Worker.reply_each.Goals as goal
+use Rattle.worker_core.specs.InCode.{KeptWorker}
+use Rattle.worker_core.specs.Replies.{Replies, RepliesNot, is_plain, plain}
+use Rattle.worker_core.specs.Outputs.{written, all_written}
+use Rattle.world_law.proofs.Lists.{map_join}
+use Rattle.worker_core.proofs.Moving.{alone, nothing_left, plain_last, plain_reply, still_first}
+use Rattle.world_law.proofs.Lists.{append_none}
+use Rattle.worker_core.proofs.Kept.{flat_map_join}
 
 pub returns-in_err-reply-clause-one : goal.returns-in_err-reply-clause-one
 returns-in_err-reply-clause-one c only is =
@@ -44,12 +47,16 @@ loop-reply-preserved c =
       plain = λ e.
           let both = plain_last at.yielded r e in
           let before = at.invariant.plain both.0 in
-          let one = plain_reply r at.self c.reply.new.self at.out.items c.reply.new.out.items both.1 c.in_ok-reply.ensures in
-          (one.0 ∙ before.0, one.1 ∙ (ap (λ out. out ++ plain r) before.1 ∙ (ap (λ out. flat_map plain at.yielded ++ out) (sym (append_none (plain r))) ∙ sym (flat_map_join plain at.yielded (r ∷ [])))));
+          let one = plain_reply r at.self c.reply.new.self at.out.items c.reply.new.out.items both.1 c.in_ok-reply.ensures in (
+            one.0 ∙ before.0,
+            one.1 ∙ (ap (λ out. out ++ all_written (plain r)) before.1
+                ∙ (sym (map_join written (flat_map plain at.yielded) (plain r))
+                ∙ ap all_written (ap (λ out. flat_map plain at.yielded ++ out) (sym (append_none (plain r))) ∙ sym (flat_map_join plain at.yielded (r ∷ []))))),
+          );
       one = λ only e.
           let one = alone at.yielded [] r only e in
           let empty = at.invariant.plain (ap (list_all is_plain) one.0) in
           let told : Replies only at.self c.reply.new.self at.out.items c.reply.new.out.items = subst (λ (r : Reply). Replies r at.self c.reply.new.self at.out.items c.reply.new.out.items) one.1 c.in_ok-reply.ensures in
           subst (λ (k : KeptWorker). Replies only k c.reply.new.self [] c.reply.new.out.items) empty.0
-          (subst (λ (out : List Written). Replies only at.self c.reply.new.self out c.reply.new.out.items) (empty.1 ∙ ap (flat_map plain) one.0) told);
+          (subst (λ (out : List Written). Replies only at.self c.reply.new.self out c.reply.new.out.items) (empty.1 ∙ ap (λ rs. all_written (flat_map plain rs)) one.0) told);
     }

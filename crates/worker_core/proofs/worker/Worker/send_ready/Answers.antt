@@ -1,7 +1,7 @@
 -- The session that has begun last is told its first dispatches.
 use Rattle.std.proofs.Common.{◌≡◌, ◌+◌, length, arith}
-use Rattle.worker_core.proofs.Moving.{greet_made}
 use Rattle.worker_core.proofs.worker.Worker.send_ready.Goals as goal
+use Rattle.worker_core.proofs.Moving.{greet_made}
 
 pub returns : goal.returns
 returns c =

@@ -1,8 +1,8 @@
 -- A status is wished in each guild.
 use Rattle.std.proofs.Common.{sym, ap, ◌∙◌}
 use Rattle.std.specs.Option.{option_copied}
-use Rattle.worker_core.proofs.Wanting.{sets, when_ok}
 use Rattle.worker_core.proofs.worker.Worker.wish_presence.Goals as goal
+use Rattle.worker_core.proofs.Wanting.{sets, when_ok}
 
 pub returns-in-Some : goal.returns-in-Some
 returns-in-Some c =

@@ -1,0 +1,68 @@
+-- The records of a worker's replicas are those of the model.
+use Rattle.std.proofs.Common.{◌≡◌, ℕ, List, [], ◌∷◌, Bool, true, false, Option, Some, None, if◌then◌else◌, map, refl, sym, ap, ◌∙◌}
+use Rattle.std.specs.Prelude.{◌==◌, is_some, option_map, nat_lt}
+use Rattle.std.proofs.lemmas.Bool.{eqb-true}
+use Rattle.collections.specs.ById.{find_id, put_id, IsById}
+use Rattle.collections.proofs.Ids.{IsById-put}
+use Rattle.collections.proofs.Finds.{same_by_id, find-put, find-map, key-found, IsById-map}
+use Rattle.guild_model.specs.Record.{Record, own_id}
+use Rattle.dispatch_types.specs.Fold.{contains}
+use Rattle.edit_apply.specs.Edits.{state}
+use Rattle.edit_apply.specs.declared.Edit.{Edit}
+use Rattle.world_law.specs.Keeping.{record_id}
+use Rattle.world_law.specs.Model.{Seen, record_of}
+use Rattle.world_law.proofs.Logs.{state_id}
+use Rattle.world_law.proofs.Found.{contains_found, find_record}
+use Rattle.worker_core.specs.declared.replica.Replica.{Replica}
+use Rattle.worker_core.specs.InCode.{replica_id, guild_of}
+
+-- a replica that is put is a record that is put
+pub put_guild : (r : Replica) (rs : List Replica) → map guild_of (put_id replica_id r rs) ≡ put_id record_id (guild_of r) (map guild_of rs)
+put_guild r [] = refl
+put_guild r (x ∷ rs) = by_tests (nat_lt (replica_id r) (replica_id x)) (replica_id r == replica_id x) (put_guild r rs)
+  where
+    by_tests : (below same : Bool) → map guild_of (put_id replica_id r rs) ≡ put_id record_id (guild_of r) (map guild_of rs)
+        → map guild_of (if below then r ∷ x ∷ rs else (if same then r ∷ rs else x ∷ put_id replica_id r rs))
+        ≡ (if below then guild_of r ∷ guild_of x ∷ map guild_of rs else (if same then guild_of r ∷ map guild_of rs else guild_of x ∷ put_id record_id (guild_of r) (map guild_of rs)))
+    by_tests true same rest = refl
+    by_tests false true rest = refl
+    by_tests false false rest = ap (λ gs. guild_of x ∷ gs) rest
+
+own_key : (r : Replica) → record_id (guild_of r) ≡ replica_id r
+own_key r = refl
+
+pub find_guild : (g : ℕ) (rs : List Replica) → find_id record_id g (map guild_of rs) ≡ option_map guild_of (find_id replica_id g rs)
+find_guild g rs = find-map replica_id record_id guild_of own_key g rs
+
+keyed : (seen : Seen) (g : ℕ) → record_id (record_of seen g) ≡ g
+keyed seen g = state_id g (seen g)
+
+pub records_ascend : (seen : Seen) (gs : List ℕ) → IsById own_id gs → IsById record_id (map (record_of seen) gs)
+records_ascend seen gs h = IsById-map own_id record_id (record_of seen) (keyed seen) gs h
+
+-- the records once more of one log was handled
+module _ (was is : Seen) (g : ℕ) (others : (h : ℕ) → (g == h) ≡ false → is h ≡ was h) (gs : List ℕ) (ascend : IsById own_id gs) (there : contains g gs ≡ true) (r : Record) (made : r ≡ record_of is g) where
+  pub put_record : put_id record_id r (map (record_of was) gs) ≡ map (record_of is) gs
+  put_record =
+      let at : record_id r ≡ g = ap record_id made ∙ state_id g (is g) in
+      same_by_id record_id _ _ (IsById-put record_id r _ (records_ascend was gs ascend)) (records_ascend is gs ascend)
+      (λ id. find-put record_id r id (map (record_of was) gs)
+      ∙ (ap (λ o. if record_id r == id then Some r else o) (find_record was id gs)
+      ∙ (ap (λ n. if n == id then Some r else option_map (record_of was) (find_id own_id id gs)) at
+      ∙ (by_id id (g == id) refl (find_id own_id id gs) refl ∙ sym (find_record is id gs)))))
+    where
+      by_id : (id : ℕ) (b : Bool) → (g == id) ≡ b → (o : Option ℕ) → find_id own_id id gs ≡ o
+          → (if b then Some r else option_map (record_of was) o) ≡ option_map (record_of is) o
+      by_id id true same None found =
+          let here : g ≡ id = eqb-true g id same in
+          let lacks : contains g gs ≡ false = ap (λ n. contains n gs) here ∙ (contains_found id gs ∙ ap is_some found) in
+          absurd (cc (there, lacks))
+      by_id id true same (Some n) found =
+          let one : n ≡ id = key-found own_id id gs n found in
+          let here : g ≡ n = eqb-true g id same ∙ sym one in
+          ap Some (made ∙ ap (λ n. record_of is n) here)
+      by_id id false differ None found = refl
+      by_id id false differ (Some n) found =
+          let one : n ≡ id = key-found own_id id gs n found in
+          let apart : (g == n) ≡ false = ap (λ k. g == k) one ∙ differ in
+          ap Some (ap (λ (es : List Edit). state n es) (sym (others n apart)))

@@ -1,0 +1,14 @@
+-- what is due to the viewers so far, and to those of their forms
+use Rattle.std.proofs.Common.{◌≡◌, true, map, take}
+use Rattle.guild_model.specs.Record.{Record}
+use Rattle.dispatch_types.specs.declared.viewer.Viewer.{Viewer}
+use Rattle.edit_apply.specs.Edits.{accepts, applied}
+use Rattle.edit_events.specs.Due.{due}
+use Rattle.edit_events.specs.Was.{was_of}
+use Rattle.worker_core.proofs.due.DueDispatches.of.Given as goal
+use Rattle.worker_core.specs.Forms.{AreDue}
+use Rattle.worker_core.specs.Recipients.{Picks}
+
+abbrev pub invariant-loop-index : goal.invariant-loop-index
+invariant-loop-index l = (s : Record) → l.notes ≡ map (λ (v : Viewer). was_of s v l.entry) l.viewers → l.guild ≡ applied s l.entry → accepts s l.entry ≡ true
+    → Picks l.lists.told.items l.whose.items (map (due s l.entry) (take l.index l.viewers)) × AreDue s l.entry l.lists.told.items l.lists.forms

@@ -1,0 +1,17 @@
+pub mod Lists
+pub mod Logs
+pub mod Folds
+pub mod Entered
+pub mod Found
+pub mod Sessions
+pub mod Entries
+pub mod Greetings
+pub mod Workers
+pub mod Chunks
+pub mod Alone
+pub mod Taking
+pub mod Worlds
+pub mod Replays
+pub mod Resumes
+pub mod GoesOn
+pub mod Sends

@@ -1,0 +1,16 @@
+pub mod Keeping
+pub mod Outputs
+pub mod Looks
+pub mod Greeting
+pub mod Wants
+pub mod Frames
+pub mod Inputs
+pub mod Spent
+pub mod Sent
+pub mod Model
+pub mod World
+pub mod Folds
+pub mod Sends
+pub mod Entries
+pub mod Resumes
+pub mod TheLaw
