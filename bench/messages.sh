@@ -18,6 +18,6 @@ for name in $names; do
   tar -C "$here/crates" --exclude="$name/out" -cf - "$name" | tar -C crates -xf -
   grep "^$name:" "$here/crates.txt" >>crates.txt
 done
-echo "messages: edit_apply guild_model collections snowflake_id perm_bits anyhow" >>crates.txt
+echo "messages: edit_apply message_edit channel_edit guild_model collections snowflake_id perm_bits anyhow" >>crates.txt
 cd crates/messages
 rt try

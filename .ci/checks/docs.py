@@ -71,7 +71,7 @@ def fields(known, name):
 
 def edit_readers():
     """What is read for each edit, by its name."""
-    arms = re.findall(r"EditName::(\w+) => (.*?)(?=\w+EditName::|\n    \}\))", text_of("crates/edit_text/src/edits/*.rt"), re.S)
+    arms = re.findall(r"EditName::(\w+) => (.*?)(?=\w+EditName::|\n    \}\))", text_of("crates/edit_fields/src/edits/*.rt"), re.S)
     return {re.sub(r"(?<!^)(?=[A-Z])", "_", name).lower(): arm for name, arm in arms}
 
 def verdicts(name, own, crate, rules, limits):
@@ -108,9 +108,9 @@ def dispatches_by_edit():
 
 def compare_steps_and_edits():
     for head, named in (("step", r"StepName::\w+ => \"(\w+)\""), ("edit", r"EditName::\w+ => \"(\w+)\"")):
-        compare("names", STEPS, 1, {name for _, (name, *_) in rows(STEPS, head)}, set(re.findall(named, text_of("crates/edit_text/src/names.rt"))))
+        compare("names", STEPS, 1, {name for _, (name, *_) in rows(STEPS, head)}, set(re.findall(named, text_of("crates/edit_fields/src/names.rt", "crates/edit_text/src/step_name.rt"))))
     edits, sent = edit_readers(), dispatches_by_edit()
-    known = functions("crates/edit_text/src/edits/*.rt") | functions("crates/edit_text/src/steps.rt") | edits
+    known = functions("crates/edit_fields/src/edits/*.rt") | functions("crates/edit_text/src/steps.rt") | edits
     for line, (name, cell, *_) in [*rows(STEPS, "step"), *rows(STEPS, "edit")]:
         page = [re.match(r"`(\w+)` (.+)", field).groups() for field in cell.split(", ") if field.startswith("`")]
         reader = name if name in edits else "edit_line_from" if name == "edit" else f"{name}_from"
