@@ -13,7 +13,7 @@ use std::alloc::{AllocError, Global};
 use std::marker::Model;
 use std::mem;
 
-/// What has an id: a number by which a list may ascend.
+/// What has an id: the number that orders a list.
 pub trait Keyed {
     ghost key: { Self → ℕ };
 
@@ -120,7 +120,7 @@ pub(crate) fn place_of<T: Keyed>(items: &[T], id: u64) -> usize
 }
 
 // The record at a place, if it has the id.
-pub(crate) fn record_at<T: Keyed>(items: &[T], place: usize, id: u64) -> Option<&T>
+fn record_at<T: Keyed>(items: &[T], place: usize, id: u64) -> Option<&T>
     ensures { option_copied result ≡ with_id T.key id (slice_get items.now place) }
 {
     if place >= items.len() {
@@ -128,6 +128,15 @@ pub(crate) fn record_at<T: Keyed>(items: &[T], place: usize, id: u64) -> Option<
     }
     let found = &items[place];
     if found.key() == id { Some(found) } else { None }
+}
+
+/// The record of an id in a slice that ascends, by binary search. `None` exactly if there is none.
+pub fn find<T: Keyed>(items: &[T], id: u64) -> Option<&T>
+    requires { IsById T.key items.now }
+    ensures { option_copied result ≡ find_id T.key id items.now }
+{
+    let place = place_of(items, id);
+    record_at(items, place, id)
 }
 
 impl<T: Keyed + Drop> ById<T> {
@@ -176,9 +185,7 @@ impl<T: Keyed + Drop> ById<T> {
     pub fn get(&self, id: u64) -> Option<&T>
         ensures { option_copied result ≡ find_id T.key id self.now }
     {
-        let items = self.items.as_slice();
-        let place = place_of(items, id);
-        record_at(items, place, id)
+        find(self.items.as_slice(), id)
     }
 
     /// Adds a record that does not exist yet, in its place. An `Err` changes nothing.
@@ -247,7 +254,7 @@ impl<T: Keyed + Drop> ById<T> {
         self.items.retain(keep);
     }
 
-    /// Takes away the record of an id, if there is one.
+    /// Removes the record of an id, if there is one.
     pub fn remove(&mut self, id: u64)
         ensures { self.new ≡ without_id T.key id self.old }
     {

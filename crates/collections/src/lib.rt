@@ -6,6 +6,6 @@ mod put_each;
 pub mod seq;
 pub mod text;
 
-pub use by_id::{ById, Change, Duplicate, Keyed};
+pub use by_id::{ById, Change, Duplicate, Keyed, find};
 pub use seq::Seq;
 pub use text::Text;

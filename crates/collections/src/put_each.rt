@@ -2,20 +2,11 @@
 //! list as it was.
 
 ghost use Rattle.std.specs.Prelude.{◌≡◌, ◌+◌, ◌<◌, ◌≤◌, None, OnOk, OnErr};
-ghost use Rattle.std.specs.Option.{option_copied};
 ghost use Rattle.std.specs.Vec.{vec_len, vec_capacity};
 ghost use Rattle.collections.specs.ById.{IsById, find_id, put_id, put_all};
 
-use crate::by_id::{Keyed, place_of, record_at, replace_at};
+use crate::by_id::{Keyed, find, place_of, replace_at};
 use std::alloc::AllocError;
-
-fn find<T: Keyed>(items: &[T], id: u64) -> Option<&T>
-    requires { IsById T.key items.now }
-    ensures { option_copied result ≡ find_id T.key id items.now }
-{
-    let place = place_of(items, id);
-    record_at(items, place, id)
-}
 
 // Adds a record that does not exist yet, where there is room for it.
 fn insert_within<T: Keyed + Drop>(items: &mut Vec<T>, item: T)

@@ -180,7 +180,7 @@ impl MessageHeads {
         Ok(())
     }
 
-    /// Takes away the message of an id, if there is one.
+    /// Removes the message of an id, if there is one.
     pub fn remove(&mut self, id: Snowflake)
         ensures { self.new ≡ without_head id self.old }
     {
@@ -189,7 +189,7 @@ impl MessageHeads {
         }
     }
 
-    /// Takes away the messages that stand in a channel or a thread, without a look at the others.
+    /// Removes the messages of a channel or a thread, without a look at the others.
     pub fn remove_in(&mut self, channel: Snowflake)
         ensures { self.new ≡ without_channel channel self.old }
     {
