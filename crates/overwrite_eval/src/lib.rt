@@ -1,15 +1,12 @@
 //! What a member may do and see, computed on whole masks.
 #![tactic(auto)]
 
-mod find;
+mod bounded;
 mod masks;
-mod parts;
-mod roles;
 mod sight;
 mod standing;
 mod tiers;
 
-pub use masks::{base_mask, channel_mask, mask_from};
-pub use parts::part_mask;
-pub use sight::{sees_channel, sees_thread};
+pub use bounded::{base_mask, channel_mask, mask_from, sees_channel, sees_thread};
+pub use masks::part_mask;
 pub use standing::StandingRef;

@@ -1,89 +1,109 @@
-//! A member's base permissions, and those in a channel.
+//! A member's permissions in a guild and in a channel, by the parts that decide them.
 
-ghost use Rattle.std.specs.Prelude.{◌≡◌, ◌+◌, ◌<◌, ◌≤◌, ℕ, length};
+ghost use Rattle.std.specs.Prelude.{◌≡◌, ◌<◌, ◌||◌, ℕ};
+ghost use Rattle.collections.specs.ById.{IsById};
 ghost use Rattle.perm_bits.specs.Bits.{has_bit};
-ghost use Rattle.guild_model.specs.Permissions.{base as base_has, grants};
-ghost use Rattle.guild_model.specs.Sight.{granted, standing};
-ghost use Rattle.overwrite_eval.specs.Looks.{role_looks, overwrite_looks};
+ghost use Rattle.perm_bits.specs.Permissions.{administrator};
+ghost use Rattle.guild_model.specs.Record.{role_id};
+ghost use Rattle.guild_model.specs.Permissions.{role_has, roles_have, part_base, part_grants};
+ghost use Rattle.overwrite_eval.specs.FromBase.{from_base};
 
-use crate::parts::{member_base, member_mask};
-use guild_model::{Guild, Member};
+use crate::tiers::Tiers;
+use collections::find;
+use guild_model::{Channel, Member, Role};
 use perm_bits::Perms;
 use snowflake_id::Snowflake;
-use std::sync::ledger::Ledger;
-use step_count::Steps;
 
-/// What a user may do in a guild (Permissions, Permission Overwrites, base permissions). A stranger may
-/// do nothing.
-#[tactic(auto, using(perm_bits::proofs::BitSets::bit_sets))]
-pub fn base_mask<L: Ledger>(guild: &Guild, user: Snowflake, steps: &mut Steps<L>) -> Perms
-    ensures bits { (b : ℕ) → b < 53 → has_bit result b ≡ base_has guild.now user b }
-    ensures looks { steps.new ≡ steps.old + role_looks guild.now user }
+/// Whether a mask grants everything.
+pub(crate) fn is_administrator(mask: Perms) -> bool
+    ensures { result ≡ has_bit mask administrator }
 {
-    match guild.member(user) {
-        Some(member) => member_base(guild.id, guild.owner, guild.roles.as_slice(), member, steps),
+    mask.has(Perms::ADMINISTRATOR)
+}
+
+/// The mask of a role, which is empty where there is no such role.
+#[tactic(auto, using(perm_bits::proofs::BitSets::bit_sets))]
+pub(crate) fn role_mask(roles: &[Role], id: Snowflake) -> Perms
+    requires { IsById role_id roles.now }
+    ensures { (b : ℕ) → has_bit result b ≡ role_has roles.now b id }
+{
+    match find(roles, id.0) {
+        Some(role) => role.permissions,
         None => Perms::NONE,
     }
 }
 
-/// What a user may do in a channel, from its base mask. A stranger may do nothing, and nobody in a
-/// channel that does not exist.
-#[tactic(auto, using(perm_bits::proofs::BitSets::bit_sets))]
-pub fn mask_from<L: Ledger>(
-    guild: &Guild,
-    user: Snowflake,
-    channel: Snowflake,
-    base: Perms,
-    steps: &mut Steps<L>,
-) -> Perms
-    requires { (b : ℕ) → b < 53 → has_bit base b ≡ base_has guild.now user b }
-    ensures bits { (b : ℕ) → b < 53 → has_bit result b ≡ grants guild.now user channel b }
-    ensures at_least { steps.old ≤ steps.new }
-    ensures at_most { steps.new ≤ steps.old + overwrite_looks guild.now channel }
+// The masks of @everyone, whose id is the guild's, and of the held roles, united.
+fn roles_mask(guild: Snowflake, roles: &[Role], held: &[Snowflake]) -> Perms
+    requires { IsById role_id roles.now }
+    ensures { (b : ℕ) → has_bit result b ≡ roles_have guild roles.now held.now b }
 {
-    match (guild.member(user), guild.channel(channel)) {
-        (Some(member), Some(channel)) => member_mask(guild.id, member, channel, base, steps),
-        _ => Perms::NONE,
+    let mut mask = role_mask(roles, guild);
+    for id in held {
+        mask = mask.union(role_mask(roles, *id));
+    }
+    mask
+}
+
+/// The base mask by the masks of the roles: the owner and an administrator may do everything.
+#[tactic(auto, using(perm_bits::proofs::BitSets::bit_sets))]
+pub(crate) fn base_from(mask: Perms, is_owner: bool) -> Perms
+    ensures { (b : ℕ) → b < 53
+        → has_bit result b ≡ ((is_owner || has_bit mask administrator) || has_bit mask b) }
+{
+    if is_owner || is_administrator(mask) {
+        Perms::ALL
+    } else {
+        mask
     }
 }
 
-// What a member may do in a channel, and nothing in one that does not exist.
-#[tactic(auto, using(perm_bits::proofs::BitSets::bit_sets))]
-pub(crate) fn mask_of<L: Ledger>(
-    guild: &Guild,
+/// The base mask of a member.
+#[tactic(auto, unfolding(guild_model::specs::Permissions::part_base))]
+pub(crate) fn part_base(
+    guild: Snowflake,
+    owner: Snowflake,
+    roles: &[Role],
     member: &Member,
-    channel: Snowflake,
-    steps: &mut Steps<L>,
 ) -> Perms
-    ensures bits { (b : ℕ) → b < 53
-        → has_bit result b ≡ granted (standing guild.now member.now) channel b }
-    ensures at_least { steps.old + (length member.now.roles + 1) ≤ steps.new }
-    ensures at_most { steps.new
-        ≤ steps.old + (length member.now.roles + 1) + overwrite_looks guild.now channel }
+    requires { IsById role_id roles.now }
+    ensures { (b : ℕ) → b < 53
+        → has_bit result b ≡ part_base guild owner roles.now member.now b }
 {
-    let base = member_base(guild.id, guild.owner, guild.roles.as_slice(), member, steps);
-    match guild.channel(channel) {
-        Some(channel) => member_mask(guild.id, member, channel, base, steps),
-        None => Perms::NONE,
-    }
+    let mask = roles_mask(guild, roles, member.roles.as_slice());
+    base_from(mask, owner == member.user.id)
 }
 
-/// What a user may do in a channel (Permissions, Permission Overwrites). A stranger may do nothing, and
-/// nobody in a channel that does not exist.
+/// The mask in a channel, from the base mask, which has ADMINISTRATOR where the member may do everything.
 #[tactic(auto, using(perm_bits::proofs::BitSets::bit_sets))]
-pub fn channel_mask<L: Ledger>(
-    guild: &Guild,
-    user: Snowflake,
-    channel: Snowflake,
-    steps: &mut Steps<L>,
+pub(crate) fn part_mask_from(
+    guild: Snowflake,
+    member: &Member,
+    channel: &Channel,
+    base: Perms,
 ) -> Perms
-    ensures bits { (b : ℕ) → b < 53 → has_bit result b ≡ grants guild.now user channel b }
-    ensures at_least { steps.old + role_looks guild.now user ≤ steps.new }
-    ensures at_most { steps.new
-        ≤ steps.old + role_looks guild.now user + overwrite_looks guild.now channel }
+    ensures { (b : ℕ) → b < 53
+        → has_bit result b ≡ from_base guild member.now channel.now.overwrites base b }
 {
-    match guild.member(user) {
-        Some(member) => mask_of(guild, member, channel, steps),
-        None => Perms::NONE,
+    if is_administrator(base) {
+        return Perms::ALL;
     }
+    Tiers::of(guild, member, &channel.overwrites).apply(base)
+}
+
+/// What a member may do in a channel, from these parts of a guild alone, of whose roles it has those
+/// that are among `roles` (Permissions, Permission Overwrites).
+pub fn part_mask(
+    guild: Snowflake,
+    owner: Snowflake,
+    roles: &[Role],
+    member: &Member,
+    channel: &Channel,
+) -> Perms
+    requires { IsById role_id roles.now }
+    ensures { (b : ℕ) → b < 53
+        → has_bit result b ≡ part_grants guild owner roles.now member.now channel.now.overwrites b }
+{
+    let base = part_base(guild, owner, roles, member);
+    part_mask_from(guild, member, channel, base)
 }

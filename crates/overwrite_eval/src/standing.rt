@@ -4,7 +4,7 @@ ghost use Rattle.std.specs.Prelude.{◌≡◌, ◌^◌, ◌<◌, ◌↔◌, ℕ,
 ghost use Rattle.perm_bits.specs.Bits.{has_bit};
 ghost use Rattle.guild_model.specs.Sight.{granted, sees, sees_in, standing, is_in};
 
-use crate::parts::{part_base, part_mask_from};
+use crate::masks::{part_base, part_mask_from};
 use crate::sight::{may_view, shows_thread};
 use collections::ById;
 use guild_model::{Channel, Guild, Member, Role, Thread, ThreadKind};

@@ -1,7 +1,7 @@
 use Rattle.std.proofs.Common.{sym, ◌∙◌, arith}
 use Rattle.perm_bits.specs.Permissions.{view_channel}
 use Rattle.overwrite_eval.proofs.Grants.{granted_user}
-use Rattle.overwrite_eval.proofs.sight.sees_channel.Goals as goal
+use Rattle.overwrite_eval.proofs.bounded.sees_channel.Goals as goal
 
 pub returns-clause-seen : goal.returns-clause-seen
 returns-clause-seen g c =

@@ -1,7 +1,7 @@
 use Rattle.std.proofs.Common.{◌≡◌, ℕ, ◌+◌, take}
 use Rattle.perm_bits.specs.Bits.{has_bit}
 use Rattle.guild_model.specs.Permissions.{roles_have}
-use Rattle.overwrite_eval.proofs.roles.roles_mask.Given as goal
+use Rattle.overwrite_eval.proofs.bounded.roles_mask.Given as goal
 
 abbrev pub invariant-loop-id : goal.invariant-loop-id
 invariant-loop-id g l = record {

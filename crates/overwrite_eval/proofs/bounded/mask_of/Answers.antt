@@ -7,7 +7,7 @@ use Rattle.guild_model.specs.Sight.{Standing, standing}
 use Rattle.perm_bits.specs.Bits.{has_bit}
 use Rattle.perm_bits.proofs.BitSets.{has_bit-none}
 use Rattle.overwrite_eval.proofs.Grants.{granted_from_base, granted_missing}
-use Rattle.overwrite_eval.proofs.masks.mask_of.Goals as goal
+use Rattle.overwrite_eval.proofs.bounded.mask_of.Goals as goal
 
 pub returns-in-Some-clause-bits : goal.returns-in-Some-clause-bits
 returns-in-Some-clause-bits g c b below =

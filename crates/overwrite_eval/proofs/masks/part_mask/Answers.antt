@@ -1,6 +1,6 @@
 use Rattle.std.proofs.Common.{◌∙◌}
 use Rattle.overwrite_eval.proofs.Grants.{grants_from_base}
-use Rattle.overwrite_eval.proofs.parts.part_mask.Goals as goal
+use Rattle.overwrite_eval.proofs.masks.part_mask.Goals as goal
 
 pub returns : goal.returns
 returns c b below =

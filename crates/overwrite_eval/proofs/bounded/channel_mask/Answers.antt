@@ -1,7 +1,7 @@
 use Rattle.std.proofs.Common.{sym, ap, ◌∙◌}
 use Rattle.std.specs.Option.{option_copied}
 use Rattle.overwrite_eval.proofs.Grants.{granted_member}
-use Rattle.overwrite_eval.proofs.masks.channel_mask.Goals as goal
+use Rattle.overwrite_eval.proofs.bounded.channel_mask.Goals as goal
 
 pub returns-in-Some-clause-bits : goal.returns-in-Some-clause-bits
 returns-in-Some-clause-bits g c b below =

@@ -2,7 +2,7 @@ use Rattle.std.proofs.Common.{sym, ap, ◌∙◌}
 use Rattle.std.specs.Option.{option_copied}
 use Rattle.guild_model.specs.Record.{Record}
 use Rattle.overwrite_eval.proofs.Grants.{grants_from}
-use Rattle.overwrite_eval.proofs.masks.mask_from.Goals as goal
+use Rattle.overwrite_eval.proofs.bounded.mask_from.Goals as goal
 
 pub returns-in-Some-Some-clause-bits : goal.returns-in-Some-Some-clause-bits
 returns-in-Some-Some-clause-bits g c b below =

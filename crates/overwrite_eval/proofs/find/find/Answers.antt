@@ -1,5 +1,0 @@
-use Rattle.collections.proofs.Ids.{find_at_place}
-use Rattle.overwrite_eval.proofs.find.find.Goals as goal
-
-pub returns : goal.returns
-returns g c = rw (c.item_at.ensures, c.place_of-place.ensures) (find_at_place g.T.Keyed.key c.args.id _ c.requires)
