@@ -9,6 +9,7 @@ pub mod Houses
 pub mod Spawners
 pub mod FaultPlans
 pub mod MemStreams
+pub mod BufferedSinks
 pub mod Shelves
 pub mod StdStreams
 pub mod StdHouses

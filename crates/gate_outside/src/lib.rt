@@ -6,6 +6,7 @@
 pub mod accepted;
 pub mod asked;
 pub mod back;
+pub mod buffered_sink;
 pub mod clocks;
 pub mod dials;
 pub mod doors;

@@ -2,10 +2,10 @@
 //! fails.
 ghost use Rattle.std.specs.Prelude.{◌≡◌, ◌<◌, ◌≤◌, [], ◌++◌, false, length, min, Some, Ok, IfOk, OnOk};
 ghost use Rattle.std.specs.Io.{ReadsAtMost};
-ghost use Rattle.std.specs.Io.KnownBytes.{ReadConsumes, WriteAppends};
+ghost use Rattle.std.specs.Io.KnownBytes.{ReadConsumes};
 ghost use Rattle.gate_outside.specs.Causes.{HasCause, FaultHasCause};
 ghost use Rattle.gate_outside.specs.FaultPlans.{fresh};
-ghost use Rattle.gate_outside.specs.Streams.{EndsOnce};
+ghost use Rattle.gate_outside.specs.Streams.{EndsOnce, Takes};
 ghost use Rattle.gate_outside.specs.MemStreams.{Reads, Writes};
 
 use crate::fault_plan::FaultPlan;
@@ -217,12 +217,14 @@ impl MemSink {
 impl Sink for MemSink {
     ghost got = { λ s. Some s.got };
 
+    ghost waits = { λ _. [] };
+
     ghost faults = { λ s. s.plan.faults };
 
     fn write(&mut self, from: &[u8]) -> Result<usize, Fault>
         ensures bound { IfOk result (λ n. n ≤ length from.now) }
         ensures some { IfOk result (λ n. 0 < length from.now → 0 < n) }
-        ensures bytes { WriteAppends (Some self.old.got) (Some self.new.got) result from.now }
+        ensures bytes { Takes (Some self.old.got) (Some self.new.got) [] [] result from.now }
         ensures cause { FaultHasCause self.old.plan.faults self.new.plan.faults result }
         ensures exact { Writes result self.old self.new from.now }
     {
@@ -234,6 +236,10 @@ impl Sink for MemSink {
         self.got.extend_from_slice(&from[..count])?;
         self.plan.count_call();
         Ok(count)
+    }
+
+    fn flush(&mut self) -> Result<(), Fault> {
+        Ok(())
     }
 }
 
@@ -282,17 +288,23 @@ impl Sink for SureSink {
 
     ghost got = { λ s. Some s };
 
+    ghost waits = { λ _. [] };
+
     ghost faults = { λ _. 0 };
 
     fn write(&mut self, from: &[u8]) -> Result<usize, Fault>
         ensures bound { IfOk result (λ n. n ≤ length from.now) }
         ensures some { IfOk result (λ n. 0 < length from.now → 0 < n) }
-        ensures bytes { WriteAppends (Some self.old) (Some self.new) result from.now }
+        ensures bytes { Takes (Some self.old) (Some self.new) [] [] result from.now }
         ensures cause { FaultHasCause 0 0 result }
         ensures whole { IfOk result (λ n. n ≡ length from.now) }
         ensures memory { IsOkUnless result fault.Memory }
     {
         self.got.extend_from_slice(from)?;
         Ok(from.len())
+    }
+
+    fn flush(&mut self) -> Result<(), Fault> {
+        Ok(())
     }
 }

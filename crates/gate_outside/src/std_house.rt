@@ -4,6 +4,7 @@ ghost use Rattle.gate_outside.specs.Houses.{PutsBack, returned_source, returned_
 ghost use Rattle.gate_outside.specs.StdHouses.{network_state, real_tale};
 
 use crate::back::Back;
+use crate::buffered_sink::BufferedSink;
 use crate::dials::Dial;
 use crate::faults::Fault;
 use crate::houses::House;
@@ -80,7 +81,7 @@ impl<R: Files + Input + Print + MachineTime + Copy + Drop, N: Network + Drop> Ho
     for RealHouse<R, N> {
     type In = FileSource<R::File, R::Reader>;
 
-    type Out = StdoutSink<R>;
+    type Out = BufferedSink<StdoutSink<R>>;
 
     type Gate = N::Gate;
 

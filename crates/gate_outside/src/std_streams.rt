@@ -1,5 +1,5 @@
 //! Sources and sinks over the system. Contracts see their counts, and no bytes.
-ghost use Rattle.std.specs.Prelude.{◌≡◌, ◌<◌, ◌≤◌, None, length, IfOk};
+ghost use Rattle.std.specs.Prelude.{◌≡◌, ◌<◌, ◌≤◌, [], None, length, IfOk};
 ghost use Rattle.gate_outside.specs.StdStreams.{new_input};
 
 use crate::faults::{Failed, Fault};
@@ -127,6 +127,8 @@ impl<P: Print + Drop> StdoutSink<P> {
 impl<P: Print + Drop> Sink for StdoutSink<P> {
     ghost got = { λ _. None };
 
+    ghost waits = { λ _. [] };
+
     ghost faults = { λ s. s };
 
     fn write(&mut self, from: &[u8]) -> Result<usize, Fault> {
@@ -137,5 +139,9 @@ impl<P: Print + Drop> Sink for StdoutSink<P> {
         }
         self.faults = self.faults.saturating_add(1);
         Err(Fault::Failed)
+    }
+
+    fn flush(&mut self) -> Result<(), Fault> {
+        Ok(())
     }
 }

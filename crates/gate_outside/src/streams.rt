@@ -1,10 +1,10 @@
 //! Where bytes come from, and where they go.
-ghost use Rattle.std.specs.Prelude.{◌≡◌, ◌<◌, ◌≤◌, ℕ, List, Bool, [], length, take, IfOk, OnOk, OnErr};
+ghost use Rattle.std.specs.Prelude.{◌≡◌, ◌<◌, ◌≤◌, ◌++◌, ℕ, List, Bool, [], length, take, IfOk, OnOk, OnErr};
 ghost use Rattle.std.specs.declared.option.Option.{Option};
 ghost use Rattle.std.specs.Io.{ReadsAtMost};
-ghost use Rattle.std.specs.Io.KnownBytes.{Appends, ReadConsumes, WriteAppends};
+ghost use Rattle.std.specs.Io.KnownBytes.{Appends, ReadConsumes};
 ghost use Rattle.gate_outside.specs.Causes.{HasCause, FaultHasCause};
-ghost use Rattle.gate_outside.specs.Streams.{EndsOnce, AppendsPart};
+ghost use Rattle.gate_outside.specs.Streams.{EndsOnce, Carries, CarriesPart, Takes};
 
 use crate::faults::{Failed, Fault};
 
@@ -28,33 +28,63 @@ pub trait Source {
         ensures cause { HasCause (faults self.old) (faults self.new) result };
 }
 
-/// A sink of bytes that counts its faults.
+/// A sink of bytes that counts its faults. What it takes may wait before it goes out.
 pub trait Sink {
-    /// The bytes that the sink got, where it tells.
+    /// The bytes that went out, where the sink tells.
     ghost got: { Self → Option (List ℕ) };
+
+    /// The bytes that it took, and that have not gone out yet.
+    ghost waits: { Self → List ℕ };
 
     /// How often it has failed. The count stays at its last value.
     ghost faults: { Self → ℕ };
 
-    /// Appends the first bytes of the piece, and says how many it took: at least one of a piece that
-    /// is not empty. A refusal takes none.
+    /// Takes the first bytes of the piece, and says how many it took: at least one of a piece that is
+    /// not empty. A refusal takes none, and no byte that waits is lost.
     fn write(&mut self, from: &[u8]) -> Result<usize, Fault>
         ensures bound { IfOk result (λ n. n ≤ length from.now) }
         ensures some { IfOk result (λ n. 0 < length from.now → 0 < n) }
-        ensures bytes { WriteAppends (got self.old) (got self.new) result from.now }
+        ensures bytes { Takes (got self.old) (got self.new) (waits self.old) (waits self.new)
+            result from.now }
+        ensures cause { FaultHasCause (faults self.old) (faults self.new) result };
+
+    /// Lets all that waits go out. After a refusal a front of it did, and the rest waits.
+    fn flush(&mut self) -> Result<(), Fault>
+        ensures ok { OnOk result (Appends (got self.old) (got self.new) (waits self.old)) }
+        ensures none { OnOk result (waits self.new ≡ []) }
+        ensures err { OnErr result
+            (Carries (got self.old) (got self.new) (waits self.new) (waits self.old)) }
         ensures cause { FaultHasCause (faults self.old) (faults self.new) result };
 }
 
+// Offers the bytes to the sink, and then again the rest that was not taken, until all are taken or the
+// sink refuses. It says how many were taken.
+pub(crate) fn offer<K: Sink>(sink: &mut K, bytes: &[u8]) -> (usize, Result<(), Fault>)
+    ensures bound { result.0 ≤ length bytes.now }
+    ensures all { OnOk result.1 (result.0 ≡ length bytes.now) }
+    ensures some { OnErr result.1 (result.0 < length bytes.now) }
+    ensures bytes { Carries (K.got sink.old) (K.got sink.new) (K.waits sink.new)
+        (K.waits sink.old ++ take result.0 bytes.now) }
+    ensures cause { FaultHasCause (K.faults sink.old) (K.faults sink.new) result.1 }
+{
+    let mut taken = 0;
+    while taken < bytes.len() {
+        match sink.write(&bytes[taken..]) {
+            Ok(count) => taken += count,
+            Err(fault) => return (taken, Err(fault)),
+        }
+    }
+    (taken, Ok(()))
+}
+
 /// Offers the piece to the sink, and then again the rest that was not taken, until the whole is taken
-/// or the sink refuses. After a refusal the sink has a prefix of the piece.
+/// or the sink refuses. After a refusal the sink took a front of the piece, and not the whole.
 pub fn write_all<K: Sink>(sink: &mut K, piece: &[u8]) -> Result<(), Fault>
-    ensures ok { OnOk result (Appends (K.got sink.old) (K.got sink.new) piece.now) }
-    ensures err { OnErr result (AppendsPart (K.got sink.old) (K.got sink.new) piece.now) }
+    ensures ok { OnOk result (Carries (K.got sink.old) (K.got sink.new) (K.waits sink.new)
+        (K.waits sink.old ++ piece.now)) }
+    ensures err { OnErr result (CarriesPart (K.got sink.old) (K.got sink.new)
+        (K.waits sink.old) (K.waits sink.new) piece.now) }
     ensures cause { FaultHasCause (K.faults sink.old) (K.faults sink.new) result }
 {
-    let mut at = 0;
-    while at < piece.len() {
-        at += sink.write(&piece[at..])?;
-    }
-    Ok(())
+    offer(sink, piece).1
 }
