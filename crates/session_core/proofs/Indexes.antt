@@ -1,9 +1,7 @@
 -- Sessions by their indexes.
-use Rattle.std.proofs.Common.{◌≡◌, ℕ, zero, suc, List, [], ◌∷◌, map, Some, slice_get, slice_set, position, length, subst, refl, sym, ap, ◌∙◌, arith, nat_eq, ◌==◌}
+use Rattle.std.proofs.Common.{◌≡◌, ℕ, zero, suc, List, [], ◌∷◌, map, Some, slice_get, slice_set, subst, refl, sym, ap, ◌∙◌, nat_eq}
 use Rattle.std.specs.Option.{option_map}
-use Rattle.std.specs.List.{position_or_len, IsDistinct}
-use Rattle.std.proofs.lemmas.List.{length-map}
-use Rattle.std.proofs.lemmas.Bool.Decides.{nat_tests}
+use Rattle.std.specs.List.{IsDistinct}
 use Rattle.std.proofs.lemmas.Map.Entries.{lookup_from_place}
 use Rattle.std.specs.Map.{keys_of}
 use Rattle.indexmap.specs.IndexMap.{set_value_at}
@@ -16,8 +14,7 @@ use Rattle.session_core.specs.declared.kept.Connection.{Connection as KeptConnec
 use Rattle.session_core.specs.declared.kept.Session.{Session as KeptSession}
 use Rattle.session_core.specs.declared.kept.Condition.{Condition as KeptCondition}
 use Rattle.session_core.specs.declared.kept.Condition.TheVariants as condition
-use Rattle.replay_ring.specs.Replay.{Replay}
-use Rattle.session_core.specs.State.{Session, attached}
+use Rattle.session_core.specs.State.{attached}
 use Rattle.session_core.specs.Kept.{session_of, condition_of, conn_of, IsKept, AreHeld}
 use Rattle.session_core.proofs.Changes.{IsKept-session}
 use Rattle.session_core.proofs.Held.{AreHeld-set, held-at}
@@ -34,15 +31,6 @@ set-kept (e ∷ es) (suc i) k x y at = ap (λ rest. session_of e ∷ rest) (set-
 
 pub at-kept : (es : List (ℕ × KeptSession)) (i k : ℕ) (x : KeptSession) → slice_get es i ≡ Some (k, x) → slice_get (map session_of es) i ≡ Some (session_of (k, x))
 at-kept es i k x at = slice_get-map session_of es i ∙ ap (option_map session_of) at
-
-index-kept : (es : List (ℕ × KeptSession)) (n : ℕ) → position_or_len (λ (x : Session Replay). x.number == n) (map session_of es) ≡ position_or_len (nat_eq n) (keys_of es)
-index-kept [] n = refl
-index-kept (e ∷ es) n = grind (arith, nat_tests, index-kept es n)
-
-pub position-kept : (es : List (ℕ × KeptSession)) (n : ℕ) → position (λ (x : Session Replay). x.number == n) (map session_of es) ≡ position (nat_eq n) (keys_of es)
-position-kept es n =
-    let numbers : length (keys_of es) ≡ length es = length-map es (λ e. e.0) in
-    rw (index-kept es n, length-map es session_of, numbers) refl
 
 -- a session with another count has its condition and its number
 pub IsKept-counted : {S : Type 0} (made : ℕ) (connections : List (ℕ × KeptConnection)) (old : IndexMap ℕ KeptSession S) (i k : ℕ) (x y : KeptSession) → IsKept made connections old.entries

@@ -20,3 +20,7 @@ new_holder worker number name viewer =
 -- whom a session of a worker is for
 abbrev pub holder_of : {A : Type 0} → ℕ → Session A → Holder
 holder_of worker x = new_holder worker x.number x.name x.viewer
+
+-- the viewer of its dispatches
+abbrev pub viewer_for : Holder → Viewer
+viewer_for h = record { user = h.user; intents = h.intents; shard = h.shard; threshold = h.threshold }

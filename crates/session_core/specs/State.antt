@@ -1,7 +1,7 @@
 -- The connections and sessions of one worker (Gateway, Connection Lifecycle). What is kept of the
 -- dispatches of a session is a parameter: all of them in the model, what a resume needs in the code.
-use Rattle.std.specs.Prelude.{ℕ, ◌+◌, List, [], ◌∷◌, ◌++◌, Bool, true, false, not, ◌==◌, ◌&&◌, nat_lt, Option, Some, None, is_some, option_map, if◌then◌else◌, length, map, filter}
-use Rattle.std.specs.List.{find, list_any}
+use Rattle.std.specs.Prelude.{ℕ, ◌+◌, List, [], ◌∷◌, ◌++◌, Bool, true, false, not, ◌==◌, ◌&&◌, nat_eq, nat_lt, Option, Some, None, is_some, option_map, if◌then◌else◌, length, map, filter}
+use Rattle.std.specs.List.{find, list_any, IsDistinct}
 use Rattle.dispatch_types.specs.declared.viewer.Viewer.{Viewer}
 use Rattle.gateway_frames.specs.declared.out.Out.TheVariants.{Hello}
 use Rattle.session_core.specs.declared.bot.Bot.{Bot}
@@ -73,6 +73,10 @@ module _ {A : Type 0} where
 
   abbrev pub session_number : Session A → ℕ
   session_number x = x.number
+
+  -- no two sessions have one number
+  abbrev pub AreNumberedOnce : State A → Type 0
+  AreNumberedOnce s = IsDistinct nat_eq (map session_number s.sessions)
 
   -- the live session of a number
   abbrev pub session_numbered : ℕ → State A → Option (Session A)

@@ -1,14 +1,14 @@
 //! The live sessions by their numbers: whom each is for, and its dispatches (Gateway, Resuming).
 
-ghost use Rattle.std.specs.Prelude.{◌≡◌, ◌↔◌, ◌-◌, ◌^◌, Some, nat_eq, map, option_map, slice_get, IsErr, IsSome, IfOk, OnOk, OnErr};
-ghost use Rattle.std.specs.List.{IsDistinct};
+ghost use Rattle.std.specs.Prelude.{◌≡◌, ◌↔◌, ◌-◌, ◌^◌, ◌<◌, Some, true, length, option_map, slice_get, IsErr, IsSome, IfSome, IfOk, OnOk, OnErr};
 ghost use Rattle.std.specs.Option.{option_copied};
-ghost use Rattle.session_core.specs.State.{live, attached, session_number, session_numbered};
+ghost use Rattle.session_core.specs.State.{live, attached, session_number, session_numbered, AreNumberedOnce};
 ghost use Rattle.session_core.specs.Holders.{holder_of};
-ghost use Rattle.session_core.specs.Pushes.{number_after, pushed_to};
+ghost use Rattle.session_core.specs.Pushes.{number_after, pushed_to, next_number, has_next_at, pushed_at};
 
 use crate::sessions::Sessions;
 use crate::{Holder, Mark, Spent};
+use dispatch_types::Viewer;
 use payload_text::Payload;
 
 impl Sessions {
@@ -17,7 +17,7 @@ impl Sessions {
     pub fn live(&self, index: usize) -> Option<u32>
         ensures number { result ≡ option_map session_number (slice_get (live self.now) index) }
         ensures all { live self.now ≡ self.now.sessions }
-        ensures once { IsDistinct nat_eq (map session_number self.now.sessions) }
+        ensures once { AreNumberedOnce self.now }
     {
         let Some((number, _)) = self.sessions.get_index(index) else {
             return None;
@@ -27,7 +27,8 @@ impl Sessions {
 
     /// Whom a session is for. `None` exactly if it is not live.
     pub fn holder(&self, session: u32) -> Option<&Holder>
-        ensures { option_copied result ≡ option_map (holder_of self.now.worker) (session_numbered session self.now) }
+        ensures holder { option_copied result ≡ option_map (holder_of self.now.worker) (session_numbered session self.now) }
+        ensures once { AreNumberedOnce self.now }
     {
         let Some(session) = self.sessions.get(&session) else {
             return None;
@@ -53,8 +54,10 @@ impl Sessions {
         requires { IsSome (session_numbered session self.old) }
         ensures conn { IfOk result (λ conn. option_map (λ x. attached x.condition) (session_numbered session self.old) ≡ Some conn) }
         ensures pushed { OnOk result (self.new ≡ pushed_to session text self.old) }
+        ensures room { OnOk result (IfSome (session_numbered session self.old) (λ x. x.sent.last < 2 ^ 64 - 1)) }
         ensures spent { IsErr result ↔ (option_map (λ x. x.sent.last) (session_numbered session self.old) ≡ Some (2 ^ 64 - 1)) }
         ensures err { OnErr result (self.new ≡ self.old) }
+        ensures once { AreNumberedOnce self.old }
     {
         let Some(session) = self.sessions.get_mut(&session) else {
             return Ok(None);
@@ -64,5 +67,54 @@ impl Sessions {
         }
         session.sent.push(text);
         Ok(session.condition.conn())
+    }
+}
+
+// By index, for a caller that goes over all live sessions for each entry of a log: nothing has to be found.
+impl Sessions {
+    /// The viewer of the live session at an index.
+    pub fn viewer_at(&self, index: usize) -> Option<&Viewer>
+        ensures { option_copied result ≡ option_map (λ x. x.viewer) (slice_get self.now.sessions index) }
+    {
+        let (_, session) = self.sessions.get_index(index)?;
+        Some(&session.viewer)
+    }
+
+    /// The number of the next dispatch of the live session at an index. `Spent` exactly if its last
+    /// number is 2^64 - 1.
+    pub fn next_at(&self, index: usize) -> Result<u64, Spent>
+        requires { index < length self.now.sessions }
+        ensures number { IfOk result (λ number. option_map next_number (slice_get self.now.sessions index) ≡ Some number) }
+        ensures fits { IfOk result (λ number. number < 2 ^ 64) }
+        ensures room { IfOk result (λ number. has_next_at index self.now ≡ true) }
+        ensures spent { IsErr result ↔ (option_map (λ x. x.sent.last) (slice_get self.now.sessions index) ≡ Some (2 ^ 64 - 1)) }
+    {
+        let Some((_, session)) = self.sessions.get_index(index) else {
+            return Err(Spent);
+        };
+        let last = session.sent.last();
+        if last == u64::MAX {
+            return Err(Spent);
+        }
+        Ok(last + 1)
+    }
+
+    /// The connection of the live session at an index.
+    pub fn conn_at(&self, index: usize) -> Option<u32>
+        requires { index < length self.now.sessions }
+        ensures { option_map (λ x. attached x.condition) (slice_get self.now.sessions index) ≡ Some result }
+    {
+        let (_, session) = self.sessions.get_index(index)?;
+        session.condition.conn()
+    }
+
+    /// Keeps the text of the next dispatch of the live session at an index, for a resume.
+    pub fn push_at(&mut self, index: usize, text: Payload)
+        requires there { index < length self.old.sessions }
+        requires room { has_next_at index self.old ≡ true }
+        ensures { self.new ≡ pushed_at index text self.old }
+    {
+        let (_, session) = self.sessions.pair_mut(index);
+        session.sent.push(text);
     }
 }

@@ -1,7 +1,7 @@
 //! Whom a session is for.
 
 ghost use Rattle.std.specs.Prelude.{◌≡◌, IfOk};
-ghost use Rattle.session_core.specs.Holders.{new_holder};
+ghost use Rattle.session_core.specs.Holders.{new_holder, viewer_for};
 
 use crate::ids::session_id;
 use collections::Text;
@@ -47,5 +47,17 @@ impl Holder {
             shard: viewer.shard,
             threshold: viewer.threshold,
         })
+    }
+
+    /// The viewer of the session's dispatches.
+    pub fn viewer(&self) -> Viewer
+        ensures { result ≡ viewer_for self.now }
+    {
+        Viewer {
+            user: self.user,
+            intents: self.intents,
+            shard: self.shard,
+            threshold: self.threshold,
+        }
     }
 }

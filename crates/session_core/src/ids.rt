@@ -8,19 +8,6 @@ use itoa::Buffer;
 use snowflake_id::Snowflake;
 use std::alloc::{AllocError, Global};
 
-/// The id of a session: of its worker, and of its number there.
-pub fn session_id(alloc: Global, worker: u8, number: u32) -> Result<Text, AllocError>
-    ensures { IfOk result (λ id. id ≡ session_id worker number) }
-{
-    let mut text = String::new(alloc);
-    let mut buffer = Buffer::new();
-    text.push_str("w")?;
-    text.push_str(buffer.format(worker))?;
-    text.push_str("s")?;
-    text.push_str(buffer.format(number))?;
-    Ok(Text::from_string(text))
-}
-
 /// What the ids of a worker's sessions begin with.
 fn front(alloc: Global, worker: u8) -> Result<Text, AllocError>
     ensures { IfOk result (λ front. front ≡ codes "w" ++ (decimal worker ++ codes "s")) }
@@ -30,6 +17,16 @@ fn front(alloc: Global, worker: u8) -> Result<Text, AllocError>
     text.push_str("w")?;
     text.push_str(buffer.format(worker))?;
     text.push_str("s")?;
+    Ok(Text::from_string(text))
+}
+
+/// The id of a session: of its worker, and of its number there.
+pub fn session_id(alloc: Global, worker: u8, number: u32) -> Result<Text, AllocError>
+    ensures { IfOk result (λ id. id ≡ session_id worker number) }
+{
+    let mut text = front(alloc, worker)?.into_string();
+    let mut buffer = Buffer::new();
+    text.push_str(buffer.format(number))?;
     Ok(Text::from_string(text))
 }
 

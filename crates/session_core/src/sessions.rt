@@ -1,9 +1,8 @@
 //! The connections and sessions of one worker, and each change of them.
 
-ghost use Rattle.std.specs.Prelude.{◌≡◌, ◌<◌, ◌^◌, ◌==◌, ◌↔◌, position, slice_get, option_map, IsErr, Some, None, ◌-◌, true, false, not, nat_lt, ◌∷◌, [], length, map, is_some, IfOk, OnOk, OnErr};
+ghost use Rattle.std.specs.Prelude.{◌≡◌, ◌<◌, ◌^◌, ◌==◌, option_map, Some, None, ◌-◌, true, false, not, nat_lt, ◌∷◌, [], length, map, is_some, IfOk, OnOk, OnErr};
 ghost use Rattle.session_core.specs.State.{no_sessions, live, has_session, number_on, gone, begun, Detached, has_connection, with_connection, opened, open_replies, after_heartbeat, attached};
 ghost use Rattle.std.specs.Option.{option_copied, option_and_then};
-ghost use Rattle.session_core.specs.Pushes.{next_number, has_next_at, pushed_at};
 ghost use Rattle.session_core.specs.Rate.{is_rated, frame_counted};
 ghost use Rattle.session_core.specs.Resume.{attached_to, session_named};
 ghost use Rattle.session_core.specs.Frames.{none_sent};
@@ -17,13 +16,12 @@ use crate::conn::Conn;
 use crate::ids::number_of;
 use crate::kept::{Condition, Connection, Session};
 use crate::window::Window;
-use crate::{Bot, Holder, Reply, Spent};
+use crate::{Bot, Holder, Reply};
 use collections::ById;
 use dispatch_types::Viewer;
 use gateway_frames::close::{AUTHENTICATION_FAILED, UNKNOWN_ERROR};
 use gateway_frames::{Identify, Out};
 use indexmap::IndexMap;
-use payload_text::Payload;
 use std::alloc::{AllocError, Global};
 use std::marker::Model;
 
@@ -327,74 +325,5 @@ impl Sessions {
         };
         connection.session = Some(number);
         Ok(())
-    }
-
-    /// The index of a live session, in order of making.
-    pub fn index_of(&self, session: u32) -> Option<usize>
-        ensures { result ≡ position (λ x. x.number == session) self.now.sessions }
-    {
-        self.sessions.get_index_of(&session)
-    }
-
-    /// The number of the live session at an index.
-    pub fn number_at(&self, index: usize) -> Option<u32>
-        ensures { result ≡ option_map (λ x. x.number) (slice_get self.now.sessions index) }
-    {
-        let (number, _) = self.sessions.get_index(index)?;
-        Some(*number)
-    }
-
-    /// The name of the bot of the live session at an index.
-    pub fn name_at(&self, index: usize) -> Option<&str>
-        ensures { option_map (λ name. name.now) result ≡ option_map (λ x. x.name) (slice_get self.now.sessions index) }
-    {
-        let (_, session) = self.sessions.get_index(index)?;
-        Some(session.holder.name.as_str())
-    }
-
-    /// The viewer of the live session at an index.
-    pub fn viewer_at(&self, index: usize) -> Option<&Viewer>
-        ensures { option_copied result ≡ option_map (λ x. x.viewer) (slice_get self.now.sessions index) }
-    {
-        let (_, session) = self.sessions.get_index(index)?;
-        Some(&session.viewer)
-    }
-
-    /// The number of the next dispatch of the live session at an index. `Spent` exactly if its last
-    /// number is 2^64 - 1.
-    pub fn next_at(&self, index: usize) -> Result<u64, Spent>
-        requires { index < length self.now.sessions }
-        ensures number { IfOk result (λ number. option_map next_number (slice_get self.now.sessions index) ≡ Some number) }
-        ensures fits { IfOk result (λ number. number < 2 ^ 64) }
-        ensures room { IfOk result (λ number. has_next_at index self.now ≡ true) }
-        ensures spent { IsErr result ↔ (option_map (λ x. x.sent.last) (slice_get self.now.sessions index) ≡ Some (2 ^ 64 - 1)) }
-    {
-        let Some((_, session)) = self.sessions.get_index(index) else {
-            return Err(Spent);
-        };
-        let last = session.sent.last();
-        if last == u64::MAX {
-            return Err(Spent);
-        }
-        Ok(last + 1)
-    }
-
-    /// The connection of the live session at an index.
-    pub fn conn_at(&self, index: usize) -> Option<u32>
-        requires { index < length self.now.sessions }
-        ensures { option_map (λ x. attached x.condition) (slice_get self.now.sessions index) ≡ Some result }
-    {
-        let (_, session) = self.sessions.get_index(index)?;
-        session.condition.conn()
-    }
-
-    /// Keeps the text of the next dispatch of the live session at an index, for a resume.
-    pub fn push_at(&mut self, index: usize, text: Payload)
-        requires there { index < length self.old.sessions }
-        requires room { has_next_at index self.old ≡ true }
-        ensures { self.new ≡ pushed_at index text self.old }
-    {
-        let (_, session) = self.sessions.pair_mut(index);
-        session.sent.push(text);
     }
 }

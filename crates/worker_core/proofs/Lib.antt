@@ -7,4 +7,5 @@ pub mod Looking
 pub mod Forms
 pub mod Putting
 pub mod Wanting
+pub mod Numbering
 pub mod Moving

@@ -1,9 +1,9 @@
 -- What the calls of a step leave, taken together, is the step.
 use Rattle.std.proofs.Common.{◌≡◌, ℕ, ◌+◌, ◌≤◌, List, [], ◌∷◌, ◌++◌, suc, zero, Bool, true, false, Option, Some, None, Result, Ok, Err, if◌then◌else◌, length, map, drop, take, refl, sym, ap, subst, ◌∙◌, arith}
-use Rattle.std.specs.Prelude.{◌==◌, ◌&&◌, ◌||◌, nat_lt, max, flat_map, IsSome, is_some, MatchResult, slice_get, option_map}
+use Rattle.std.specs.Prelude.{◌==◌, ◌&&◌, ◌||◌, nat_lt, flat_map, IsSome, is_some, MatchResult, OnOk, option_map, position}
 use Rattle.std.specs.List.{list_all}
 use Rattle.std.specs.Option.{option_map_or}
-use Rattle.std.proofs.lemmas.List.{length-append, take-append-drop}
+use Rattle.std.proofs.lemmas.List.{take-append-drop}
 use Rattle.dispatch_types.specs.declared.dispatch.Dispatch.{Dispatch}
 use Rattle.collections.specs.ById.{find_id, has_id, put_id, put_all, IsById}
 use Rattle.collections.proofs.Finds.{find-put, key-found, IsById-put_all}
@@ -17,8 +17,8 @@ use Rattle.session_core.specs.declared.fault.SessionFault.{SessionFault}
 use Rattle.session_core.specs.declared.fault.SessionFault.TheVariants as session
 use Rattle.session_core.specs.declared.reply.Reply.{Reply}
 use Rattle.session_core.specs.declared.reply.Reply.TheVariants as reply
-use Rattle.session_core.specs.State.{State, Session, Attached, has_connection, live, open_replies}
-use Rattle.session_core.specs.Ends.{closes, silent_of, tick_replies, session_conns, end_all_replies, all_ended}
+use Rattle.session_core.specs.State.{State, Session, Attached, AreNumberedOnce, has_connection, live, open_replies}
+use Rattle.session_core.specs.Ends.{closes, session_conns, end_all_replies, all_ended}
 use Rattle.session_core.specs.Frames.{Move, Nothing, Answers, ClosesWith, Begins, Denies, Resumes, Wants, Want, Members, Presence, Voice, want_reply, move_replies, is_spent}
 use Rattle.session_core.specs.Resume.{resume_replies}
 use Rattle.replay_ring.specs.Replay.{Replay, fresh, texts_after}
@@ -37,7 +37,10 @@ use Rattle.world_law.specs.Model.{Worker, record_of}
 use Rattle.worker_core.specs.Outputs.{all_written}
 use Rattle.worker_core.proofs.Records.{find_guild}
 use Rattle.world_law.specs.Greeting.{first_dispatches}
+use Rattle.worker_core.proofs.Numbering.{last_index}
 use Rattle.worker_core.proofs.Telling.{found_at}
+use Rattle.worker_core.proofs.Wanting.{there_at}
+use Rattle.world_law.specs.Wants.{is_numbered, numbered}
 use Rattle.world_law.specs.Frames.{frame_sends, framed, move_at, older_sends}
 use Rattle.world_law.specs.Spent.{frame_spends, is_past, look_spends_by, spends}
 use Rattle.world_law.proofs.Logs.{from_id}
@@ -187,25 +190,32 @@ pub nothing_left : {A : Type 0} (xs : List A) → length xs ≡ 0 → xs ≡ []
 nothing_left [] none = refl
 nothing_left (x ∷ xs) none = absurd (omega arith)
 
--- the session that has begun is the last one, and is told its first dispatches
-pub greet_made : {V : Type 0} (old : KeptWorker) (n index : ℕ) (list : List Dispatch) (new : State Replay) (before out : List Written) (result : Result V StepFault)
-    → index + 1 ≡ length old.machine.core.sessions → option_map_or (greeted old.machine n) (slice_get old.machine.core.sessions index) [] ≡ list
-    → MatchResult result (λ v. TellsAt index (λ x. list) old.machine.core new before out) (FailsAt index (λ x. list) old.machine.core)
-    → MatchResult result (λ v. Greets old n (record old { machine = record old.machine { core = new } }) before out) (GreetsNot old n)
-greet_made old n index list new before out (Ok v) last first told = λ front x is.
-    let at : index ≡ length front = omega (arith, last, ap length is, length-append front (x ∷ [])) in
-    let here : list ≡ greeted old.machine n x = sym first ∙ ap (λ o. option_map_or (greeted old.machine n) o []) (found_at index front x [] old.machine.core (is, at)) in
-    let all = told front [] x (is, at) in (
-      ap (λ (s : State Replay). record old { machine = record old.machine { core = s } }) all.0 ∙ ap (λ ds. record old { machine = record old.machine { core = with_sessions (front ++ further ds x ∷ []) old.machine.core } }) here,
-      (
-        all.1.0 ∙ ap (λ ds. before ++ all_written (sends wire_text x.condition x.sent.last ds)) here,
-        ap (λ ds. is_past x.sent.last (length ds)) (sym here) ∙ all.1.1,
-      ),
-    )
-greet_made old n index list new before out (Err fault) last first told = λ front x is.
-    let at : index ≡ length front = omega (arith, last, ap length is, length-append front (x ∷ [])) in
-    let here : list ≡ greeted old.machine n x = sym first ∙ ap (λ o. option_map_or (greeted old.machine n) o []) (found_at index front x [] old.machine.core (is, at)) in
-    subst (λ ds. FaultBy (is_past x.sent.last (length ds)) fault) here (told front [] x (is, at))
+-- the session that begins is the last one, and is told its first dispatches
+module _ (old : KeptWorker) (n : ℕ) (list : List Dispatch) (once : AreNumberedOnce old.machine.core)
+    (first : option_map_or (greeted old.machine n) (numbered n old.machine.core.sessions) [] ≡ list) where
+  its_first : (front : List (Session Replay)) (x : Session Replay) → old.machine.core.sessions ≡ front ++ x ∷ [] → is_numbered n x ≡ true → list ≡ greeted old.machine n x
+  its_first front x is same =
+      let s = old.machine.core in
+      sym first ∙ ap (λ o. option_map_or (greeted old.machine n) o [])
+      (sym (there_at (is_numbered n) s.sessions (length front) (last_index n front x s is same once)) ∙ found_at (length front) front x [] s (is, refl))
+
+  pub greet_made : {V : Type 0} (new : KeptWorker) (before out : List Written) (result : Result V StepFault)
+      → OnOk result (new ≡ record old { machine = record old.machine { core = new.machine.core } })
+      → ((index : ℕ) → position (is_numbered n) old.machine.core.sessions ≡ Some index
+      → MatchResult result (λ v. TellsAt index (λ x. list) old.machine.core new.machine.core before out) (FailsAt index (λ x. list) old.machine.core))
+      → MatchResult result (λ v. Greets old n new before out) (GreetsNot old n)
+  greet_made new before out (Ok v) core told = λ front x is same.
+      let here = its_first front x is same in
+      let all = told (length front) (last_index n front x old.machine.core is same once) front [] x (is, refl) in (
+        core ∙ ap (λ (s : State Replay). record old { machine = record old.machine { core = s } }) (all.0 ∙ ap (λ ds. with_sessions (front ++ further ds x ∷ []) old.machine.core) here),
+        (
+          all.1.0 ∙ ap (λ ds. before ++ all_written (sends wire_text x.condition x.sent.last ds)) here,
+          ap (λ ds. is_past x.sent.last (length ds)) (sym here) ∙ all.1.1,
+        ),
+      )
+  greet_made new before out (Err fault) core told = λ front x is same.
+      subst (λ ds. FaultBy (is_past x.sent.last (length ds)) fault) (its_first front x is same)
+      (told (length front) (last_index n front x old.machine.core is same once) front [] x (is, refl))
 
 -- ---- a connection that opens, and time that passes
 
@@ -319,7 +329,7 @@ module _ (k : KeptWorker) (conn : ℕ) where
   move_made k1 new out (Begins bot v) is counted told =
       let greets : Greets (after_frame k conn (Begins bot v)) (k.machine.core.made + 1) new [] out =
       subst (λ (h : KeptWorker). Greets h (k.machine.core.made + 1) new [] out) is (told.1 (reply.Begin (k.machine.core.made + 1)) refl) in
-      let all = greets k.machine.core.sessions (begun_with bot v) refl in
+      let all = greets k.machine.core.sessions (begun_with bot v) refl (same_id (k.machine.core.made + 1)) in
       (all.0, (all.1.0, ap (λ b. b || is_past 0 (first_count bot v)) counted ∙ all.1.1))
   move_made k1 new out Denies is counted told = ((told.0 refl).0 ∙ is, ((told.0 refl).1, refl))
   move_made k1 new out (Resumes number older seq held) is counted told =
@@ -340,7 +350,7 @@ module _ (k : KeptWorker) (conn : ℕ) where
   move_fails k1 fault (ClosesWith code) is counted told = told.0 refl
   move_fails k1 fault (Begins bot v) is counted told =
       let here = subst (λ (h : KeptWorker). GreetsNot h (k.machine.core.made + 1) fault) is (told.1 (reply.Begin (k.machine.core.made + 1)) refl) in
-      let past = here k.machine.core.sessions (begun_with bot v) refl in
+      let past = here k.machine.core.sessions (begun_with bot v) refl (same_id (k.machine.core.made + 1)) in
       subst (λ b. FaultBy (b || is_past 0 (first_count bot v)) fault) (sym counted) past
   move_fails k1 fault Denies is counted told = told.0 refl
   move_fails k1 fault (Resumes number older seq held) is counted told = told.0 (resume_plain conn older seq held)

@@ -52,7 +52,7 @@ split_at (x ∷ xs) (suc i) lt =
     record { front = x ∷ rest.front; item = rest.item; back = rest.back; whole = ap (λ ys. x ∷ ys) rest.whole; index = ap suc rest.index }
 
 -- one text kept
-pushed_is : (index : ℕ) (text : List ℕ) (front : List (Session Replay)) (x : Session Replay) (back : List (Session Replay)) (old : State Replay) → IsAt index front x back old
+pub pushed_is : (index : ℕ) (text : List ℕ) (front : List (Session Replay)) (x : Session Replay) (back : List (Session Replay)) (old : State Replay) → IsAt index front x back old
     → pushed_at index text old ≡ with_sessions (front ++ further_by text x ∷ back) old
 pushed_is index text front x back old at =
     ap (λ xs. with_sessions xs old)

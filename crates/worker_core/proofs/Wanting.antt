@@ -183,19 +183,12 @@ when_if_ok P Q (Err e) f p = tt
 
 -- ---- the chunks of an answer, and the first dispatches
 
-pub answers_at : (k : KeptMachine) (ask : Ask) (o : Option (Session Replay)) (v : Viewer) (r : Replica) → option_map viewer_of o ≡ Some v
-    → find_id replica_id ask.guild k.logs ≡ Some r → option_map_or (answer_to in_code k ask) o [] ≡ answered r.guild v ask
-answers_at k ask None v r is found = absurd (cc is)
-answers_at k ask (Some x) v r is found =
-    ap (answered_by x.viewer ask) (find_guild ask.guild k.logs ∙ ap (option_map guild_of) found) ∙ ap (λ w. answered r.guild w ask) (same_Some x.viewer v is)
+pub answers_by : (k : KeptMachine) (ask : Ask) (v : Viewer) (r : Replica) → find_id replica_id ask.guild k.logs ≡ Some r
+    → answered_by v ask (record_at in_code k.logs ask.guild) ≡ answered r.guild v ask
+answers_by k ask v r found = ap (answered_by v ask) (find_guild ask.guild k.logs ∙ ap (option_map guild_of) found)
 
-pub no_answer : (k : KeptMachine) (ask : Ask) (o : Option (Session Replay)) → option_map viewer_of o ≡ None → option_map_or (answer_to in_code k ask) o [] ≡ []
-no_answer k ask None is = refl
-no_answer k ask (Some x) is = absurd (cc is)
-
-pub not_followed : (k : KeptMachine) (ask : Ask) (o : Option (Session Replay)) → find_id replica_id ask.guild k.logs ≡ None → option_map_or (answer_to in_code k ask) o [] ≡ []
-not_followed k ask None none = refl
-not_followed k ask (Some x) none = ap (answered_by x.viewer ask) (find_guild ask.guild k.logs ∙ ap (option_map guild_of) none)
+pub not_followed : (k : KeptMachine) (ask : Ask) (v : Viewer) → find_id replica_id ask.guild k.logs ≡ None → answered_by v ask (record_at in_code k.logs ask.guild) ≡ []
+not_followed k ask v none = ap (answered_by v ask) (find_guild ask.guild k.logs ∙ ap (option_map guild_of) none)
 
 abbrev name_of : Session Replay → List ℕ
 name_of x = x.name
@@ -220,10 +213,10 @@ or_is false c e = refl
 
 module _ (old : KeptWorker) (n : ℕ) (ask : Ask) where
   -- no session has the number
-  pub nobody_asks : (before : List Written) → position (is_numbered n) old.machine.core.sessions ≡ None → Gives old n (Members ask) old before before
+  pub nobody_asks : (before : List Written) → option_map viewer_of (numbered n old.machine.core.sessions) ≡ None → Gives old n (Members ask) old before before
   nobody_asks before is =
       let w : KeptMachine = old.machine in
-      let none : numbered n w.core.sessions ≡ None = none_at (is_numbered n) w.core.sessions is in
+      let none : numbered n w.core.sessions ≡ None = no_viewer old n before (numbered n w.core.sessions) is in
       let more : w.chunks ≡ w.chunks + option_map_or (λ x. length (answer_to in_code w ask x)) (numbered n w.core.sessions) 0 =
       sym (ap (λ o. w.chunks + option_map_or (λ x. length (answer_to in_code w ask x)) o 0) none ∙ none_more) in (
         ap (λ c. record old { machine = record w { chunks = c } }) more

@@ -11,7 +11,7 @@ use Rattle.replay_ring.specs.Replay.{Replay}
 use Rattle.world_law.specs.Keeping.{with_sessions}
 use Rattle.world_law.specs.Outputs.{Output, Says, Sends, Closes, sends}
 use Rattle.world_law.specs.Greeting.{first_dispatches}
-use Rattle.world_law.specs.Wants.{numbered, want_sends, after_want}
+use Rattle.world_law.specs.Wants.{is_numbered, numbered, want_sends, after_want}
 use Rattle.world_law.specs.Spent.{is_past, want_spends}
 use Rattle.worker_core.specs.declared.io.Output.{Output as Written}
 use Rattle.worker_core.specs.declared.io.StepFault.{StepFault}
@@ -39,17 +39,17 @@ plain (reply.Ask n ask) = []
 plain (reply.Presence n status) = []
 plain (reply.Voice n ask) = []
 
--- a session that has begun is the last one, and its name is its bot's
+-- a session that begins is the last one, and its name is its bot's
 abbrev pub greeted : KeptMachine → ℕ → Session Replay → List Dispatch
 greeted k n x = first_dispatches in_code k x.viewer x.name n
 
 abbrev pub Greets : KeptWorker → ℕ → KeptWorker → List Written → List Written → Type 0
-Greets old n new before out = (front : List (Session Replay)) (x : Session Replay) → old.machine.core.sessions ≡ front ++ x ∷ []
+Greets old n new before out = (front : List (Session Replay)) (x : Session Replay) → old.machine.core.sessions ≡ front ++ x ∷ [] → is_numbered n x ≡ true
     → (new ≡ record old { machine = record old.machine { core = with_sessions (front ++ further (greeted old.machine n x) x ∷ []) old.machine.core } })
     × ((out ≡ before ++ all_written (sends wire_text x.condition x.sent.last (greeted old.machine n x))) × (is_past x.sent.last (length (greeted old.machine n x)) ≡ false))
 
 abbrev pub GreetsNot : KeptWorker → ℕ → StepFault → Type 0
-GreetsNot old n fault = (front : List (Session Replay)) (x : Session Replay) → old.machine.core.sessions ≡ front ++ x ∷ []
+GreetsNot old n fault = (front : List (Session Replay)) (x : Session Replay) → old.machine.core.sessions ≡ front ++ x ∷ [] → is_numbered n x ≡ true
     → FaultBy (is_past x.sent.last (length (greeted old.machine n x))) fault
 
 -- the session of a number is given what its client wants

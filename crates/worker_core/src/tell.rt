@@ -1,6 +1,7 @@
 //! Sends dispatches to a session.
 
-ghost use Rattle.std.specs.Prelude.{◌≡◌, ◌∷◌, [], ◌++◌, ◌<◌, length, map, IfOk, MatchResult, OnOk};
+ghost use Rattle.std.specs.Prelude.{◌≡◌, ◌∷◌, [], ◌++◌, ◌<◌, ℕ, Some, length, map, position, IfOk, MatchResult, OnOk};
+ghost use Rattle.world_law.specs.Wants.{is_numbered};
 ghost use Rattle.worker_core.specs.Telling.{TellsAt, FailsAt, sent_to};
 ghost use Rattle.event_json.specs.Text.{envelope_of};
 
@@ -8,7 +9,7 @@ use crate::io::{Output, StepFault, put};
 use dispatch_types::Dispatch;
 use event_json::envelope_of;
 use payload_text::{Envelope, Payload};
-use session_core::Sessions;
+use session_core::{Mark, Sessions};
 use std::alloc::{AllocError, Global};
 
 /// Sends a text to a connection, if there is one.
@@ -70,17 +71,45 @@ pub fn envelopes_of(alloc: Global, dispatches: &[Dispatch]) -> Result<Vec<Envelo
     Ok(envelopes)
 }
 
-/// The same of dispatches in order.
+/// Keeps the next dispatch of a session, and sends it if the session is attached. Does nothing if the
+/// session is not live.
+fn tell_next(
+    alloc: Global,
+    sessions: &mut Sessions,
+    session: u32,
+    mark: Mark,
+    dispatch: &Dispatch,
+    out: &mut Vec<Output>,
+) -> Result<(), StepFault>
+    ensures { (index : ℕ) → position (is_numbered session) sessions.old.sessions ≡ Some index
+        → MatchResult result (λ _. TellsAt index (λ x. dispatch.now ∷ []) sessions.old sessions.new out.old.items out.new.items) (FailsAt index (λ x. dispatch.now ∷ []) sessions.old) }
+{
+    let Some(number) = sessions.next_number(session) else {
+        return Ok(());
+    };
+    let envelope = envelope_of(alloc, dispatch)?;
+    let text = Payload::numbered(&envelope, number)?;
+    let conn = sessions.push(session, mark, text.share()?)?;
+    send_to(conn, &text, out)?;
+    Ok(())
+}
+
+/// The same of dispatches in order, which are made for one reason, the first under a mark.
 pub fn tell(
     alloc: Global,
     sessions: &mut Sessions,
-    index: usize,
+    session: u32,
+    first: Mark,
     dispatches: &[Dispatch],
     out: &mut Vec<Output>,
 ) -> Result<(), StepFault>
-    requires { index < length sessions.old.sessions }
-    ensures { MatchResult result (λ _. TellsAt index (λ x. dispatches.now) sessions.old sessions.new out.old.items out.new.items) (FailsAt index (λ x. dispatches.now) sessions.old) }
+    ensures { (index : ℕ) → position (is_numbered session) sessions.old.sessions ≡ Some index
+        → MatchResult result (λ _. TellsAt index (λ x. dispatches.now) sessions.old sessions.new out.old.items out.new.items) (FailsAt index (λ x. dispatches.now) sessions.old) }
 {
-    let envelopes = envelopes_of(alloc, dispatches)?;
-    tell_written(sessions, index, dispatches, envelopes.as_slice(), out)
+    let mut mark = first;
+    for next in 0..dispatches.len() {
+        tell_next(alloc, sessions, session, mark, &dispatches[next], out)?;
+        mark = mark.next();
+    }
+    Ok(())
 }

@@ -1,21 +1,23 @@
 //! A worker: its state and its step.
 
-ghost use Rattle.std.specs.Prelude.{◌≡◌, ◌+◌, ◌<◌, ℕ, List, [], ◌∷◌, false, true, max, flat_map, map, position, option_map, length, Some, None, Err, IfOk, OnOk, OnErr, MatchResult, IsSome, slice_get};
+ghost use Rattle.std.specs.Prelude.{◌≡◌, ◌+◌, ℕ, [], ◌∷◌, false, true, max, flat_map, position, option_map, length, Some, None, Err, IfOk, OnOk, OnErr, MatchResult, IsSome};
 ghost use Rattle.std.specs.List.{list_all};
 ghost use Rattle.std.specs.Option.{option_map_or, option_copied};
 ghost use Rattle.collections.specs.ById.{IsById, find_id, has_id, put_id};
 ghost use Rattle.guild_model.specs.Record.{closed};
 ghost use Rattle.edit_apply.specs.Edits.{state, state_from};
 ghost use Rattle.edit_apply.specs.declared.Edit.{Edit as ModelEdit};
-ghost use Rattle.session_core.specs.State.{live, open_replies};
+ghost use Rattle.session_core.specs.State.{live, open_replies, AreNumberedOnce};
+ghost use Rattle.session_core.specs.Holders.{viewer_for};
+ghost use Rattle.session_core.specs.Resume.{session_id};
 ghost use Rattle.session_core.specs.Ends.{tick_replies, end_all_replies, all_ended};
 ghost use Rattle.session_core.specs.declared.reply.Reply.{Reply as ModelReply};
-ghost use Rattle.session_core.specs.Frames.{Members, Presence, Voice, move_of, move_replies, is_spent, none_sent, as_kept};
+ghost use Rattle.session_core.specs.Frames.{Members, Presence, Voice, move_replies, is_spent};
 ghost use Rattle.session_core.specs.declared.fault.SessionFault.TheVariants as SessionFault;
-ghost use Rattle.world_law.specs.Keeping.{with_sessions};
+ghost use Rattle.world_law.specs.Keeping.{record_at, with_sessions};
 ghost use Rattle.world_law.specs.Outputs.{Says};
 ghost use Rattle.world_law.specs.Greeting.{ready as ready_of};
-ghost use Rattle.world_law.specs.Wants.{is_numbered, numbered, answer_to};
+ghost use Rattle.world_law.specs.Wants.{answered_by, is_numbered, numbered};
 ghost use Rattle.world_law.specs.Frames.{move_at};
 ghost use Rattle.world_law.specs.Inputs.{Input as ModelInput, Look, Rebase, Open, Frame, Lost, Closed, Tick};
 ghost use Rattle.world_law.specs.Model.{Worker as ModelWorker, first_worker};
@@ -24,6 +26,7 @@ ghost use Rattle.worker_core.specs.InCode.{replica_id, in_code, kept_after, afte
 ghost use Rattle.worker_core.specs.Outputs.{IsGiven, written, all_written};
 ghost use Rattle.worker_core.specs.Represents.{Represents, StepsTo, Fails, Takes, TakesNot, FaultBy};
 ghost use Rattle.worker_core.specs.Looked.{kept_looked, kept_sends, kept_spends};
+ghost use Rattle.worker_core.specs.Recipients.{viewer_of};
 ghost use Rattle.worker_core.specs.Telling.{TellsAt, FailsAt};
 ghost use Rattle.worker_core.specs.Replies.{Greets, GreetsNot, Replies, RepliesNot, greeted, Gives, GivesNot, is_plain, plain};
 
@@ -40,7 +43,7 @@ use gateway_frames::{Ask, Out, VoiceAsk};
 use guild_model::{Guild, Status, User};
 use member_chunks::answer;
 use payload_text::Payload;
-use session_core::{Bot, Reply, SessionFault, Sessions, Spent, session_id};
+use session_core::{Bot, Holder, Mark, Reply, SessionFault, Sessions, Spent};
 use snowflake_id::Snowflake;
 use std::alloc::{AllocError, Global};
 use std::marker::Model;
@@ -324,73 +327,62 @@ impl Worker {
         Ok(())
     }
 
-    /// Sends READY and the guilds to the session that has begun last.
+    /// Sends READY and the guilds to a session that begins.
     fn send_ready(&mut self, session: u32, out: &mut Vec<Output>) -> Result<(), StepFault>
         ensures { MatchResult result (λ _. Greets self.old session self.new out.old.items out.new.items) (GreetsNot self.old session) }
     {
-        let Some(index) = self.sessions.len().checked_sub(1) else {
-            return Ok(());
-        };
-        let first = self.first_dispatches(session, index)?;
-        tell(self.alloc, &mut self.sessions, index, first.as_slice(), out)
+        let first = self.first_dispatches(session)?;
+        self.tell(session, Mark::Start, first.as_slice(), out)
     }
 
-    /// READY and the guilds of the session at an index.
-    fn first_dispatches(&self, session: u32, index: usize) -> Result<Vec<Dispatch>, AllocError>
-        ensures { IfOk result (λ list. option_map_or (greeted self.now.machine session) (slice_get self.now.machine.core.sessions index) [] ≡ list.items) }
+    /// READY and the guilds of a session; nothing if it is not live.
+    fn first_dispatches(&self, session: u32) -> Result<Vec<Dispatch>, AllocError>
+        ensures list { IfOk result (λ list. option_map_or (greeted self.now.machine session) (numbered session self.now.machine.core.sessions) [] ≡ list.items) }
+        ensures once { OnOk result (AreNumberedOnce self.now.machine.core) }
     {
         let mut list = Vec::new(self.alloc);
-        let (Some(viewer), Some(name)) = (
-            self.sessions.viewer_at(index),
-            self.sessions.name_at(index),
-        ) else {
+        let Some(holder) = self.sessions.holder(session) else {
             return Ok(list);
         };
-        list.push(Dispatch::Ready(self.ready(viewer, name, session)?))?;
-        guild_creates(self.alloc, self.replicas.as_slice(), viewer, &mut list)?;
+        let viewer = holder.viewer();
+        list.push(Dispatch::Ready(self.ready(holder)?))?;
+        guild_creates(self.alloc, self.replicas.as_slice(), &viewer, &mut list)?;
         Ok(list)
     }
 
-    fn ready(&self, viewer: &Viewer, name: &str, session: u32) -> Result<Ready, AllocError>
-        ensures { IfOk result (λ ready. ready ≡ ready_of in_code self.now.machine viewer.now name.now session) }
+    /// READY, for the holder of a session.
+    fn ready(&self, holder: &Holder) -> Result<Ready, AllocError>
+        ensures { IfOk result (λ ready. (n : ℕ) → holder.now.id ≡ session_id self.now.machine.core.worker n
+            → ready ≡ ready_of in_code self.now.machine (viewer_for holder.now) holder.now.name n) }
     {
+        let viewer = holder.viewer();
+        let name = holder.name.copy(self.alloc)?;
+        let session = holder.id.copy(self.alloc)?;
+        let url = self.url.copy(self.alloc)?;
+        let guilds = ready_guilds(self.alloc, self.replicas.as_slice(), &viewer)?;
         Ok(Ready {
             user: User {
-                id: viewer.user,
-                name: Text::new(self.alloc, name)?,
+                id: holder.user,
+                name,
                 bot: true,
             },
-            guilds: ready_guilds(self.alloc, self.replicas.as_slice(), viewer)?,
-            session: session_id(self.alloc, self.sessions.worker(), session)?,
-            url: self.url.copy(self.alloc)?,
-            shard: viewer.shard,
+            guilds,
+            session,
+            url,
+            shard: holder.shard,
         })
     }
 }
 
 impl Worker {
-    fn index_of(&self, session: u32) -> Option<usize>
-        ensures { result ≡ position (is_numbered session) self.now.machine.core.sessions }
+    /// The viewer of a session. `None` exactly if it is not live.
+    fn viewer_of(&self, session: u32) -> Option<Viewer>
+        ensures { result ≡ option_map viewer_of (numbered session self.now.machine.core.sessions) }
     {
-        // Brings that no session has ended into the proof.
-        let _live = self.sessions.len();
-        self.sessions.index_of(session)
-    }
-
-    fn viewer_at(&self, index: usize) -> Option<&Viewer>
-        ensures { option_copied result ≡ option_map (λ x. x.viewer) (slice_get self.now.machine.core.sessions index) }
-    {
-        self.sessions.viewer_at(index)
-    }
-
-    /// The viewer of a session.
-    fn viewer_of(&self, session: u32) -> Option<&Viewer>
-        ensures { option_copied result ≡ option_map (λ x. x.viewer) (numbered session self.now.machine.core.sessions) }
-    {
-        match self.index_of(session) {
-            Some(index) => self.viewer_at(index),
-            None => None,
-        }
+        let Some(holder) = self.sessions.holder(session) else {
+            return None;
+        };
+        Some(holder.viewer())
     }
 
     fn replicas(&self) -> &[Replica]
@@ -415,7 +407,7 @@ impl Worker {
         ensures { OnOk result (Gives self.now session (Presence status) self.now out.old.items out.new.items) }
     {
         match self.viewer_of(session) {
-            Some(viewer) => wish_presence(self.replicas(), viewer, status, out),
+            Some(viewer) => wish_presence(self.replicas(), &viewer, status, out),
             None => Ok(()),
         }
     }
@@ -430,7 +422,7 @@ impl Worker {
         ensures { OnOk result (Gives self.now session (Voice ask.now) self.now out.old.items out.new.items) }
     {
         match (self.viewer_of(session), self.replica(ask.guild)) {
-            (Some(viewer), Some(replica)) => wish_voice(replica, viewer, ask, out),
+            (Some(viewer), Some(replica)) => wish_voice(replica, &viewer, ask, out),
             _ => Ok(()),
         }
     }
@@ -439,39 +431,37 @@ impl Worker {
     fn answer(&mut self, session: u32, ask: &Ask, out: &mut Vec<Output>) -> Result<(), StepFault>
         ensures { MatchResult result (λ _. Gives self.old session (Members ask.now) self.new out.old.items out.new.items) (GivesNot self.old session (Members ask.now)) }
     {
-        match self.index_of(session) {
-            Some(index) => self.answer_at(session, index, ask, out),
+        match self.viewer_of(session) {
+            Some(viewer) => self.answer_to(session, &viewer, ask, out),
             None => Ok(()),
         }
     }
 
-    /// The same for the session of this number, at this index.
-    fn answer_at(
+    /// The same for the session of this number, which has this viewer.
+    fn answer_to(
         &mut self,
         session: u32,
-        index: usize,
+        viewer: &Viewer,
         ask: &Ask,
         out: &mut Vec<Output>,
     ) -> Result<(), StepFault>
-        requires { position (is_numbered session) self.old.machine.core.sessions ≡ Some index }
+        requires { option_map viewer_of (numbered session self.old.machine.core.sessions) ≡ Some viewer.now }
         ensures { MatchResult result (λ _. Gives self.old session (Members ask.now) self.new out.old.items out.new.items) (GivesNot self.old session (Members ask.now)) }
     {
-        let chunks = self.chunks_at(index, ask)?;
+        let first = Mark::Chunk(self.chunks.saturating_add(1));
+        let chunks = self.chunks_for(viewer, ask)?;
         self.count_chunks(chunks.len())?;
-        self.tell_at(index, chunks.as_slice(), out)
+        self.tell(session, first, chunks.as_slice(), out)
     }
 
-    /// The chunks that answer the session at an index.
-    fn chunks_at(&self, index: usize, ask: &Ask) -> Result<Vec<Dispatch>, AllocError>
-        ensures { IfOk result (λ list. option_map_or (answer_to in_code self.now.machine ask.now) (slice_get self.now.machine.core.sessions index) [] ≡ list.items) }
+    /// The chunks that answer the client of a viewer; none if the guild is not followed.
+    fn chunks_for(&self, viewer: &Viewer, ask: &Ask) -> Result<Vec<Dispatch>, AllocError>
+        ensures { IfOk result (λ list. list.items ≡ answered_by viewer.now ask.now (record_at in_code self.now.machine.logs ask.now.guild)) }
     {
-        let (Some(viewer), Some(replica)) = (
-            self.sessions.viewer_at(index),
-            self.replicas.get(ask.guild.0),
-        ) else {
-            return Ok(Vec::new(self.alloc));
-        };
-        answer(self.alloc, &replica.guild, viewer, ask)
+        match self.replica(ask.guild) {
+            Some(replica) => answer(self.alloc, &replica.guild, viewer, ask),
+            None => Ok(Vec::new(self.alloc)),
+        }
     }
 
     /// Counts chunks that were made.
@@ -487,18 +477,19 @@ impl Worker {
         Ok(())
     }
 
-    /// Sends dispatches to the session at an index.
-    fn tell_at(
+    /// Sends dispatches to a session, which are made for one reason, the first under a mark.
+    fn tell(
         &mut self,
-        index: usize,
+        session: u32,
+        first: Mark,
         dispatches: &[Dispatch],
         out: &mut Vec<Output>,
     ) -> Result<(), StepFault>
-        requires { index < length self.old.machine.core.sessions }
         ensures core { OnOk result (self.new ≡ record self.old { machine = record self.old.machine { core = self.new.machine.core } }) }
-        ensures told { MatchResult result (λ _. TellsAt index (λ x. dispatches.now) self.old.machine.core self.new.machine.core out.old.items out.new.items) (FailsAt index (λ x. dispatches.now) self.old.machine.core) }
+        ensures told { (index : ℕ) → position (is_numbered session) self.old.machine.core.sessions ≡ Some index
+            → MatchResult result (λ _. TellsAt index (λ x. dispatches.now) self.old.machine.core self.new.machine.core out.old.items out.new.items) (FailsAt index (λ x. dispatches.now) self.old.machine.core) }
     {
-        tell(self.alloc, &mut self.sessions, index, dispatches, out)
+        tell(self.alloc, &mut self.sessions, session, first, dispatches, out)
     }
 }
 

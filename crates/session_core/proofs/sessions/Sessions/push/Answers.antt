@@ -7,7 +7,7 @@ use Rattle.session_core.specs.declared.kept.Session.{Session as KeptSession}
 use Rattle.session_core.proofs.Changes.{IsKept-session}
 use Rattle.session_core.proofs.Held.{AreHeld-set, held-at}
 use Rattle.session_core.proofs.Indexes.{attached-kept}
-use Rattle.session_core.proofs.Numbered.{numbered-kept, further-kept, same-kept, not-numbered}
+use Rattle.session_core.proofs.Numbered.{numbered-kept, numbers-kept, further-kept, same-kept, not-numbered}
 use Rattle.session_core.proofs.sessions.Sessions.push.Goals as goal
 
 pub returns-in_default-clause-conn : goal.returns-in_default-clause-conn
@@ -68,3 +68,20 @@ pub returns-clause-spent : goal.returns-clause-spent
 returns-clause-spent c =
     let there : lookup (nat_eq c.args.session) c.self.inside.sessions.entries ≡ Some c.in-Some.session.now = sym c.in-Some.ensures.value in
     rw (← c.self.view_is, numbered-kept c.self.inside.sessions.entries c.args.session, there) (grind (arith, nat_tests, c.last.ensures, c.if-last.false))
+
+pub returns-in_default-clause-room : goal.returns-in_default-clause-room
+returns-in_default-clause-room c = absurd (not-numbered c.self.inside.sessions.entries c.args.session (rw (← c.self.view_is) at c.requires) (sym c.in_default.ensures.value))
+
+pub returns-clause-room : goal.returns-clause-room
+returns-clause-room c =
+    let there : lookup (nat_eq c.args.session) c.self.inside.sessions.entries ≡ Some c.in-Some.session.now = sym c.in-Some.ensures.value in
+    rw (← c.self.view_is, numbered-kept c.self.inside.sessions.entries c.args.session, there) (grind (arith, nat_tests, c.last.ensures, c.if-last.false))
+
+pub returns-in_default-clause-once : goal.returns-in_default-clause-once
+returns-in_default-clause-once c = rw (← c.self.view_is, numbers-kept c.self.inside.sessions.entries) c.self.invariant.0.sessions_once
+
+pub returns-then-last-clause-once : goal.returns-then-last-clause-once
+returns-then-last-clause-once c = rw (← c.self.view_is, numbers-kept c.self.inside.sessions.entries) c.self.invariant.0.sessions_once
+
+pub returns-clause-once : goal.returns-clause-once
+returns-clause-once c = rw (← c.self.view_is, numbers-kept c.self.inside.sessions.entries) c.self.invariant.0.sessions_once

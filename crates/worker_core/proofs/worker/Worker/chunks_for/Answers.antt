@@ -1,0 +1,24 @@
+-- The chunks of a guild that the worker follows.
+use Rattle.std.proofs.Common.{◌≡◌, Vec, Global, sym, ap, ◌∙◌}
+use Rattle.std.specs.Option.{option_copied}
+use Rattle.dispatch_types.specs.declared.dispatch.Dispatch.{Dispatch}
+use Rattle.member_chunks.specs.Answered.{answered}
+use Rattle.world_law.specs.Keeping.{record_at}
+use Rattle.world_law.specs.Wants.{answered_by}
+use Rattle.worker_core.specs.InCode.{in_code, KeptMachine}
+use Rattle.worker_core.proofs.Wanting.{answers_by, not_followed, when_if_ok}
+use Rattle.worker_core.proofs.worker.Worker.chunks_for.Goals as goal
+
+pub returns-in-Some : goal.returns-in-Some
+returns-in-Some c =
+    let k : KeptMachine = c.args.self.now.machine in
+    let ask = c.args.ask.now in
+    let v = c.args.viewer.now in
+    let g = c.in-Some.replica.now.guild in
+    when_if_ok (λ (list : Vec Dispatch Global). list.items ≡ answered g v ask)
+    (λ (list : Vec Dispatch Global). list.items ≡ answered_by v ask (record_at in_code k.logs ask.guild)) c.answer.result
+    (λ list is. is ∙ sym (answers_by k ask v c.in-Some.replica.now (sym c.replica.ensures ∙ ap option_copied c.in-Some.is))) c.answer.ensures
+
+pub returns-in-None : goal.returns-in-None
+returns-in-None c =
+    c.new.ensures.items ∙ sym (not_followed c.args.self.now.machine c.args.ask.now c.args.viewer.now (sym c.replica.ensures ∙ ap option_copied c.in-None.is))
