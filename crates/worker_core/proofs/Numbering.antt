@@ -26,11 +26,10 @@ use Rattle.worker_core.specs.declared.replica.Replica.{Replica}
 use Rattle.worker_core.specs.InCode.{in_code, KeptMachine, KeptWorker}
 use Rattle.worker_core.specs.Replies.{greeted}
 use Rattle.worker_core.specs.declared.io.Output.{Output as Written}
-use Rattle.worker_core.specs.declared.io.StepFault.{StepFault}
 use Rattle.worker_core.specs.declared.io.StepFault.TheVariants.{Spent}
 use Rattle.worker_core.specs.Recipients.{viewer_of}
 use Rattle.worker_core.specs.Telling.{FailsAt, TellsAt, further, sent_to}
-use Rattle.worker_core.proofs.Telling.{fails_one, found_at, pushed_is, tells_one}
+use Rattle.worker_core.proofs.Telling.{fails_one, pushed_is, tells_one}
 use Rattle.worker_core.proofs.Wanting.{first_at, greeted_at, none_at, there_at}
 
 -- ---- the index of the session of a number
@@ -106,8 +105,11 @@ last_place n [] x same once = ap (λ b. cond (not b) 1 0) same
 last_place n (f ∷ front) x same once =
     let differ : (f.number == n) ≡ false = not_last front (IsDistinct-head nat_eq f.number (map session_number (front ++ x ∷ [])) once) in
     ap (λ b. cond (not b) (1 + position_or_len (is_numbered n) (front ++ x ∷ [])) 0) (none_ended (is_live f.condition) (f.number == n) differ)
-    ∙ ap suc (last_place n front x same (IsDistinct-tail nat_eq f.number (map session_number (front ++ x ∷ [])) once))
+    ∙ (ap (λ m. 1 + m) (last_place n front x same (IsDistinct-tail nat_eq f.number (map session_number (front ++ x ∷ [])) once)) ∙ one_more (length front))
   where
+    one_more : (m : ℕ) → 1 + m ≡ suc m
+    one_more m = omega arith
+
     not_last : (ys : List (Session Replay)) → Differ f.number (ys ++ x ∷ []) → (f.number == n) ≡ false
     not_last [] differ = apart (number_is (is_live x.condition) (x.number == n) same) differ.0
       where
@@ -144,7 +146,7 @@ last_of x = x.sent.last
 pub not_there : (n index : ℕ) (old : State Replay) → position (is_numbered n) old.sessions ≡ Some index → None ≡ option_map number_after (numbered n old.sessions) → ⊥
 not_there n index old is none =
     let found = (first_at (is_numbered n) old.sessions index is).found in
-    absurd (cc (none, ap (option_map number_after) found))
+    absurd (cc (none, found))
 
 pub tells_next : (n index : ℕ) (d : Dispatch) (old new : State Replay) (number : ℕ) (conn : Option ℕ) (text : List ℕ) (before out : List Written)
     → AreNumberedOnce old → position (is_numbered n) old.sessions ≡ Some index → Some number ≡ option_map number_after (numbered n old.sessions)

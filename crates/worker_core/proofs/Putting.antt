@@ -1,7 +1,7 @@
 -- Entries that are handled one after another leave a replica once put, and sessions of which none has ended.
-use Rattle.std.proofs.Common.{◌≡◌, ℕ, ◌+◌, ◌≤◌, List, [], ◌∷◌, ◌++◌, suc, not, Bool, true, false, Option, Some, None, if◌then◌else◌, length, map, refl, sym, ap, ◌∙◌, arith}
-use Rattle.std.specs.Prelude.{◌==◌, ◌||◌, ◌&&◌, filter, flat_map, cond, position, nat_lt}
-use Rattle.std.specs.List.{list_any, position_or_len}
+use Rattle.std.proofs.Common.{◌≡◌, ℕ, ◌+◌, ◌≤◌, List, [], ◌∷◌, ◌++◌, suc, Bool, true, false, Some, if◌then◌else◌, length, map, refl, sym, ap, ◌∙◌, arith}
+use Rattle.std.specs.Prelude.{◌==◌, ◌||◌, ◌&&◌, filter, flat_map}
+use Rattle.std.specs.List.{list_any}
 use Rattle.std.proofs.lemmas.Bool.{eqb-true}
 use Rattle.collections.specs.ById.{find_id, put_id, IsById}
 use Rattle.collections.proofs.Ids.{IsById-put}
@@ -10,11 +10,10 @@ use Rattle.guild_model.specs.Record.{Record}
 use Rattle.edit_apply.specs.Edits.{after, state_from}
 use Rattle.edit_apply.specs.declared.Edit.{Edit}
 use Rattle.replay_ring.specs.Replay.{Replay}
-use Rattle.session_core.specs.State.{State, Session, is_live}
+use Rattle.session_core.specs.State.{Session, is_live}
 use Rattle.worker_core.specs.declared.replica.Replica.{Replica}
 use Rattle.worker_core.specs.InCode.{KeptMachine, in_code, replica_id, replica_of}
 use Rattle.world_law.specs.Looks.{after_entry, entered, look_sends, looked}
-use Rattle.world_law.specs.Wants.{is_numbered}
 use Rattle.world_law.specs.Spent.{entry_spends, look_spends}
 use Rattle.world_law.proofs.Logs.{from_id}
 use Rattle.worker_core.specs.Looked.{kept_looked, kept_sends, kept_spends, told_more, told_sends, told_spends}
@@ -102,20 +101,6 @@ module _ (s : Record) (e : Edit) where
   each_counts [] live = refl
   each_counts (x ∷ xs) live =
       ap (λ b. (b && told_spends s e x) || list_any (entry_spends in_code s e) xs) live.0 ∙ ap (λ b. told_spends s e x || b) (each_counts xs live.1)
-
--- ---- the session of a number
-
-module _ (n : ℕ) where
-  abbrev of_number : Session Replay → Bool
-  of_number x = x.number == n
-
-  same_place : (xs : List (Session Replay)) → AreLive xs → position_or_len of_number xs ≡ position_or_len (is_numbered n) xs
-  same_place [] live = refl
-  same_place (x ∷ xs) live =
-      ap (λ b. cond (not (b && of_number x)) (1 + position_or_len of_number xs) 0) (sym live.0) ∙ ap (λ m. cond (not (is_numbered n x)) (1 + m) 0) (same_place xs live.1)
-
-  pub position_live : (xs : List (Session Replay)) → AreLive xs → position of_number xs ≡ position (is_numbered n) xs
-  position_live xs live = ap (λ m. cond (nat_lt m (length xs)) (Some m) None) (same_place xs live)
 
 -- ---- entries in their order
 

@@ -1,13 +1,11 @@
 -- Each input leaves what a worker's value keeps that of each worker that it represents, with the same outputs.
 use Rattle.std.proofs.Common.{◌≡◌, ℕ, ◌+◌, List, [], ◌∷◌, ◌++◌, Bool, true, false, Option, Some, None, if◌then◌else◌, length, map, refl, sym, ap, subst, ◌∙◌}
 use Rattle.std.specs.Prelude.{◌==◌, ◌||◌, flat_map, max, option_map}
-use Rattle.std.specs.List.{find, list_any}
+use Rattle.std.specs.List.{list_any}
 use Rattle.std.specs.Option.{option_map_or}
 use Rattle.collections.specs.ById.{find_id, put_id}
 use Rattle.guild_model.specs.Record.{Record}
-use Rattle.guild_model.specs.declared.presence.Status.{Status}
 use Rattle.gateway_frames.specs.declared.frame.Ask.{Ask}
-use Rattle.gateway_frames.specs.declared.frame.VoiceAsk.{VoiceAsk}
 use Rattle.dispatch_types.specs.declared.viewer.Viewer.{Viewer}
 use Rattle.dispatch_types.specs.declared.dispatch.Dispatch.{Dispatch}
 use Rattle.dispatch_types.specs.declared.dispatch.Dispatch.TheVariants.{Ready}
@@ -31,15 +29,14 @@ use Rattle.world_law.specs.Frames.{move_at, after_move, framed, frame_sends}
 use Rattle.world_law.specs.Inputs.{Input, Look, Rebase, Open, Frame, Lost, Closed, Tick, open_sends, tick_sends, taken, outputs}
 use Rattle.world_law.specs.Spent.{is_past, chunks_spend, entry_spends, look_spends, look_spends_by, want_spends, frame_spends, spends}
 use Rattle.world_law.specs.Sent.{Sent, SentDispatch, dispatch_of, told, chunks_told}
-use Rattle.world_law.specs.Model.{Seen, cursors, seen_with, seen_as, record_of, records_of, Worker, replay}
+use Rattle.world_law.specs.Model.{cursors, seen_with, seen_as, record_of, records_of, Worker, replay}
 use Rattle.world_law.proofs.Lists.{map_join}
 use Rattle.world_law.proofs.Folds.{dispatches_told, same_id}
-use Rattle.world_law.proofs.Entered.{told_entry, state_entered, next_record}
+use Rattle.world_law.proofs.Entered.{state_entered, next_record}
 use Rattle.world_law.proofs.Found.{found_here}
 use Rattle.world_law.proofs.Replays.{last_is, replay_told, replay_first}
 use Rattle.world_law.proofs.Sends.{chunk_dispatches}
-use Rattle.worker_core.specs.declared.replica.Replica.{Replica}
-use Rattle.worker_core.specs.InCode.{wire_model, wire_text, replica_id, guild_of, replica_of, held_with, in_code, KeptMachine}
+use Rattle.worker_core.specs.InCode.{wire_model, wire_text, replica_of, held_with, in_code, KeptMachine}
 use Rattle.worker_core.specs.Represents.{counted, kept_session, kept, IsKept}
 use Rattle.worker_core.proofs.Records.{put_guild, put_record}
 use Rattle.worker_core.proofs.Kept.{each_told, each_sends, each_spends, move_kept, begins_kept, framed_kept, opened_kept, lost_kept, closed_kept, ticked_kept, all_ended_kept, session_conns_kept}

@@ -20,7 +20,7 @@ use Rattle.dispatch_types.specs.declared.ready.Ready.{Ready as Greeted}
 use Rattle.dispatch_types.specs.declared.dispatch.Dispatch.TheVariants.{Ready}
 use Rattle.dispatch_types.specs.declared.viewer.Viewer.{Viewer}
 use Rattle.dispatch_types.specs.declared.dispatch.Dispatch.{Dispatch}
-use Rattle.wishes.specs.Wishes.{presence_wish, voice_wish}
+use Rattle.wishes.specs.Wishes.{presence_wish}
 use Rattle.replay_ring.specs.Replay.{Replay}
 use Rattle.session_core.specs.State.{State, Session}
 use Rattle.session_core.specs.Frames.{Want, Members, Presence, Voice}

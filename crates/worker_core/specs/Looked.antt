@@ -1,6 +1,6 @@
 -- internal: cited by private functions only
 -- Entries of a log, one after another, on sessions of which none has ended.
-use Rattle.std.specs.Prelude.{ℕ, List, [], ◌∷◌, ◌++◌, Bool, false, ◌||◌, length, map, flat_map}
+use Rattle.std.specs.Prelude.{List, [], ◌∷◌, ◌++◌, Bool, false, ◌||◌, length, map, flat_map}
 use Rattle.std.specs.List.{list_any}
 use Rattle.guild_model.specs.Record.{Record}
 use Rattle.edit_apply.specs.Edits.{after}

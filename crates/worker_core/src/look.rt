@@ -1,6 +1,6 @@
 //! The entries of a log, one after another, for each session.
 
-ghost use Rattle.std.specs.Prelude.{◌≡◌, ◌++◌, true, false, length, map, IfOk, OnOk, MatchResult};
+ghost use Rattle.std.specs.Prelude.{◌≡◌, ◌++◌, false, map, IfOk, OnOk, MatchResult};
 ghost use Rattle.guild_model.specs.Record.{Record};
 ghost use Rattle.edit_apply.specs.declared.Edit.{Edit};
 ghost use Rattle.edit_apply.specs.Edits.{after, state_from};

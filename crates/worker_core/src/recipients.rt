@@ -1,6 +1,6 @@
 //! The viewers of sessions: sessions of one viewer are due the same.
 
-ghost use Rattle.std.specs.Prelude.{◌≡◌, Some, length, map, slice_get, IfOk, OnOk};
+ghost use Rattle.std.specs.Prelude.{◌≡◌, Some, map, slice_get, IfOk, OnOk};
 ghost use Rattle.worker_core.specs.Recipients.{Picks, IsLonger, viewer_of};
 
 use dispatch_types::Viewer;

@@ -489,7 +489,14 @@ impl Worker {
         ensures told { (index : ℕ) → position (is_numbered session) self.old.machine.core.sessions ≡ Some index
             → MatchResult result (λ _. TellsAt index (λ x. dispatches.now) self.old.machine.core self.new.machine.core out.old.items out.new.items) (FailsAt index (λ x. dispatches.now) self.old.machine.core) }
     {
-        tell(self.alloc, &mut self.sessions, session, first, dispatches, out)
+        tell(
+            self.alloc,
+            &mut self.sessions,
+            session,
+            first,
+            dispatches,
+            out,
+        )
     }
 }
 

@@ -5,9 +5,8 @@ use Rattle.std.specs.Result.{is_err}
 use Rattle.guild_model.specs.declared.verdict.Verdict.{Verdict}
 use Rattle.guild_model.specs.Tests.{outcome}
 use Rattle.dispatch_types.specs.declared.viewer.Viewer.{Viewer}
-use Rattle.edit_apply.specs.Edits.{verdict, accepts, applied, after}
+use Rattle.edit_apply.specs.Edits.{verdict, accepts, applied}
 use Rattle.edit_events.specs.Due.{due}
-use Rattle.edit_events.specs.Was.{was_of}
 use Rattle.worker_core.specs.Recipients.{Picks}
 use Rattle.worker_core.proofs.Looking.{none_told}
 use Rattle.worker_core.proofs.look.enter.Goals as goal

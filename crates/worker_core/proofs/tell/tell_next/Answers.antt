@@ -2,7 +2,7 @@
 use Rattle.std.proofs.Common.{Some, sym, ap, ◌∙◌}
 use Rattle.payload_text.specs.Around.{text_around}
 use Rattle.event_json.proofs.Frames.{numbered_is}
-use Rattle.worker_core.proofs.Numbering.{fails_next, not_there, tells_next}
+use Rattle.worker_core.proofs.Numbering.{not_there, tells_next}
 use Rattle.worker_core.proofs.tell.tell_next.Goals as goal
 
 pub returns-in_default : goal.returns-in_default

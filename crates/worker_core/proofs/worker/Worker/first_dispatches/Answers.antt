@@ -1,10 +1,9 @@
 -- READY and the guilds, for the holder of the session.
 use Rattle.std.proofs.Common.{List, ◌++◌, sym, ap, ◌∙◌}
 use Rattle.std.specs.Prelude.{flat_map}
-use Rattle.std.specs.Option.{option_copied, option_map_or}
+use Rattle.std.specs.Option.{option_copied}
 use Rattle.world_law.specs.Greeting.{greeting_of}
 use Rattle.worker_core.specs.InCode.{KeptMachine}
-use Rattle.worker_core.specs.Replies.{greeted}
 use Rattle.worker_core.specs.declared.replica.Replica.{Replica}
 use Rattle.worker_core.proofs.Numbering.{greeted_held, nobody_held}
 use Rattle.worker_core.proofs.worker.Worker.first_dispatches.Goals as goal

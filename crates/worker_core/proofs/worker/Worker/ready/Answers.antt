@@ -1,5 +1,5 @@
 -- READY lists the guilds of the records.
-use Rattle.std.proofs.Common.{◌≡◌, List, map, refl, ap, ◌∙◌}
+use Rattle.std.proofs.Common.{◌≡◌, List, map, ap, ◌∙◌}
 use Rattle.worker_core.specs.declared.replica.Replica.{Replica}
 use Rattle.worker_core.specs.InCode.{guild_of}
 use Rattle.world_law.specs.Greeting.{listed_guilds}
