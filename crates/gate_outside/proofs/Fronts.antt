@@ -54,7 +54,11 @@ front_before got0 got1 waits text more h =
 pub carries_front : (got0 got1 : Option (List ℕ)) (waits text : List ℕ) → Carries got0 got1 waits text → CarriesFront got0 got1 waits text
 carries_front got0 got1 waits text h = record { sent = h.sent; back = []; is = append-nil (h.sent ++ waits) ∙ h.is; wrote = h.wrote }
 
--- ---- then what waits is written
+-- what went out is a front of the text
+pub carries_part : (got0 got1 : Option (List ℕ)) (waits text : List ℕ) → Carries got0 got1 waits text → AppendsFront got0 got1 text
+carries_part got0 got1 waits text h = (h.sent, waits, h.is, h.wrote)
+
+-- ---- then what waits goes out
 
 pub all_sent : (got0 got1 got2 : Option (List ℕ)) (waits text : List ℕ) → Carries got0 got1 waits text → Appends got1 got2 waits → Appends got0 got2 text
 all_sent got0 got1 got2 waits text h wrote = subst (λ (l : List ℕ). Appends got0 got2 l) h.is (Appends-trans got0 got1 got2 h.sent waits h.wrote wrote)

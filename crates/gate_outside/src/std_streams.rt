@@ -1,5 +1,5 @@
 //! Sources and sinks over the system. Contracts see their counts, and no bytes.
-ghost use Rattle.std.specs.Prelude.{◌≡◌, ◌<◌, ◌≤◌, [], None, length, IfOk};
+ghost use Rattle.std.specs.Prelude.{◌≡◌, [], None};
 ghost use Rattle.gate_outside.specs.StdStreams.{new_input};
 
 use crate::faults::{Failed, Fault};

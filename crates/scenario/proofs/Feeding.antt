@@ -7,21 +7,21 @@ use Rattle.scenario.specs.Played.{Playing, LeavesAt, Anything, Fits, room}
 use Rattle.scenario.proofs.Bytes.{stops_more}
 
 -- a front of a chunk was played, and this is left of it
-pub record Fed (chunk : List ℕ) (got0 got1 : Option (List ℕ)) (old now : FileRunner) (rest : List ℕ) : Type 0 where
+pub record Fed (chunk : List ℕ) (got0 got1 : Option (List ℕ)) (waits0 waits1 : List ℕ) (old now : FileRunner) (rest : List ℕ) : Type 0 where
   pub front : List ℕ
   pub is : chunk ≡ front ++ rest
-  pub plays : (got : Option (List ℕ)) (bytes : List ℕ) → Playing got got0 old bytes → Playing got got1 now (bytes ++ front)
+  pub plays : (got : Option (List ℕ)) (bytes : List ℕ) → Playing got got0 waits0 old bytes → Playing got got1 waits1 now (bytes ++ front)
   pub fits : Fits old → Fits now × (room now + length front ≤ room old)
 
-pub fed_none : (chunk : List ℕ) (got : Option (List ℕ)) (k : FileRunner) → Fed chunk got got k k chunk
-fed_none chunk got k = record {
+pub fed_none : (chunk : List ℕ) (got : Option (List ℕ)) (waits : List ℕ) (k : FileRunner) → Fed chunk got got waits waits k k chunk
+fed_none chunk got waits k = record {
   front = [];
   is = refl;
   plays = λ got bytes playing. rw (append-nil bytes) playing;
   fits = λ fits. (fits, omega arith);
 }
 
-module _ (chunk : List ℕ) (got0 got1 got2 : Option (List ℕ)) (old now : FileRunner) (rest : List ℕ) (fed : Fed chunk got0 got1 old now rest) where
+module _ (chunk : List ℕ) (got0 got1 got2 : Option (List ℕ)) (waits0 waits1 waits2 : List ℕ) (old now : FileRunner) (rest : List ℕ) (fed : Fed chunk got0 got1 waits0 waits1 old now rest) where
   -- the next line
   module _ (piece later : List ℕ) (is : rest ≡ piece ++ 10 ∷ later) where
     line : List ℕ
@@ -31,8 +31,8 @@ module _ (chunk : List ℕ) (got0 got1 got2 : Option (List ℕ)) (old now : File
     unfolding line
     splits = is ∙ sym (append_assoc piece (10 ∷ []) later)
 
-    pub fed_line : (new : FileRunner) → ((got : Option (List ℕ)) (bytes : List ℕ) → Playing got got1 now bytes → Playing got got2 new (bytes ++ (piece ++ 10 ∷ [])))
-        → (Fits now → Fits new × (room new + (length piece + 1) ≤ room now)) → Fed chunk got0 got2 old new later
+    pub fed_line : (new : FileRunner) → ((got : Option (List ℕ)) (bytes : List ℕ) → Playing got got1 waits1 now bytes → Playing got got2 waits2 new (bytes ++ (piece ++ 10 ∷ [])))
+        → (Fits now → Fits new × (room new + (length piece + 1) ≤ room now)) → Fed chunk got0 got2 waits0 waits2 old new later
     unfolding line
     fed_line new plays fits = record {
       front = fed.front ++ (piece ++ 10 ∷ []);
@@ -47,18 +47,18 @@ module _ (chunk : List ℕ) (got0 got1 got2 : Option (List ℕ)) (old now : File
     }
 
     -- that line stops the play
-    pub fed_stops : (waits : List ℕ) (fault : PlayFault) → ((got : Option (List ℕ)) (bytes : List ℕ) → Playing got got1 now bytes → LeavesAt got got2 waits (bytes ++ (piece ++ 10 ∷ [])) Anything fault)
-        → (got : Option (List ℕ)) (bytes : List ℕ) → Playing got got0 old bytes → LeavesAt got got2 waits (bytes ++ chunk) Anything fault
+    pub fed_stops : (fault : PlayFault) → ((got : Option (List ℕ)) (bytes : List ℕ) → Playing got got1 waits1 now bytes → LeavesAt got got2 waits2 (bytes ++ (piece ++ 10 ∷ [])) Anything fault)
+        → (got : Option (List ℕ)) (bytes : List ℕ) → Playing got got0 waits0 old bytes → LeavesAt got got2 waits2 (bytes ++ chunk) Anything fault
     unfolding line
-    fed_stops waits fault stops got bytes playing =
+    fed_stops fault stops got bytes playing =
         let all : ((bytes ++ fed.front) ++ (piece ++ 10 ∷ [])) ++ later ≡ bytes ++ chunk =
         append_assoc (bytes ++ fed.front) (piece ++ 10 ∷ []) later ∙ (ap (λ l. (bytes ++ fed.front) ++ l) (sym splits) ∙ (append_assoc bytes fed.front rest ∙ ap (λ l. bytes ++ l) (sym fed.is))) in
-        rw all at (stops_more got got2 waits ((bytes ++ fed.front) ++ (piece ++ 10 ∷ [])) later fault (stops got (bytes ++ fed.front) (fed.plays got bytes playing)))
+        rw all at (stops_more got got2 waits2 ((bytes ++ fed.front) ++ (piece ++ 10 ∷ [])) later fault (stops got (bytes ++ fed.front) (fed.plays got bytes playing)))
 
   -- all that is left
   pub fed_all : (new : FileRunner) (r : Result (Unit {0}) PlayFault)
-      → ((got : Option (List ℕ)) (bytes : List ℕ) → Playing got got1 now bytes → MatchResult r (λ _. Playing got got2 new (bytes ++ rest)) (LeavesAt got got2 new.waits.items (bytes ++ rest) Anything))
-      → (got : Option (List ℕ)) (bytes : List ℕ) → Playing got got0 old bytes → MatchResult r (λ _. Playing got got2 new (bytes ++ chunk)) (LeavesAt got got2 new.waits.items (bytes ++ chunk) Anything)
+      → ((got : Option (List ℕ)) (bytes : List ℕ) → Playing got got1 waits1 now bytes → MatchResult r (λ _. Playing got got2 waits2 new (bytes ++ rest)) (LeavesAt got got2 waits2 (bytes ++ rest) Anything))
+      → (got : Option (List ℕ)) (bytes : List ℕ) → Playing got got0 waits0 old bytes → MatchResult r (λ _. Playing got got2 waits2 new (bytes ++ chunk)) (LeavesAt got got2 waits2 (bytes ++ chunk) Anything)
   fed_all new r plays got bytes playing =
       let is : (bytes ++ fed.front) ++ rest ≡ bytes ++ chunk = append_assoc bytes fed.front rest ∙ ap (λ l. bytes ++ l) (sym fed.is) in
       rw is at (plays got (bytes ++ fed.front) (fed.plays got bytes playing))

@@ -5,23 +5,25 @@ use Rattle.std.specs.declared.option.Option.{Option}
 use Rattle.worker_core.specs.declared.io.Output.{Output}
 use Rattle.scenario.specs.Server.{Server, follow, followed}
 use Rattle.scenario.specs.Transcript.{output_text, outputs_text}
-use Rattle.scenario.specs.Played.{IsFront, Carries, CarriesFront}
-use Rattle.scenario.proofs.Fronts.{carries_more, front_of_more, front_before}
+use Rattle.gate_outside.specs.Streams.{Carries, CarriesFront}
+use Rattle.gate_outside.proofs.Fronts.{carries_more, front_of_more, front_before, carries_front}
 
--- a line was put, and what follows it was not
-pub put_front : (waits0 waits1 line more : List ℕ) → waits1 ≡ waits0 ++ line → IsFront waits1 (waits0 ++ (line ++ more))
-put_front waits0 waits1 line more is = (more, ap (λ l. l ++ more) is ∙ append_assoc waits0 line more)
+-- a text, and then more
+module _ (got0 got1 got2 : Option (List ℕ)) (waits0 waits1 waits2 text more : List ℕ) where
+  -- a front of the text alone
+  pub text_stops : CarriesFront got0 got1 waits1 (waits0 ++ text) → CarriesFront got0 got1 waits1 (waits0 ++ (text ++ more))
+  text_stops front = rw (append_assoc waits0 text more) at (front_before got0 got1 waits1 (waits0 ++ text) more front)
 
--- what comes of a line: a refusal, and what goes out
-module _ (got0 got1 got2 : Option (List ℕ)) (waits0 waits1 waits2 waits3 refused outputs : List ℕ) (is : waits1 ≡ waits0 ++ refused) where
-  pub refusal_stops : CarriesFront got0 got1 waits2 waits1 → CarriesFront got0 got1 waits2 (waits0 ++ (refused ++ outputs))
-  refusal_stops front = rw (append_assoc waits0 refused outputs) at (front_before got0 got1 waits2 (waits0 ++ refused) outputs (rw is at front))
+  -- the text alone
+  pub text_whole : Carries got0 got1 waits1 (waits0 ++ text) → CarriesFront got0 got1 waits1 (waits0 ++ (text ++ more))
+  text_whole whole = text_stops (carries_front got0 got1 waits1 (waits0 ++ text) whole)
 
-  pub outputs_stop : Carries got0 got1 waits2 waits1 → CarriesFront got1 got2 waits3 (waits2 ++ outputs) → CarriesFront got0 got2 waits3 (waits0 ++ (refused ++ outputs))
-  outputs_stop first front = rw (append_assoc waits0 refused outputs) at (front_of_more got0 got1 got2 waits2 waits3 (waits0 ++ refused) outputs (rw is at first) front)
+  -- the text, and a front of what follows
+  pub more_stops : Carries got0 got1 waits1 (waits0 ++ text) → CarriesFront got1 got2 waits2 (waits1 ++ more) → CarriesFront got0 got2 waits2 (waits0 ++ (text ++ more))
+  more_stops first front = rw (append_assoc waits0 text more) at (front_of_more got0 got1 got2 waits1 waits2 (waits0 ++ text) more first front)
 
-  pub answer_carried : Carries got0 got1 waits2 waits1 → Carries got1 got2 waits3 (waits2 ++ outputs) → Carries got0 got2 waits3 (waits0 ++ (refused ++ outputs))
-  answer_carried first second = rw (append_assoc waits0 refused outputs) at (carries_more got0 got1 got2 waits2 waits3 (waits0 ++ refused) outputs (rw is at first) second)
+  pub both_carried : Carries got0 got1 waits1 (waits0 ++ text) → Carries got1 got2 waits2 (waits1 ++ more) → Carries got0 got2 waits2 (waits0 ++ (text ++ more))
+  both_carried first second = rw (append_assoc waits0 text more) at (carries_more got0 got1 got2 waits1 waits2 (waits0 ++ text) more first second)
 
 followed-more : (xs ys : List Output) (p : Server) → followed p (xs ++ ys) ≡ followed (followed p xs) ys
 followed-more [] ys p = refl

@@ -1,5 +1,4 @@
 pub mod Lists
-pub mod Fronts
 pub mod Follows
 pub mod Stops
 pub mod Bytes

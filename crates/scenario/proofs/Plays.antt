@@ -9,7 +9,7 @@ use Rattle.scenario.specs.declared.file_runner.FileRunner.{FileRunner}
 use Rattle.scenario.specs.Lines.{whole_lines}
 use Rattle.scenario.specs.Transcript.{Whole, text_of, transcript, ending}
 use Rattle.scenario.specs.Played.{Written, StopsAt, Anything, Nothing, PlaysAll, PlaysLines, PlaysTo}
-use Rattle.scenario.proofs.Fronts.{all_written}
+use Rattle.gate_outside.proofs.Fronts.{all_written}
 
 pub plays_to : (fault : PlayFault) (left0 left1 got0 got1 : Option (List ℕ)) (bytes : List ℕ) → Consumes left0 left1 bytes → StopsAt got0 got1 bytes Anything fault → PlaysTo left0 left1 got0 got1 fault
 plays_to Read left0 left1 got0 got1 bytes read stops = absurd (stops [] tt)
@@ -37,8 +37,8 @@ plays_end left0 left1 got0 got1 (Ok x) bytes read at h = (bytes, read, at, h.0, 
 plays_end left0 left1 got0 got1 (Err fault) bytes read at h = plays_to_end fault left0 left1 got0 got1 bytes read at h
 
 -- the source has failed
-pub plays_lines : (left0 left1 got0 got1 : Option (List ℕ)) (k : FileRunner) (bytes : List ℕ) → Consumes left0 left1 bytes → Written got0 got1 k bytes → PlaysLines left0 left1 got0 got1
-plays_lines left0 left1 got0 got1 k bytes read w = (bytes, read, all_written got0 got1 k.waits.items (text_of (whole_lines bytes)) w.sent w.playing.wrote, w.playing.goes_on)
+pub plays_lines : (left0 left1 got0 got1 : Option (List ℕ)) (waits : List ℕ) (k : FileRunner) (bytes : List ℕ) → Consumes left0 left1 bytes → Written got0 got1 waits k bytes → PlaysLines left0 left1 got0 got1
+plays_lines left0 left1 got0 got1 waits k bytes read w = (bytes, read, all_written got0 got1 waits (text_of (whole_lines bytes)) w.sent w.playing.wrote, w.playing.goes_on)
 
 pub plays_err : (left0 left1 got0 got1 : Option (List ℕ)) (r : Result (Unit {0}) PlayFault) (f g : PlayFault) → r ≡ Err f → f ≡ g → PlaysTo left0 left1 got0 got1 g
     → MatchResult r (λ _. PlaysAll left0 left1 got0 got1) (PlaysTo left0 left1 got0 got1)

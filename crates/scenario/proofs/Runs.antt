@@ -18,8 +18,9 @@ use Rattle.scenario.specs.Server.{Server, with_line, line_sends, played}
 use Rattle.scenario.specs.Texts.{refused_text}
 use Rattle.scenario.specs.Transcript.{outputs_text, Ending, Whole, Spends, line_refusal, line_text, line_spends, line_ending, read_text, read_ending, after_read, run_text, run_ending}
 use Rattle.scenario.specs.Represents.{Represents, PlaysNot}
-use Rattle.scenario.specs.Played.{fault_of, step_fault, Carries, CarriesFront, answer_text, Leaves, RunsLine}
-use Rattle.scenario.proofs.Fronts.{puts, puts_front}
+use Rattle.gate_outside.specs.Streams.{Carries, CarriesFront}
+use Rattle.scenario.specs.Played.{fault_of, step_fault, answer_text, Leaves, RunsLine}
+use Rattle.gate_outside.proofs.Fronts.{puts, puts_front}
 
 -- ---- what was read
 

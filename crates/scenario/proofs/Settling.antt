@@ -1,5 +1,5 @@
--- What waits is written.
-use Rattle.std.proofs.Common.{◌≡◌, ℕ, List, [], ◌++◌, Result, Ok, Err, MatchResult, OnOk, OnErr, refl, ap, ◌∙◌, append-nil}
+-- What waits goes out.
+use Rattle.std.proofs.Common.{◌≡◌, ℕ, List, [], ◌++◌, Result, Ok, Err, MatchResult, OnOk, OnErr, refl, ◌∙◌, append-nil}
 use Rattle.std.specs.declared.option.Option.{Option}
 use Rattle.std.specs.Io.KnownBytes.{Appends}
 use Rattle.gate_outside.specs.Causes.{FaultHasCause}
@@ -10,8 +10,9 @@ use Rattle.scenario.specs.declared.fault.PlayFault.TheVariants.{Read, Write, Lin
 use Rattle.scenario.specs.declared.file_runner.FileRunner.{FileRunner}
 use Rattle.scenario.specs.Lines.{whole_lines}
 use Rattle.scenario.specs.Transcript.{Ending, Whole, text_of, transcript, ending}
-use Rattle.scenario.specs.Played.{fault_of, FaultCause, AppendsFront, Carries, CarriesFront, AtFault, Ends, Leaves, Playing, Written, StopsAt, LeavesAt, Anything, Nothing}
-use Rattle.scenario.proofs.Fronts.{all_sent, all_front, front_sent, carries_front}
+use Rattle.gate_outside.specs.Streams.{AppendsFront, Carries, CarriesFront}
+use Rattle.scenario.specs.Played.{fault_of, FaultCause, AtFault, Ends, Leaves, Playing, Written, StopsAt, LeavesAt, Anything, Nothing}
+use Rattle.gate_outside.proofs.Fronts.{all_sent, all_front, front_sent, carries_front}
 use Rattle.scenario.proofs.Bytes.{front_so_far}
 
 -- ---- at a fault
@@ -53,17 +54,16 @@ not_risen Memory before now other h = h
 
 -- ---- after bytes were played
 
--- all of it was
-written : (got got0 got1 : Option (List ℕ)) (old new : FileRunner) (bytes : List ℕ) → new.reader ≡ old.reader → new.part ≡ old.part → new.server ≡ old.server → new.waits.items ≡ []
-    → Appends got0 got1 old.waits.items → Playing got got0 old bytes → Written got got1 new bytes
-written got got0 got1 old new bytes reader part server none wrote playing =
+-- all of it did
+written : (got got0 got1 : Option (List ℕ)) (waits0 waits1 : List ℕ) (k : FileRunner) (bytes : List ℕ) → waits1 ≡ [] → Appends got0 got1 waits0 → Playing got got0 waits0 k bytes → Written got got1 waits1 k bytes
+written got got0 got1 waits0 waits1 k bytes none wrote playing =
     let text : List ℕ = text_of (whole_lines bytes) in
-    let all : Carries got got1 [] text = record { sent = text; is = append-nil text; wrote = all_sent got got0 got1 old.waits.items text playing.wrote wrote } in
+    let all : Carries got got1 [] text = record { sent = text; is = append-nil text; wrote = all_sent got got0 got1 waits0 text playing.wrote wrote } in
     record {
       playing = record {
-        reader = reader ∙ playing.reader;
-        part = ap (λ (p : _). p.items) part ∙ playing.part;
-        represents = rw server playing.represents;
+        reader = playing.reader;
+        part = playing.part;
+        represents = playing.represents;
         wrote = rw none all;
         goes_on = playing.goes_on;
       };
@@ -75,16 +75,15 @@ abbrev WrittenAfter : (got got0 got1 : Option (List ℕ)) (waits : List ℕ) (pl
 WrittenAfter got got0 got1 waits played result =
     (text : List ℕ) (end : Ending) → MatchResult played (λ _. CarriesFront got got0 waits text) (Leaves got got0 waits text end) → AtFault result (Ends got got1 text end)
 
-pub feeds : (played result : Result (Unit {0}) PlayFault) (got got0 got1 : Option (List ℕ)) (old new : FileRunner) (bytes : List ℕ)
-    → new.reader ≡ old.reader → new.part ≡ old.part → new.server ≡ old.server
-    → OnErr played (OnOk result ⊥) → OnOk result (Appends got0 got1 old.waits.items × (new.waits.items ≡ [])) → WrittenAfter got got0 got1 old.waits.items played result
-    → MatchResult played (λ _. Playing got got0 old bytes) (LeavesAt got got0 old.waits.items bytes Anything)
-    → MatchResult result (λ _. Written got got1 new bytes) (StopsAt got got1 bytes Anything)
-feeds (Ok x) (Ok y) got got0 got1 old new bytes reader part server fails ok ends playing = written got got0 got1 old new bytes reader part server ok.1 ok.0 playing
-feeds (Ok x) (Err fault) got got0 got1 old new bytes reader part server fails ok ends playing =
-    λ rest any. ends (transcript (bytes ++ rest)) (ending (bytes ++ rest)) (front_so_far got got0 got1 old bytes playing rest)
-feeds (Err first) (Ok y) got got0 got1 old new bytes reader part server fails ok ends leaves = absurd fails
-feeds (Err first) (Err fault) got got0 got1 old new bytes reader part server fails ok ends leaves =
+pub feeds : (played result : Result (Unit {0}) PlayFault) (got got0 got1 : Option (List ℕ)) (waits0 waits1 : List ℕ) (k : FileRunner) (bytes : List ℕ)
+    → OnErr played (OnOk result ⊥) → OnOk result (Appends got0 got1 waits0 × (waits1 ≡ [])) → WrittenAfter got got0 got1 waits0 played result
+    → MatchResult played (λ _. Playing got got0 waits0 k bytes) (LeavesAt got got0 waits0 bytes Anything)
+    → MatchResult result (λ _. Written got got1 waits1 k bytes) (StopsAt got got1 bytes Anything)
+feeds (Ok x) (Ok y) got got0 got1 waits0 waits1 k bytes fails ok ends playing = written got got0 got1 waits0 waits1 k bytes ok.1 ok.0 playing
+feeds (Ok x) (Err fault) got got0 got1 waits0 waits1 k bytes fails ok ends playing =
+    λ rest any. ends (transcript (bytes ++ rest)) (ending (bytes ++ rest)) (front_so_far got got0 got1 waits0 waits1 k bytes playing rest)
+feeds (Err first) (Ok y) got got0 got1 waits0 waits1 k bytes fails ok ends leaves = absurd fails
+feeds (Err first) (Err fault) got got0 got1 waits0 waits1 k bytes fails ok ends leaves =
     λ rest any. ends (transcript (bytes ++ rest)) (ending (bytes ++ rest)) (leaves rest any)
 
 pub finishes : (played result : Result (Unit {0}) PlayFault) (got got0 got1 : Option (List ℕ)) (waits none bytes : List ℕ)

@@ -15,8 +15,9 @@ use Rattle.scenario.specs.Server.{Server, first_server}
 use Rattle.scenario.specs.declared.server.Server.{Server as KeptServer}
 use Rattle.scenario.specs.Transcript.{first_reader, Ending, Whole, Stops, Spends, is_read, read_text, read_ending, after_run, run_text, run_ending, then_ending, text_from, ending_from, reader_from, server_from, line_spends, text_of, ending_of, reader_of, server_of}
 use Rattle.scenario.specs.Represents.{Represents}
-use Rattle.scenario.specs.Played.{Carries, CarriesFront, Leaves, RunsLine, IsCounted}
-use Rattle.scenario.proofs.Fronts.{carries_more, front_of_more, front_before}
+use Rattle.gate_outside.specs.Streams.{Carries, CarriesFront}
+use Rattle.scenario.specs.Played.{Leaves, RunsLine, IsCounted}
+use Rattle.gate_outside.proofs.Fronts.{carries_more, front_of_more, front_before}
 
 -- ---- lines that do not end the play
 

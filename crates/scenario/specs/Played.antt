@@ -4,6 +4,7 @@ use Rattle.std.specs.declared.option.Option.{Option}
 use Rattle.std.specs.declared.option.Option.TheVariants.{Some}
 use Rattle.std.specs.Io.KnownBytes.{Appends, Consumes, IsAtEnd}
 use Rattle.gate_outside.specs.Causes.{Rose}
+use Rattle.gate_outside.specs.Streams.{AppendsFront, Carries, CarriesFront}
 use Rattle.gate_outside.specs.declared.faults.Fault.{Fault}
 use Rattle.gate_outside.specs.declared.faults.Fault.TheVariants as outside
 use Rattle.edit_text.specs.declared.reader_state.ReaderState.{ReaderState}
@@ -32,27 +33,6 @@ step_fault step.Memory = Memory
 
 -- ---- what was written
 
--- the known bytes grew by a front of the text
-abbrev pub AppendsFront : (got0 got1 : Option (List ℕ)) → List ℕ → Type 0
-AppendsFront got0 got1 text = (front back : List ℕ) × (front ++ back ≡ text) × Appends got0 got1 front
-
--- what was put is a front of the text
-abbrev pub IsFront : (front text : List ℕ) → Type 0
-IsFront front text = (back : List ℕ) × (front ++ back ≡ text)
-
--- the text was written, but for its end, which waits
-pub record Carries (got0 got1 : Option (List ℕ)) (waits text : List ℕ) : Type 0 where
-  pub sent : List ℕ
-  pub is : sent ++ waits ≡ text
-  pub wrote : Appends got0 got1 sent
-
--- a front of it was, but for the end of that front
-pub record CarriesFront (got0 got1 : Option (List ℕ)) (waits text : List ℕ) : Type 0 where
-  pub sent : List ℕ
-  pub back : List ℕ
-  pub is : (sent ++ waits) ++ back ≡ text
-  pub wrote : Appends got0 got1 sent
-
 -- a sink's count rose exactly if the fault is that a write failed
 abbrev pub FaultCause : (before now : ℕ) → PlayFault → Type 0
 FaultCause before now Read = ⊥
@@ -79,7 +59,7 @@ Ends got0 got1 text end (Line line fault) = Appends got0 got1 text × (end ≡ S
 Ends got0 got1 text end Spent = AppendsFront got0 got1 text × (end ≡ Spends)
 Ends got0 got1 text end Memory = AppendsFront got0 got1 text
 
--- the same, where what was put for it may still wait
+-- the same, where what was written of it may still wait
 abbrev pub Leaves : (got0 got1 : Option (List ℕ)) → (waits text : List ℕ) → Ending → PlayFault → Type 0
 Leaves got0 got1 waits text end Read = ⊥
 Leaves got0 got1 waits text end Write = CarriesFront got0 got1 waits text
@@ -105,17 +85,17 @@ pub record IsCounted (old : ReaderState) (line : List ℕ) (new : ReaderState) :
 -- ---- bytes
 
 -- all lines among the bytes that end with a line feed were played
-pub record Playing (got0 got1 : Option (List ℕ)) (k : FileRunner) (bytes : List ℕ) : Type 0 where
+pub record Playing (got0 got1 : Option (List ℕ)) (waits : List ℕ) (k : FileRunner) (bytes : List ℕ) : Type 0 where
   pub reader : k.reader ≡ reader_of (whole_lines bytes)
   pub part : k.part.items ≡ tail bytes
   pub represents : Represents k.server (server_of (whole_lines bytes))
-  pub wrote : Carries got0 got1 k.waits.items (text_of (whole_lines bytes))
+  pub wrote : Carries got0 got1 waits (text_of (whole_lines bytes))
   pub goes_on : ending_of (whole_lines bytes) ≡ Whole
 
--- and all that comes of them was written
-pub record Written (got0 got1 : Option (List ℕ)) (k : FileRunner) (bytes : List ℕ) : Type 0 where
-  pub playing : Playing got0 got1 k bytes
-  pub sent : k.waits.items ≡ []
+-- and all that comes of them went out
+pub record Written (got0 got1 : Option (List ℕ)) (waits : List ℕ) (k : FileRunner) (bytes : List ℕ) : Type 0 where
+  pub playing : Playing got0 got1 waits k bytes
+  pub sent : waits ≡ []
 
 -- how a play stopped among these bytes, whichever of these bytes follow
 abbrev pub StopsAt : (got0 got1 : Option (List ℕ)) → List ℕ → (List ℕ → Type 0) → PlayFault → Type 0

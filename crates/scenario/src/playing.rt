@@ -1,5 +1,5 @@
 //! Plays a step file from a source to a sink.
-ghost use Rattle.std.specs.Prelude.{◌≡◌, true, OnOk, MatchResult};
+ghost use Rattle.std.specs.Prelude.{◌≡◌, [], true, OnOk, MatchResult};
 ghost use Rattle.world_law.specs.TheLaw.{TheLaw};
 ghost use Rattle.scenario.specs.Played.{PlaysAll, PlaysTo, PlayCause};
 
@@ -12,19 +12,21 @@ use world_law::the_law;
 
 /// Plays a step file on four workers, from its source to its end, and writes its transcript: a line
 /// for each text that goes out, for each edit that is refused, and for a line that is refused, which
-/// ends the play.
+/// ends the play. Each line is offered to the sink with its line feed as one piece. What waits there
+/// goes out before each read, at the end, and at a fault but for a write that failed.
 ///
 /// With `Ok` the sink got the transcript of the whole file. After `Read` it got that of the whole
 /// lines that were read, after `Line` that of the file, which ends with the line that was refused,
-/// and else a front of it.
+/// and else a front of it, all this if nothing waited there before.
 pub fn play<S: Source, K: Sink>(
     alloc: Global,
     source: &mut S,
     sink: &mut K,
 ) -> Result<(), PlayFault>
-    ensures plays { MatchResult result
+    ensures plays { K.waits sink.old ≡ [] → MatchResult result
         (λ _. PlaysAll (S.left source.old) (S.left source.new) (K.got sink.old) (K.got sink.new))
         (PlaysTo (S.left source.old) (S.left source.new) (K.got sink.old) (K.got sink.new)) }
+    ensures none { OnOk result (K.waits sink.new ≡ []) }
     ensures ended { OnOk result (S.ended source.new ≡ true) }
     ensures cause { PlayCause (S.faults source.old) (S.faults source.new) (K.faults sink.old) (K.faults sink.new) result }
     ensures law { TheLaw }

@@ -1,113 +1,124 @@
-//! Writes transcript lines to a sink: they wait in a buffer, and are written in one piece.
-ghost use Rattle.std.specs.Prelude.{◌≡◌, ◌++◌, [], MatchResult, OnOk, OnErr};
-ghost use Rattle.std.specs.Io.KnownBytes.{Appends};
+//! Writes transcript lines to a sink, each with its line feed as one piece.
+ghost use Rattle.std.specs.Prelude.{◌++◌, MatchResult, OnOk, OnErr};
 ghost use Rattle.gate_outside.specs.Causes.{FaultHasCause};
+ghost use Rattle.gate_outside.specs.Streams.{Carries, CarriesFront};
 ghost use Rattle.scenario.specs.Server.{Server as ModelServer, follow, followed};
+ghost use Rattle.scenario.specs.Texts.{written_line, refused_text, stop_line};
 ghost use Rattle.scenario.specs.Transcript.{output_text, outputs_text};
 ghost use Rattle.scenario.specs.Represents.{Represents};
-ghost use Rattle.scenario.specs.Played.{AppendsFront, IsFront, Carries, CarriesFront, answer_text};
+ghost use Rattle.scenario.specs.Played.{answer_text};
 
 use crate::server::{Answer, Server};
-use crate::texts::{put_output, put_refusal};
+use crate::texts::{put_output, put_refusal, put_stop};
+use edit_text::LineFault;
 use gate_outside::faults::Fault;
 use gate_outside::streams::{Sink, write_all};
-use std::alloc::AllocError;
+use guild_model::Verdict;
 use worker_core::Output;
 
-/// The most bytes that wait.
-const MANY_BYTES: usize = 65_536;
-
-/// Writes what waits. Nothing waits after it, also if the sink has refused it.
-pub fn write_waiting<K: Sink>(sink: &mut K, waits: &mut Vec<u8>) -> Result<(), Fault>
-    ensures ok { OnOk result (Appends (K.got sink.old) (K.got sink.new) waits.old.items) }
-    ensures err { OnErr result (AppendsFront (K.got sink.old) (K.got sink.new) waits.old.items) }
-    ensures none { waits.new.items ≡ [] }
+// Offers a line to the sink as one piece.
+fn write_line<K: Sink>(sink: &mut K, text: &[u8]) -> Result<(), Fault>
+    ensures ok { OnOk result (Carries (K.got sink.old) (K.got sink.new) (K.waits sink.new) (K.waits sink.old ++ text.now)) }
+    ensures err { OnErr result (CarriesFront (K.got sink.old) (K.got sink.new) (K.waits sink.new) (K.waits sink.old ++ text.now)) }
     ensures cause { FaultHasCause (K.faults sink.old) (K.faults sink.new) result }
 {
-    let written = write_all(sink, waits.as_slice());
-    waits.clear();
-    written
+    write_all(sink, text)
 }
 
-fn write_if_many<K: Sink>(sink: &mut K, waits: &mut Vec<u8>) -> Result<(), Fault>
-    ensures ok { OnOk result (Carries (K.got sink.old) (K.got sink.new) waits.new.items waits.old.items) }
-    ensures err { OnErr result (CarriesFront (K.got sink.old) (K.got sink.new) waits.new.items waits.old.items) }
+// Writes the line of an output. The sink is offered nothing of it if memory runs out before.
+fn write_output<K: Sink>(sink: &mut K, text: &mut Vec<u8>, output: &Output) -> Result<(), Fault>
+    ensures ok { OnOk result (Carries (K.got sink.old) (K.got sink.new) (K.waits sink.new) (K.waits sink.old ++ written_line output.now)) }
+    ensures err { OnErr result (CarriesFront (K.got sink.old) (K.got sink.new) (K.waits sink.new) (K.waits sink.old ++ written_line output.now)) }
     ensures cause { FaultHasCause (K.faults sink.old) (K.faults sink.new) result }
 {
-    if waits.len() <= MANY_BYTES {
-        return Ok(());
-    }
-    write_waiting(sink, waits)?;
-    Ok(())
+    text.clear();
+    put_output(text, output)?;
+    write_line(sink, text.as_slice())
 }
 
-// Appends an output. A wish is at once an edit of its guild.
-fn put_followed(
-    server: &mut Server,
-    waits: &mut Vec<u8>,
+// Writes the line of an edit that is refused, if it is, with the number of its line.
+fn write_refusal<K: Sink>(
+    sink: &mut K,
+    text: &mut Vec<u8>,
     line: u64,
-    output: &Output,
-) -> Result<(), AllocError>
-    ensures { (p : ModelServer) → Represents server.old p → MatchResult result
-        (λ _. Represents server.new (follow p output.now) × (waits.new.items ≡ waits.old.items ++ output_text p line output.now))
-        (λ _. IsFront waits.new.items (waits.old.items ++ output_text p line output.now)) }
+    refusal: Option<Verdict>,
+) -> Result<(), Fault>
+    ensures ok { OnOk result (Carries (K.got sink.old) (K.got sink.new) (K.waits sink.new) (K.waits sink.old ++ refused_text line refusal)) }
+    ensures err { OnErr result (CarriesFront (K.got sink.old) (K.got sink.new) (K.waits sink.new) (K.waits sink.old ++ refused_text line refusal)) }
+    ensures cause { FaultHasCause (K.faults sink.old) (K.faults sink.new) result }
 {
-    put_output(waits, output)?;
-    let refusal = server.follow(output)?;
-    put_refusal(waits, line, refusal)?;
-    Ok(())
+    text.clear();
+    put_refusal(text, line, refusal)?;
+    write_line(sink, text.as_slice())
 }
 
-fn write_output<K: Sink>(
+/// Writes the line of a refused line, which ends the transcript.
+pub fn write_stop<K: Sink>(
+    sink: &mut K,
+    text: &mut Vec<u8>,
+    line: u64,
+    fault: LineFault,
+) -> Result<(), Fault>
+    ensures ok { OnOk result (Carries (K.got sink.old) (K.got sink.new) (K.waits sink.new) (K.waits sink.old ++ stop_line line fault)) }
+    ensures err { OnErr result (CarriesFront (K.got sink.old) (K.got sink.new) (K.waits sink.new) (K.waits sink.old ++ stop_line line fault)) }
+    ensures cause { FaultHasCause (K.faults sink.old) (K.faults sink.new) result }
+{
+    text.clear();
+    put_stop(text, line, fault)?;
+    write_line(sink, text.as_slice())
+}
+
+// Writes an output. A wish is at once an edit of its guild.
+fn write_followed<K: Sink>(
     server: &mut Server,
     sink: &mut K,
-    waits: &mut Vec<u8>,
+    text: &mut Vec<u8>,
     line: u64,
     output: &Output,
 ) -> Result<(), Fault>
     ensures follows { (p : ModelServer) → Represents server.old p → MatchResult result
-        (λ _. Represents server.new (follow p output.now) × Carries (K.got sink.old) (K.got sink.new) waits.new.items (waits.old.items ++ output_text p line output.now))
-        (λ _. CarriesFront (K.got sink.old) (K.got sink.new) waits.new.items (waits.old.items ++ output_text p line output.now)) }
+        (λ _. Represents server.new (follow p output.now) × Carries (K.got sink.old) (K.got sink.new) (K.waits sink.new) (K.waits sink.old ++ output_text p line output.now))
+        (λ _. CarriesFront (K.got sink.old) (K.got sink.new) (K.waits sink.new) (K.waits sink.old ++ output_text p line output.now)) }
     ensures cause { FaultHasCause (K.faults sink.old) (K.faults sink.new) result }
 {
-    put_followed(server, waits, line, output)?;
-    write_if_many(sink, waits)?;
+    write_output(sink, text, output)?;
+    let refusal = server.follow(output)?;
+    write_refusal(sink, text, line, refusal)?;
     Ok(())
 }
 
 fn write_outputs<K: Sink>(
     server: &mut Server,
     sink: &mut K,
-    waits: &mut Vec<u8>,
+    text: &mut Vec<u8>,
     line: u64,
     outputs: &[Output],
 ) -> Result<(), Fault>
     ensures follows { (p : ModelServer) → Represents server.old p → MatchResult result
-        (λ _. Represents server.new (followed p outputs.now) × Carries (K.got sink.old) (K.got sink.new) waits.new.items (waits.old.items ++ outputs_text p line outputs.now))
-        (λ _. CarriesFront (K.got sink.old) (K.got sink.new) waits.new.items (waits.old.items ++ outputs_text p line outputs.now)) }
+        (λ _. Represents server.new (followed p outputs.now) × Carries (K.got sink.old) (K.got sink.new) (K.waits sink.new) (K.waits sink.old ++ outputs_text p line outputs.now))
+        (λ _. CarriesFront (K.got sink.old) (K.got sink.new) (K.waits sink.new) (K.waits sink.old ++ outputs_text p line outputs.now)) }
     ensures cause { FaultHasCause (K.faults sink.old) (K.faults sink.new) result }
 {
     for output in outputs {
-        write_output(server, sink, waits, line, output)?;
+        write_followed(server, sink, text, line, output)?;
     }
     Ok(())
 }
 
-/// Writes the transcript of a line. Each wish is at once an edit of its guild. The end may wait.
+/// Writes the transcript of a line. Each wish is at once an edit of its guild.
 pub fn write_answer<K: Sink>(
     server: &mut Server,
     sink: &mut K,
-    waits: &mut Vec<u8>,
+    text: &mut Vec<u8>,
     line: u64,
     answer: &Answer,
 ) -> Result<(), Fault>
     ensures follows { (p : ModelServer) → Represents server.old p → MatchResult result
-        (λ _. Represents server.new (followed p answer.now.outputs.items) × Carries (K.got sink.old) (K.got sink.new) waits.new.items (waits.old.items ++ answer_text p line answer.now))
-        (λ _. CarriesFront (K.got sink.old) (K.got sink.new) waits.new.items (waits.old.items ++ answer_text p line answer.now)) }
+        (λ _. Represents server.new (followed p answer.now.outputs.items) × Carries (K.got sink.old) (K.got sink.new) (K.waits sink.new) (K.waits sink.old ++ answer_text p line answer.now))
+        (λ _. CarriesFront (K.got sink.old) (K.got sink.new) (K.waits sink.new) (K.waits sink.old ++ answer_text p line answer.now)) }
     ensures cause { FaultHasCause (K.faults sink.old) (K.faults sink.new) result }
 {
-    put_refusal(waits, line, answer.refusal)?;
-    write_if_many(sink, waits)?;
-    write_outputs(server, sink, waits, line, answer.outputs.as_slice())?;
+    write_refusal(sink, text, line, answer.refusal)?;
+    write_outputs(server, sink, text, line, answer.outputs.as_slice())?;
     Ok(())
 }

@@ -4,7 +4,7 @@ use Rattle.scenario.proofs.file_runner.FileRunner.play_bytes.Given as goal
 
 abbrev pub invariant-loop-piece : goal.invariant-loop-piece
 invariant-loop-piece g l = record {
-  fed : Fed l.fn.chunk (g.K.Sink.got l.fn.sink) (g.K.Sink.got l.sink) l.fn.self l.self l.rest;
+  fed : Fed l.fn.chunk (g.K.Sink.got l.fn.sink) (g.K.Sink.got l.sink) (g.K.Sink.waits l.fn.sink) (g.K.Sink.waits l.sink) l.fn.self l.self l.rest;
   faults : g.K.Sink.faults l.sink ≡ g.K.Sink.faults l.fn.sink;
 }
 

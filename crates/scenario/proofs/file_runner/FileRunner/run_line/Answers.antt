@@ -5,9 +5,10 @@ use Rattle.edit_text.specs.Lines.{line_of, reader_after}
 use Rattle.scenario.specs.Server.{played}
 use Rattle.scenario.specs.Transcript.{line_text, line_spends, line_ending, run_text, run_ending}
 use Rattle.scenario.specs.Represents.{Represents}
-use Rattle.scenario.specs.Played.{Carries, Leaves, RunsLine, IsCounted}
+use Rattle.gate_outside.specs.Streams.{Carries}
+use Rattle.scenario.specs.Played.{Leaves, RunsLine, IsCounted}
 use Rattle.scenario.proofs.Slots.{by_result}
-use Rattle.scenario.proofs.Fronts.{puts_front}
+use Rattle.gate_outside.proofs.Fronts.{puts_front}
 use Rattle.scenario.proofs.Stops.{counted_line}
 use Rattle.scenario.proofs.Runs.{read_ok, runs_line, ends_as, reader_moved, ok_always}
 use Rattle.scenario.proofs.file_runner.FileRunner.run_line.Goals as goal
@@ -28,7 +29,7 @@ returns-in-Ok-Some-clause-counted g c =
 
 pub returns-in-Err-Memory-clause-runs : goal.returns-in-Err-Memory-clause-runs
 returns-in-Err-Memory-clause-runs g c p stands =
-    let waits = c.args.self.now.waits.items in
+    let waits = g.K.Sink.waits c.args.sink.now in
     let text = run_text c.args.self.now.reader p c.args.bytes.now in
     puts_front (g.K.Sink.got c.args.sink.now) waits text (waits ++ text) refl
 
@@ -39,8 +40,8 @@ returns-in-Ok-Some-clause-runs g c p stands =
     let bytes = c.args.bytes.now in
     let got0 = g.K.Sink.got c.args.sink.now in
     let got1 = g.K.Sink.got c.play_line.new.sink in
-    let waits0 = c.args.self.now.waits.items in
-    let waits1 = c.play_line.new.waits.items in
+    let waits0 = g.K.Sink.waits c.args.sink.now in
+    let waits1 = g.K.Sink.waits c.play_line.new.sink in
     let after : c.line-line.new.self ≡ reader_after r bytes = reader_moved (Ok c.in-Ok-Some.field-0) c.in-Ok-Some.field-0 c.line-line.new.self _ refl c.in-Ok-Some.ensures.after in
     let counted : c.lines-number.result ≡ (reader_after r bytes).lines = c.lines-number.ensures ∙ ap (λ (r : ReaderState). r.lines) after in
     let is : line_of r bytes ≡ Ok (Some line) = read_ok (Ok c.in-Ok-Some.field-0) _ c.in-Ok-Some.field-0 refl c.in-Ok-Some.ensures.line ∙ ap Ok c.in-Ok-Some.field-0-is in
