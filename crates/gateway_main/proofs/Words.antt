@@ -1,5 +1,5 @@
 -- The words, and the usage line.
-use Rattle.std.proofs.Common.{◌≡◌, ℕ, List, [], ◌∷◌, Bool, true, false, Some, None, Result, Ok, Err, OnOk, OnErr, if◌then◌else◌, get_or, inl, inr, refl}
+use Rattle.std.proofs.Common.{◌≡◌, ℕ, List, [], ◌∷◌, Bool, true, false, Some, None, Result, Ok, Err, OnOk, OnErr, if◌then◌else◌, get_or, inl, inr, refl, sym, ◌∙◌, ◌++◌, append_assoc}
 use Rattle.std.specs.Prelude.{◌&&◌, codes}
 use Rattle.std.specs.Str.{bytes_eq}
 use Rattle.std.specs.declared.option.Option.{Option as Known}
@@ -7,8 +7,7 @@ use Rattle.std.specs.Io.KnownBytes.{Appends}
 use Rattle.gate_outside.specs.Causes.{FaultHasCause}
 use Rattle.gate_outside.specs.declared.faults.Fault.{Fault}
 use Rattle.gate_outside.specs.declared.faults.Fault.TheVariants as outside
-use Rattle.gate_outside.specs.Streams.{AppendsPart}
-use Rattle.scenario.proofs.Fronts.{part_front}
+use Rattle.gate_outside.specs.Streams.{AppendsFront, CarriesFront}
 use Rattle.gateway_main.specs.Words.{is_file, run_file, usage}
 use Rattle.gateway_main.specs.Gate.{TellsUsage, usage_status}
 
@@ -23,9 +22,13 @@ second_word (command ∷ []) file d e = absurd (cc)
 second_word (command ∷ f ∷ []) file d e = some_is (bytes_eq command (codes "run") && is_file f) f file e
 second_word (command ∷ f ∷ more ∷ words) file d e = absurd (cc)
 
+-- what went out of a front is a front
+pub front_out : (got0 got1 : Known (List ℕ)) (waits text : List ℕ) → CarriesFront got0 got1 waits text → AppendsFront got0 got1 text
+front_out got0 got1 waits text h = (h.sent, waits ++ h.back, sym (append_assoc h.sent waits h.back) ∙ h.is, h.wrote)
+
 -- how the usage line was written
-pub tells_usage : (r : Result (Unit {0}) Fault) (got0 got1 : Known (List ℕ)) (f0 f1 : ℕ) → OnOk r (Appends got0 got1 usage) → OnErr r (AppendsPart got0 got1 usage) → FaultHasCause f0 f1 r
+pub tells_usage : (r : Result (Unit {0}) Fault) (got0 got1 : Known (List ℕ)) (f0 f1 : ℕ) → OnOk r (Appends got0 got1 usage) → OnErr r (AppendsFront got0 got1 usage) → FaultHasCause f0 f1 r
     → TellsUsage got0 got1 f0 f1 (usage_status r)
 tells_usage (Ok x) got0 got1 f0 f1 ok err cause = inl (refl, ok, cause.ok)
-tells_usage (Err outside.Failed) got0 got1 f0 f1 ok err cause = inr (inl (refl, part_front got0 got1 usage err, cause.failed refl))
-tells_usage (Err outside.Memory) got0 got1 f0 f1 ok err cause = inr (inr (refl, part_front got0 got1 usage err))
+tells_usage (Err outside.Failed) got0 got1 f0 f1 ok err cause = inr (inl (refl, err, cause.failed refl))
+tells_usage (Err outside.Memory) got0 got1 f0 f1 ok err cause = inr (inr (refl, err))

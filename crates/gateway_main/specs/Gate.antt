@@ -7,7 +7,8 @@ use Rattle.gate_outside.specs.Houses.{HouseTale, ReturnedSource, returned_source
 use Rattle.gate_outside.specs.Told.{GrowsBy}
 use Rattle.scenario.specs.declared.fault.PlayFault.{PlayFault}
 use Rattle.scenario.specs.declared.fault.PlayFault.TheVariants.{Read, Write, Line, Spent, Memory}
-use Rattle.scenario.specs.Played.{PlaysAll, PlaysTo, AppendsFront}
+use Rattle.gate_outside.specs.Streams.{AppendsFront}
+use Rattle.scenario.specs.Played.{PlaysAll, PlaysTo}
 use Rattle.std.specs.Io.KnownBytes.{Appends}
 use Rattle.gate_outside.specs.Causes.{Rose}
 use Rattle.gate_outside.specs.declared.faults.Fault.{Fault}

@@ -1,10 +1,12 @@
 //! The command, over a house.
-ghost use Rattle.std.specs.Prelude.{◌≡◌, ℕ, List, Result, Some, None, true, is_some, map, string_bytes};
+ghost use Rattle.std.specs.Prelude.{◌≡◌, ◌++◌, [], ℕ, List, Result, Some, None, true, is_some, map, string_bytes, OnOk, OnErr};
+ghost use Rattle.std.specs.Io.KnownBytes.{Appends};
 ghost use Rattle.world_law.specs.TheLaw.{TheLaw};
 ghost use Rattle.gate_outside.specs.Causes.{FaultHasCause};
+ghost use Rattle.gate_outside.specs.Streams.{AppendsFront};
 ghost use Rattle.scenario.specs.declared.fault.PlayFault.{PlayFault as Fault};
 ghost use Rattle.scenario.specs.Played.{PlayCause};
-ghost use Rattle.gateway_main.specs.Words.{is_file, run_file};
+ghost use Rattle.gateway_main.specs.Words.{is_file, run_file, usage};
 ghost use Rattle.gateway_main.specs.Gate.{status_of, fault_of, usage_status, Runs, AsksOnce, LeavesRest, TellsUsage};
 
 use gate_outside::back::Back;
@@ -72,7 +74,7 @@ fn run<H: House>(
     house: &mut H,
     sink: &mut H::Out,
 ) -> Result<(), PlayFault>
-    ensures runs { Runs ((H.house_tale house.old).contents file.now)
+    ensures runs { H.Out.waits sink.old ≡ [] → Runs ((H.house_tale house.old).contents file.now)
         (H.house_tale house.old).sources (H.house_tale house.new).sources
         (H.Out.got sink.old) (H.Out.got sink.new) result }
     ensures asks { AsksOnce (H.house_tale house.old).asks (H.house_tale house.new).asks
@@ -106,12 +108,21 @@ fn usage_status(told: Result<(), faults::Fault>) -> u8
     }
 }
 
-// Writes the usage line.
-fn refuse<K: Sink>(sink: &mut K) -> u8
-    ensures { TellsUsage (K.got sink.old) (K.got sink.new) (K.faults sink.old) (K.faults sink.new) result }
+// Writes the usage line, and lets it go out.
+fn write_usage<K: Sink>(sink: &mut K) -> Result<(), faults::Fault>
+    ensures ok { OnOk result (Appends (K.got sink.old) (K.got sink.new) (K.waits sink.old ++ usage)) }
+    ensures err { OnErr result (AppendsFront (K.got sink.old) (K.got sink.new) (K.waits sink.old ++ usage)) }
+    ensures cause { FaultHasCause (K.faults sink.old) (K.faults sink.new) result }
 {
-    let told = write_all(sink, USAGE.as_bytes());
-    usage_status(told)
+    write_all(sink, USAGE.as_bytes())?;
+    sink.flush()
+}
+
+// Tells how to call the program.
+fn refuse<K: Sink>(sink: &mut K) -> u8
+    ensures { K.waits sink.old ≡ [] → TellsUsage (K.got sink.old) (K.got sink.new) (K.faults sink.old) (K.faults sink.new) result }
+{
+    usage_status(write_usage(sink))
 }
 
 /// Does what the words say, and answers the exit status. `run FILE` plays the step file and writes
@@ -120,6 +131,7 @@ fn refuse<K: Sink>(sink: &mut K) -> u8
 /// line and answers 2, or 6 if memory runs out.
 ///
 /// `fault` is then why the play did not come to its end; `None` if it did, or if nothing was played.
+/// What the sink gets is told for one where nothing waited before.
 pub fn gate<H: House>(
     alloc: Global,
     words: &[String],
@@ -128,20 +140,20 @@ pub fn gate<H: House>(
     fault: &mut Option<PlayFault>,
 ) -> u8
     ensures words { result ≡ 2 → run_file (map string_bytes words.now) ≡ None }
-    ensures usage { run_file (map string_bytes words.now) ≡ None → TellsUsage (H.Out.got sink.old) (H.Out.got sink.new) (H.Out.faults sink.old) (H.Out.faults sink.new) result }
+    ensures usage { run_file (map string_bytes words.now) ≡ None → H.Out.waits sink.old ≡ [] → TellsUsage (H.Out.got sink.old) (H.Out.got sink.new) (H.Out.faults sink.old) (H.Out.faults sink.new) result }
     ensures asks_nothing { run_file (map string_bytes words.now) ≡ None
         → H.house_tale house.new ≡ H.house_tale house.old }
     ensures run { (file : List ℕ) → run_file (map string_bytes words.now) ≡ Some file → (played : Result (Unit {0}) Fault) × (result ≡ status_of played)
-        × Runs ((H.house_tale house.old).contents file)
+        × (H.Out.waits sink.old ≡ [] → Runs ((H.house_tale house.old).contents file)
         (H.house_tale house.old).sources (H.house_tale house.new).sources
-        (H.Out.got sink.old) (H.Out.got sink.new) played
+        (H.Out.got sink.old) (H.Out.got sink.new) played)
         × AsksOnce (H.house_tale house.old).asks (H.house_tale house.new).asks file played
         × PlayCause (H.house_tale house.old).source_faults (H.house_tale house.new).source_faults
         (H.Out.faults sink.old) (H.Out.faults sink.new) played }
     ensures fault { (file : List ℕ) → run_file (map string_bytes words.now) ≡ Some file → (played : Result (Unit {0}) Fault) × (fault.new ≡ fault_of played) × (result ≡ status_of played)
-        × Runs ((H.house_tale house.old).contents file)
+        × (H.Out.waits sink.old ≡ [] → Runs ((H.house_tale house.old).contents file)
         (H.house_tale house.old).sources (H.house_tale house.new).sources
-        (H.Out.got sink.old) (H.Out.got sink.new) played }
+        (H.Out.got sink.old) (H.Out.got sink.new) played) }
     ensures rest { LeavesRest (H.house_tale house.old) (H.house_tale house.new) }
     ensures dial { H.tale house.new ≡ H.tale house.old }
     ensures dial_faults { H.faults house.new ≡ H.faults house.old }

@@ -6,6 +6,7 @@ mod gate;
 mod shown;
 
 use complaint::{tell, tell_memory, tell_no_text};
+use gate_outside::buffered_sink::BufferedSink;
 use gate_outside::no_network::NoNetwork;
 use gate_outside::std_house::RealHouse;
 use gate_outside::std_streams::StdoutSink;
@@ -39,7 +40,11 @@ fn main(rt: HostRuntime) -> io::Result<ExitCode> {
         }
     };
     let mut house = RealHouse::new(rt, NoNetwork::new());
-    let mut sink = StdoutSink::new(rt.clone()?);
+    let Ok(sink) = BufferedSink::new(rt.alloc(), StdoutSink::new(rt.clone()?)) else {
+        let _ = tell_memory(&rt);
+        return Ok(ExitCode::from(gate::NO_MEMORY));
+    };
+    let mut sink = sink;
     let mut fault = None;
     let status = gate::gate(
         rt.alloc(),
