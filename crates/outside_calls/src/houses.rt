@@ -5,6 +5,7 @@ use crate::doors::ask;
 use crate::streams::move_piece;
 use crate::words::content;
 use gate_outside::back::Back;
+use gate_outside::buffered_sink::BufferedSink;
 use gate_outside::clocks::Clock;
 use gate_outside::faults::Fault;
 use gate_outside::houses::House;
@@ -167,11 +168,11 @@ fn show_planned(rt: &HostRuntime) -> anyhow::Result<()> {
 // A file, a file that does not exist, and standard input, which go to standard output.
 fn show_real(rt: &HostRuntime) -> anyhow::Result<()> {
     let mut house = RealHouse::new(*rt, NoNetwork::new());
-    let mut sink = StdoutSink::new(*rt);
+    let mut sink = BufferedSink::new(rt.alloc(), StdoutSink::new(*rt))?;
     let mut piece = Piece::new(rt.alloc())?;
     for name in ["given.txt", "absent.txt", "-"] {
         let moved = move_name(&mut house, name, &mut sink, &mut piece);
-        let faults = sink.faults();
+        let faults = sink.sink().faults();
         println!(rt; "the real house: {name}, {moved:?}, {faults} faults of the sink")?;
     }
     show_parts(rt, "the real house", &mut house)

@@ -1,5 +1,6 @@
 //! Sources and sinks in memory.
 
+use gate_outside::buffered_sink::BufferedSink;
 use gate_outside::faults::Fault;
 use gate_outside::mem_streams::{MemSink, MemSource, SureSink, SureSource};
 use gate_outside::piece::Piece;
@@ -7,7 +8,7 @@ use gate_outside::streams::{Sink, Source, write_all};
 use std::alloc::AllocError;
 use std::str;
 
-/// Moves one piece from the source to the sink, and says how many bytes it had.
+/// Moves one piece from the source to the sink, lets it go out, and says how many bytes it had.
 pub fn move_piece<S: Source, K: Sink>(
     source: &mut S,
     sink: &mut K,
@@ -15,6 +16,7 @@ pub fn move_piece<S: Source, K: Sink>(
 ) -> Result<usize, Fault> {
     piece.fill(source)?;
     write_all(sink, piece.bytes())?;
+    sink.flush()?;
     Ok(piece.bytes().len())
 }
 
@@ -82,8 +84,52 @@ fn show_sure(rt: &HostRuntime) -> anyhow::Result<()> {
     shown
 }
 
-/// Shows both forms.
+// Offers one piece, or lets all go out if there is none.
+fn offer(sink: &mut BufferedSink<MemSink>, piece: Option<&[u8]>) -> Result<(), Fault> {
+    match piece {
+        Some(piece) => write_all(sink, piece),
+        None => sink.flush(),
+    }
+}
+
+// Shows what waits in the buffer, what the sink behind it has, and how often that has failed.
+fn show_buffer(
+    rt: &HostRuntime,
+    sink: &BufferedSink<MemSink>,
+    offered: Result<(), Fault>,
+) -> anyhow::Result<()> {
+    let behind = sink.sink();
+    let (held, got) = (
+        str::from_utf8(sink.held())?,
+        str::from_utf8(behind.bytes())?,
+    );
+    let faults = behind.faults();
+    println!(rt; "buffer: {offered:?}, it holds {held}, the sink has {got}, {faults} faults")?;
+    Ok(())
+}
+
+// Offers pieces, and lets them go out.
+fn show_offers(rt: &HostRuntime, sink: &mut BufferedSink<MemSink>) -> anyhow::Result<()> {
+    let pieces: [Option<&[u8]>; 6] = [Some(b"abc"), Some(b"def"), None, None, Some(b"g"), None];
+    for piece in pieces {
+        let offered = offer(sink, piece);
+        show_buffer(rt, sink, offered)?;
+    }
+    Ok(())
+}
+
+// The sink behind the buffer takes at most four bytes at once, and its second write fails.
+fn show_buffered(rt: &HostRuntime) -> anyhow::Result<()> {
+    let behind = MemSink::new(rt.alloc(), 4, [2].to_vec(rt.alloc())?);
+    let mut sink = BufferedSink::new(rt.alloc(), behind)?;
+    let shown = show_offers(rt, &mut sink);
+    drop(sink);
+    shown
+}
+
+/// Shows these forms.
 pub fn show(rt: &HostRuntime) -> anyhow::Result<()> {
     show_planned(rt)?;
-    show_sure(rt)
+    show_sure(rt)?;
+    show_buffered(rt)
 }

@@ -1,8 +1,9 @@
 //! Plays step files and compares their transcripts with those that are wanted: `worked_examples NAME..`,
-//! where NAME.jsonl is a step file and NAME.out what it must print. It prints a line a name.
+//! where NAME.jsonl is a step file and NAME.out what it must print. It prints a line a name, and then what
+//! a sink has whose second write fails.
 #![tactic(auto)]
 
-use gate_outside::mem_streams::{SureSink, SureSource};
+use gate_outside::mem_streams::{MemSink, SureSink, SureSource};
 use scenario::{PlayFault, play};
 use std::{env, fs};
 
@@ -44,9 +45,22 @@ fn try_one(rt: &HostRuntime, name: &str) -> anyhow::Result<()> {
     Ok(())
 }
 
+// Plays the first session into a sink whose second write fails, and shows what the sink has.
+fn try_second_write(rt: &HostRuntime) -> anyhow::Result<()> {
+    let steps = fs::read_to_string(rt, "first_session.jsonl")?;
+    let failing = [2].to_vec(rt.alloc())?;
+    let mut source = SureSource::new(steps.into_bytes());
+    let mut sink = MemSink::new(rt.alloc(), usize::MAX, failing);
+    let played = play(rt.alloc(), &mut source, &mut sink);
+    let got = String::from_utf8(sink.into_bytes())?;
+    println!(rt; "the second write fails: {played:?}, and the sink has")?;
+    println!(rt; "{}", got.trim_end())?;
+    Ok(())
+}
+
 fn main(rt: HostRuntime) -> anyhow::Result<()> {
     for name in env::args(&rt)?.skip(1) {
         try_one(&rt, name.as_str())?;
     }
-    Ok(())
+    try_second_write(&rt)
 }
