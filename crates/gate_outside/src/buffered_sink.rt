@@ -38,12 +38,16 @@ impl<K: Sink + Drop> Model for BufferedSink<K> {
     ghost invariant = { λ s. (length s.buffer.items ≤ BUFFER_BYTES) × (BUFFER_BYTES ≤ vec_capacity s.buffer) };
 }
 
-// Removes so many bytes at the front.
+// Removes so many bytes at the front; most often all, which costs nothing.
 fn remove_front(bytes: &mut Vec<u8>, count: usize)
     requires { count ≤ length bytes.old.items }
     ensures items { bytes.new.items ≡ drop count bytes.old.items }
     ensures capacity { vec_capacity bytes.new ≡ vec_capacity bytes.old }
 {
+    if count == bytes.len() {
+        bytes.clear();
+        return;
+    }
     bytes.drain(..count);
 }
 
