@@ -3,12 +3,12 @@ ghost use Rattle.std.specs.Prelude.{◌≡◌, ◌++◌, [], MatchResult, OnOk, 
 ghost use Rattle.std.specs.Io.KnownBytes.{Appends};
 ghost use Rattle.gate_outside.specs.Causes.{FaultHasCause};
 ghost use Rattle.scenario.specs.Server.{Server as ModelServer, follow, followed};
-ghost use Rattle.scenario.specs.Transcript.{output_text, outputs_text};
+ghost use Rattle.scenario.specs.Transcript.{head_text, output_text, outputs_text};
 ghost use Rattle.scenario.specs.Represents.{Represents};
 ghost use Rattle.scenario.specs.Played.{AppendsFront, IsFront, Carries, CarriesFront, answer_text};
 
 use crate::server::{Answer, Server};
-use crate::texts::{put_output, put_refusal};
+use crate::texts::{put_lagged, put_output, put_refusal};
 use gate_outside::faults::Fault;
 use gate_outside::streams::{Sink, write_all};
 use std::alloc::AllocError;
@@ -93,6 +93,17 @@ fn write_outputs<K: Sink>(
     Ok(())
 }
 
+// Appends what comes before the outputs of a line.
+fn put_head(waits: &mut Vec<u8>, line: u64, answer: &Answer) -> Result<(), AllocError>
+    ensures { let head = head_text line answer.now.refusal answer.now.lagged in MatchResult result
+        (λ _. waits.new.items ≡ waits.old.items ++ head)
+        (λ _. IsFront waits.new.items (waits.old.items ++ head)) }
+{
+    put_refusal(waits, line, answer.refusal)?;
+    put_lagged(waits, answer.lagged)?;
+    Ok(())
+}
+
 /// Writes the transcript of a line. Each wish is at once an edit of its guild. The end may wait.
 pub fn write_answer<K: Sink>(
     server: &mut Server,
@@ -106,7 +117,7 @@ pub fn write_answer<K: Sink>(
         (λ _. CarriesFront (K.got sink.old) (K.got sink.new) waits.new.items (waits.old.items ++ answer_text p line answer.now)) }
     ensures cause { FaultHasCause (K.faults sink.old) (K.faults sink.new) result }
 {
-    put_refusal(waits, line, answer.refusal)?;
+    put_head(waits, line, answer)?;
     write_if_many(sink, waits)?;
     write_outputs(server, sink, waits, line, answer.outputs.as_slice())?;
     Ok(())
