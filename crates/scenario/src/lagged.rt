@@ -4,7 +4,7 @@ use snowflake_id::Snowflake;
 
 /// A worker's look at a guild's log that lags: the worker was given fewer entries than come before those
 /// that the log keeps.
-#[derive(Clone, Copy, PartialEq, Eq, Debug)]
+#[derive(Clone, Copy)]
 pub struct Lagged {
     pub worker: u8,
     pub guild: Snowflake,
