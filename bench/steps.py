@@ -1,8 +1,8 @@
 """Writes a step file: steps.py LINES WORKERS SESSIONS RENAMES
 
 It has about LINES lines: renames, with a look of each of the WORKERS after every RENAMES of them, and
-SESSIONS sessions on each worker, each of which follows every guild. A guild's log has at most 16,384
-entries, so the renames go round the guilds of the file.
+SESSIONS sessions on each worker, each of which follows every guild. The renames go round the guilds
+of the file.
 """
 import json
 import sys

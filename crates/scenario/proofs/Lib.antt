@@ -6,6 +6,7 @@ pub mod Feeding
 pub mod Settling
 pub mod Runs
 pub mod Plays
+pub mod Latest
 pub mod Slots
 pub mod Worlds
 pub mod Servers

@@ -15,8 +15,7 @@ use Rattle.scenario.specs.declared.fault.PlayFault.{PlayFault}
 use Rattle.scenario.specs.declared.server.Server.{Server as KeptServer}
 use Rattle.scenario.specs.declared.server.Answer.{Answer}
 use Rattle.scenario.specs.Server.{Server, with_line, line_sends, played}
-use Rattle.scenario.specs.Texts.{refused_text}
-use Rattle.scenario.specs.Transcript.{outputs_text, Ending, Whole, Spends, line_refusal, line_text, line_spends, line_ending, read_text, read_ending, after_read, run_text, run_ending}
+use Rattle.scenario.specs.Transcript.{head_text, outputs_text, Ending, Whole, Spends, line_refusal, line_lag, line_text, line_spends, line_ending, read_text, read_ending, after_read, run_text, run_ending}
 use Rattle.scenario.specs.Represents.{Represents, PlaysNot}
 use Rattle.gate_outside.specs.Streams.{Carries, CarriesFront}
 use Rattle.scenario.specs.Played.{fault_of, step_fault, answer_text, Leaves, RunsLine}
@@ -43,9 +42,12 @@ pub write_ends : (fault : Fault) (got0 got1 : Known (List ℕ)) (waits text : Li
 write_ends outside.Failed got0 got1 waits text end h = h
 write_ends outside.Memory got0 got1 waits text end h = h
 
-pub text_is : (p : Server) (number : ℕ) (line : Line) (a : Answer) → a.refusal ≡ line_refusal p line → a.outputs.items ≡ line_sends p line → answer_text (with_line p line) number a ≡ line_text p number line
-text_is p number line a refusal outputs =
-    ap (λ r. refused_text number r ++ outputs_text (with_line p line) number a.outputs.items) refusal ∙ ap (λ os. refused_text number (line_refusal p line) ++ outputs_text (with_line p line) number os) outputs
+pub text_is : (p : Server) (number : ℕ) (line : Line) (a : Answer) → a.refusal ≡ line_refusal p line → a.lagged ≡ line_lag p line → a.outputs.items ≡ line_sends p line
+    → answer_text (with_line p line) number a ≡ line_text p number line
+text_is p number line a refusal lag outputs =
+    ap (λ r. head_text number r a.lagged ++ outputs_text (with_line p line) number a.outputs.items) refusal
+    ∙ (ap (λ l. head_text number (line_refusal p line) l ++ outputs_text (with_line p line) number a.outputs.items) lag
+    ∙ ap (λ os. head_text number (line_refusal p line) (line_lag p line) ++ outputs_text (with_line p line) number os) outputs)
 
 -- ---- a line that is run
 

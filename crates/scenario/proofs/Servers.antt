@@ -1,21 +1,19 @@
 -- What lines make of the server.
 use Rattle.std.proofs.Common.{◌≡◌, ℕ, List, [], ◌∷◌, ◌++◌, Bool, true, false, Option, Some, None, Result, MatchResult, if◌then◌else◌, length, refl, sym, ap, ◌∙◌, subst, arith}
-use Rattle.std.specs.Prelude.{◌==◌, ◌&&◌, ◌||◌, is_some, not, nat_lt, option_map, drop}
+use Rattle.std.specs.Prelude.{◌==◌, ◌||◌, is_some, option_map}
 use Rattle.std.proofs.lemmas.Bool.{eqb-true}
 use Rattle.std.proofs.lemmas.Bool.Decides.{nat_tests}
 use Rattle.collections.specs.ById.{find_id, has_id, put_id, put_all}
 use Rattle.collections.proofs.Finds.{find-put}
 use Rattle.collections.proofs.Has.{has-put}
-use Rattle.guild_model.specs.Record.{own_id, closed}
-use Rattle.guild_model.specs.declared.verdict.Verdict.{Verdict}
-use Rattle.guild_model.specs.declared.verdict.Verdict.TheVariants.{TooMany}
-use Rattle.guild_model.specs.Tests.{refused_if}
+use Rattle.guild_model.specs.Record.{own_id}
+use Rattle.guild_model.specs.declared.verdict.Verdict.TheVariants.{NotOpen}
 use Rattle.dispatch_types.specs.Fold.{contains}
-use Rattle.edit_apply.specs.Edits.{after, state}
+use Rattle.edit_apply.specs.Edits.{verdict, state}
 use Rattle.edit_apply.specs.declared.Edit.{Edit}
 use Rattle.edit_text.specs.declared.line.Line.{Line}
 use Rattle.edit_text.specs.declared.line.Line.TheVariants as line
-use Rattle.worker_core.specs.InCode.{wire_text, wire_model}
+use Rattle.worker_core.specs.InCode.{wire_text}
 use Rattle.worker_core.specs.Outputs.{all_written}
 use Rattle.worker_core.specs.Represents.{FaultBy}
 use Rattle.world_law.specs.Model.{Worker, seen_with}
@@ -24,14 +22,15 @@ use Rattle.world_law.specs.Inputs.{Input, Look, Open, Frame, Lost, Closed, Tick}
 use Rattle.world_law.specs.World.{first_world}
 use Rattle.worker_core.specs.declared.io.StepFault.{StepFault}
 use Rattle.worker_core.specs.declared.io.Output.{Output as Written}
-use Rattle.world_law.proofs.Folds.{state_join}
 use Rattle.world_law.proofs.Logs.{state_id}
 use Rattle.scenario.specs.declared.guild_log.GuildLog.{GuildLog}
 use Rattle.scenario.specs.declared.opened.Opened.{Opened}
 use Rattle.scenario.specs.declared.worker_slot.WorkerSlot.{WorkerSlot}
 use Rattle.scenario.specs.declared.server.Server.{Server as KeptServer}
-use Rattle.scenario.specs.Server.{Server, first_workers, world, given, for_worker, step_of, with_step, with_line, noted, opened_id, enters, log, step_sends, step_spends}
-use Rattle.scenario.specs.Represents.{log_id, log_with, log_of, away, SlotsRepresent, guilds_of, HasSlotsOnceStepped, IsFull, Keeps, Represents, all_moved, all_sends, any_spends, SlotsStep, SlotsFail, Plays, PlaysNot, Gives}
+use Rattle.scenario.specs.Server.{Server, first_workers, world, given, for_worker, step_of, with_step, with_line, noted, opened_id, worker_id, lag_of, refusal, log, step_sends, step_spends}
+use Rattle.scenario.specs.Transcript.{line_lag}
+use Rattle.scenario.specs.Represents.{log_id, log_with, added, SlotsRepresent, guilds_of, HasSlotsOnceStepped, IsFull, Keeps, Represents, all_moved, all_sends, any_spends, SlotsStep, SlotsFail, Plays, PlaysNot, Gives}
+use Rattle.scenario.proofs.Latest.{log_more}
 use Rattle.scenario.proofs.Slots.{by_result}
 use Rattle.scenario.proofs.Worlds.{stepped_workers, world_step, edit_sends, edit_spends}
 
@@ -75,10 +74,6 @@ pub contains_all : (id : ℕ) (gs : List ℕ) → contains id gs ≡ true → co
 contains_all id gs h = contains_found id (put_all own_id [] gs) ∙ has_all gs [] id h
 
 -- ---- logs
-
--- the log after an entry
-log_more : (g : ℕ) (es : List Edit) (e : Edit) → record { guild = after (state g es) e; entries = es ++ e ∷ [] } ≡ log_with g (es ++ e ∷ [])
-log_more g es e = ap (λ s. record { guild = s; entries = es ++ e ∷ [] }) (sym (state_join (closed g) es (e ∷ [])))
 
 pub log_keyed : (g : ℕ) (es : List Edit) → log_id (log_with g es) ≡ g
 log_keyed g es = state_id g es
@@ -244,15 +239,13 @@ if_some false l m e = absurd (cc)
 pub declared : (old : KeptServer) (p : Server) (g : ℕ) (l : GuildLog) → Keeps old p → find_id log_id g old.logs ≡ Some l → (contains g p.guilds ≡ true) × (l ≡ log_with g (log p g))
 declared old p g l keeps found = if_some (contains g p.guilds) l (log_with g (log p g)) (sym (keeps.logs g) ∙ found)
 
-pub look_plays : {V : Type 0} (items : V → List Written) (r : Result V StepFault) (old new : KeptServer) (p : Server) (worker g : ℕ) (l : GuildLog) (entries : List Edit) (slots : List WorkerSlot) → Keeps old p
-    → find_id log_id g old.logs ≡ Some l → entries ≡ l.entries → new.bots ≡ old.bots → new.guilds ≡ old.guilds → new.logs ≡ old.logs → new.used ≡ old.used
+pub look_plays : {V : Type 0} (items : V → List Written) (r : Result V StepFault) (old new : KeptServer) (p : Server) (worker g : ℕ) (slots : List WorkerSlot) → Keeps old p
+    → contains g p.guilds ≡ true → new.bots ≡ old.bots → new.guilds ≡ old.guilds → new.logs ≡ old.logs → new.used ≡ old.used
     → IsFull slots × SlotsRepresent (guilds_of p) 0 slots (world p).workers
-    → (contains g (guilds_of p) ≡ true → MatchResult r (λ out. SlotsStep (guilds_of p) (λ w. for_worker worker (look_at g entries (length (w.logs.seen g))) w) (world p).workers new.slots.items (items out))
-    (SlotsFail (λ w. for_worker worker (look_at g entries (length (w.logs.seen g))) w) (world p).workers))
+    → MatchResult r (λ out. SlotsStep (guilds_of p) (λ w. for_worker worker (look_at g (log p g) (length (w.logs.seen g))) w) (world p).workers new.slots.items (items out))
+    (SlotsFail (λ w. for_worker worker (look_at g (log p g) (length (w.logs.seen g))) w) (world p).workers)
     → MatchResult r (λ out. Plays p (line.Look worker g) new (items out)) (PlaysNot p (line.Look worker g))
-look_plays items r old new p worker g l entries slots keeps found is bots guilds logs used start steps =
-    let there = declared old p g l keeps found in
-    let all : entries ≡ (world p).logs g = is ∙ ap (λ (x : GuildLog). x.entries) there.1 in
+look_plays items r old new p worker g slots keeps there bots guilds logs used start steps =
     moved_on items r old new p p (line.Look worker g) (Looks worker g) slots
     (record {
       bots = bots ∙ keeps.bots;
@@ -260,58 +253,59 @@ look_plays items r old new p worker g l entries slots keeps found is bots guilds
       used = used ∙ keeps.used;
       logs = λ h. ap (find_id log_id h) logs ∙ keeps.logs h;
     })
-    (ap (λ b. if b then Some (Looks worker g) else None) there.0)
-    refl refl refl refl start.0 start.1
-    (subst (λ (es : List Edit). MatchResult r (λ out. SlotsStep (guilds_of p) (λ w. for_worker worker (look_at g es (length (w.logs.seen g))) w) (world p).workers new.slots.items (items out))
-    (SlotsFail (λ w. for_worker worker (look_at g es (length (w.logs.seen g))) w) (world p).workers)) all (steps (contains_all g p.guilds there.0)))
+    (ap (λ b. if b then Some (Looks worker g) else None) there)
+    refl refl refl refl start.0 start.1 steps
+
+-- a log that is not kept is that of a guild without a head line
+pub undeclared : (old : KeptServer) (p : Server) (g : ℕ) → Keeps old p → is_some (find_id log_id g old.logs) ≡ false → contains g p.guilds ≡ false
+undeclared old p g keeps lacks = by_test (contains g p.guilds) (ap is_some (sym (keeps.logs g)) ∙ lacks)
+  where
+    by_test : (b : Bool) → is_some (if b then Some (log_with g (log p g)) else None) ≡ false → b ≡ false
+    by_test true h = absurd (cc)
+    by_test false h = refl
+
+-- a look at it is no step, and an edit of it neither
+pub look_past : (old : KeptServer) (p : Server) (worker g : ℕ) (out : List Written) → Represents old p → is_some (find_id log_id g old.logs) ≡ false → out ≡ []
+    → (None ≡ line_lag p (line.Look worker g)) × Plays p (line.Look worker g) old out
+look_past old p worker g out stands lacks none =
+    let away : contains g p.guilds ≡ false = undeclared old p g stands.keeps lacks in (
+      ap (λ b. if b then lag_of worker g (log p g) (find_id worker_id worker (world p).workers) else None) (sym away),
+      plays_nothing p p (line.Look worker g) old out (ap (λ b. if b then Some (Looks worker g) else None) away) refl stands none,
+    )
+
+pub edit_past : (old : KeptServer) (p : Server) (g : ℕ) (e : Edit) (out : List Written) → Represents old p → is_some (find_id log_id g old.logs) ≡ false → out ≡ []
+    → (Some NotOpen ≡ refusal p g e) × Plays p (line.Edit g e) old out
+edit_past old p g e out stands lacks none =
+    let away : contains g p.guilds ≡ false = undeclared old p g stands.keeps lacks in (
+      ap (λ b. if b then verdict (state g (log p g)) e else Some NotOpen) (sym away),
+      plays_nothing p p (line.Edit g e) old out (ap (λ b. if b then Some (Edits g e) else None) away) refl stands none,
+    )
 
 -- ---- edits
 
-and_true : (a b : Bool) → a ≡ true → b ≡ true → (a && b) ≡ true
-and_true true b x y = y
-and_true false b x y = absurd (cc)
-
--- an edit that enters no log
-pub turned : (p : Server) (g : ℕ) (v : Verdict) → away (log_of p g) ≡ Some v → enters p g ≡ false
-turned p g v e = by_tests (contains g p.guilds) (nat_lt (length (log p g)) 16384) e
-  where
-    by_tests : (a b : Bool) → away (if a then Some (log_with g (log p g)) else None) ≡ Some v → (a && nat_lt (length (log p g)) 16384) ≡ false
-    by_tests false b h = refl
-    by_tests true b h = full (nat_lt (length (log p g)) 16384) h
-      where
-        full : (b : Bool) → refused_if (not b) (TooMany 16384) ≡ Some v → b ≡ false
-        full false h = refl
-        full true h = absurd (cc)
-
-pub entered : (p : Server) (g : ℕ) → away (log_of p g) ≡ None → enters p g ≡ true
-entered p g e = by_test (contains g p.guilds) e
-  where
-    full : (b : Bool) → refused_if (not b) (TooMany 16384) ≡ None → b ≡ true
-    full true h = refl
-    full false h = absurd (cc)
-
-    by_test : (a : Bool) → away (if a then Some (log_with g (log p g)) else None) ≡ None → (a && nat_lt (length (log p g)) 16384) ≡ true
-    by_test false h = absurd (cc)
-    by_test true h = full (nat_lt (length (log p g)) 16384) h
+-- why an edit is refused, by the record after the whole log
+pub refusal_known : (old : KeptServer) (p : Server) (g : ℕ) (e : Edit) (l : GuildLog) → Keeps old p → find_id log_id g old.logs ≡ Some l → verdict l.guild e ≡ refusal p g e
+refusal_known old p g e l keeps found =
+    let there = declared old p g l keeps found in
+    ap (λ (x : GuildLog). verdict x.guild e) there.1 ∙ ap (λ b. if b then verdict (state g (log p g)) e else Some NotOpen) (sym there.0)
 
 -- an edit is no step of a worker
-pub edit_plays : (old new : KeptServer) (p : Server) (g : ℕ) (e : Edit) (l : GuildLog) (held : GuildLog) (out : List Written) → Keeps old p → away (find_id log_id g old.logs) ≡ None
+pub edit_plays : (old new : KeptServer) (p : Server) (g : ℕ) (e : Edit) (l : GuildLog) (held : GuildLog) (out : List Written) → Keeps old p
     → find_id log_id g old.logs ≡ Some l → log_id held ≡ g
     → new.bots ≡ old.bots → new.guilds ≡ old.guilds → new.used ≡ old.used
-    → new.logs ≡ put_id log_id (record { guild = after l.guild e; entries = l.entries ++ e ∷ [] }) (put_id log_id held old.logs)
+    → new.logs ≡ put_id log_id (added l e) (put_id log_id held old.logs)
     → IsFull new.slots.items × SlotsRepresent (guilds_of p) 0 new.slots.items (world p).workers → out ≡ [] → Plays p (line.Edit g e) new out
-edit_plays old new p g e l held out keeps comes found at bots guilds used logs start none =
+edit_plays old new p g e l held out keeps found at bots guilds used logs start none =
     let there = declared old p g l keeps found in
-    let enter : enters p g ≡ true = entered p g (ap away (sym (keeps.logs g)) ∙ comes) in
     let es : List Edit = log p g in
     let s : Step = Edits g e in
     let next : GuildLog = log_with g (es ++ e ∷ []) in
     let put : new.logs ≡ put_id log_id next (put_id log_id held old.logs) =
-    logs ∙ ap (λ (x : GuildLog). put_id log_id x (put_id log_id held old.logs)) (ap (λ (x : GuildLog). record { guild = after x.guild e; entries = x.entries ++ e ∷ [] }) there.1 ∙ log_more g es e) in
+    logs ∙ ap (λ (x : GuildLog). put_id log_id x (put_id log_id held old.logs)) (ap (λ (x : GuildLog). added x e) there.1 ∙ log_more g es e) in
     let is : (world (with_step (Some s) p)).logs ≡ seen_with (world p).logs g e = ap (λ (m : World). m.logs) (world_step p s) in
     let workers : (world (with_step (Some s) p)).workers ≡ (world p).workers = ap (λ (m : World). m.workers) (world_step p s) in
     plays_step p p (line.Edit g e) s new out
-    (ap (λ b. if b then Some s else None) enter)
+    (ap (λ b. if b then Some s else None) there.0)
     refl
     (record {
       keeps = record {

@@ -1,5 +1,5 @@
--- Seats and the workers that they stand for.
-use Rattle.std.proofs.Common.{◌≡◌, ℕ, zero, suc, ◌+◌, ◌<◌, ◌≤◌, List, [], ◌∷◌, ◌++◌, Bool, true, false, Option, Some, None, Result, Ok, Err, MatchResult, if◌then◌else◌, length, get_or, set, refl, sym, ap, ◌∙◌, subst, append-nil, arith}
+-- Slots and the workers that they represent.
+use Rattle.std.proofs.Common.{◌≡◌, ℕ, zero, suc, ◌+◌, ◌-◌, ◌<◌, ◌≤◌, List, [], ◌∷◌, ◌++◌, Bool, true, false, Option, Some, None, Result, Ok, Err, MatchResult, if◌then◌else◌, length, get_or, set, refl, sym, ap, ◌∙◌, subst, append-nil, arith}
 use Rattle.std.specs.Prelude.{◌==◌, ◌||◌, drop, nat_lt, max}
 use Rattle.std.proofs.lemmas.Bool.Decides.{nat_tests}
 use Rattle.std.proofs.lemmas.List.{length-append, length-drop}
@@ -17,7 +17,8 @@ use Rattle.session_core.specs.Frames.{Want, Members, Presence, Voice, Move, Noth
 use Rattle.world_law.specs.Model.{Worker, cursors, record_of}
 use Rattle.world_law.specs.Inputs.{Input, Look, Rebase, Open, Frame, Lost, Closed, Tick, taken, outputs}
 use Rattle.world_law.specs.Sent.{ended_at, Sent}
-use Rattle.world_law.specs.Looks.{looked, looked_by, entered}
+use Rattle.world_law.specs.Looks.{looked, looked_by, rebased_by, entered}
+use Rattle.world_law.specs.World.{base_of, lags, look_at}
 use Rattle.world_law.specs.Greeting.{begins_with}
 use Rattle.world_law.specs.Wants.{after_want}
 use Rattle.world_law.specs.Frames.{after_move, move_at}
@@ -34,8 +35,9 @@ use Rattle.worker_core.specs.Represents.{Represents as WorkerRepresents, StepsTo
 use Rattle.worker_core.specs.declared.io.StepFault.{StepFault}
 use Rattle.worker_core.specs.declared.io.Output.{Output as Written}
 use Rattle.world_law.proofs.Worlds.{looked_seen}
+use Rattle.scenario.specs.declared.lagged.Lagged.{Lagged}
 use Rattle.scenario.specs.declared.worker_slot.WorkerSlot.{WorkerSlot}
-use Rattle.scenario.specs.Server.{for_worker, given_sends, given_spends}
+use Rattle.scenario.specs.Server.{for_worker, given_sends, given_spends, worker_id, lag_of}
 use Rattle.scenario.specs.Represents.{SlotSteps, SlotFails, SlotsStep, SlotsFail, SlotRepresents, SlotsRepresent, moved, all_moved, all_sends, any_spends, cursor_id, cursor_value, cursor_at, is_look, calm_of}
 
 differ : (a b : ℕ) → a < b → (a == b) ≡ false
@@ -65,6 +67,7 @@ module _ (gs : List ℕ) (m : ℕ) (f : Worker → Input) where
     pub moves : all_moved one_given ws ≡ ws
     pub sends : all_sends one_given ws ≡ []
     pub spends : any_spends one_given ws ≡ false
+    pub absent : find_id worker_id m ws ≡ None
 
   stay_more : (w : Worker) (ws : List Worker) → (w.core.worker == m) ≡ false → Stay ws → Stay (w ∷ ws)
   stay_more w ws e rest =
@@ -73,17 +76,18 @@ module _ (gs : List ℕ) (m : ℕ) (f : Worker → Input) where
         moves = ap (λ o. moved w o ∷ all_moved one_given ws) none ∙ ap (λ vs. w ∷ vs) rest.moves;
         sends = ap (λ o. given_sends w o ++ all_sends one_given ws) none ∙ rest.sends;
         spends = ap (λ o. given_spends w o || any_spends one_given ws) none ∙ rest.spends;
+        absent = ap (λ b. if b then Some w else find_id worker_id m ws) e ∙ rest.absent;
       }
 
   pub others_stay : (ks : List WorkerSlot) (ws : List Worker) (j : ℕ) → SlotsRepresent gs j ks ws → m < j → Stay ws
-  others_stay [] [] j sit h = record { moves = refl; sends = refl; spends = refl }
+  others_stay [] [] j sit h = record { moves = refl; sends = refl; spends = refl; absent = refl }
   others_stay [] (w ∷ ws) j sit h = absurd sit
   others_stay (k ∷ ks) [] j sit h = absurd sit
   others_stay (k ∷ ks) (w ∷ ws) j sit h =
       stay_more w ws (ap (λ n. n == m) sit.0.number ∙ differ_below j m h) (others_stay ks ws (j + 1) sit.1 (omega arith))
 
   pub none_there : (ks : List WorkerSlot) (ws : List Worker) (j : ℕ) → SlotsRepresent gs j ks ws → j + length ks ≤ m → Stay ws
-  none_there [] [] j sit h = record { moves = refl; sends = refl; spends = refl }
+  none_there [] [] j sit h = record { moves = refl; sends = refl; spends = refl; absent = refl }
   none_there [] (w ∷ ws) j sit h = absurd sit
   none_there (k ∷ ks) [] j sit h = absurd sit
   none_there (k ∷ ks) (w ∷ ws) j sit h =
@@ -93,6 +97,7 @@ module _ (gs : List ℕ) (m : ℕ) (f : Worker → Input) where
   pub record Found (i n : ℕ) (ks : List WorkerSlot) (ws : List Worker) (d : WorkerSlot) : Type 0 where
     pub one : Worker
     pub sits : SlotRepresents gs m (get_or ks n d) one
+    pub finds : find_id worker_id m ws ≡ Some one
     pub sends : all_sends one_given ws ≡ outputs wire_model one (f one)
     pub spends : any_spends one_given ws ≡ spends wire_model one (f one)
     pub moves : (k : WorkerSlot) → SlotRepresents gs m k (taken wire_model one (f one)) → SlotsRepresent gs i (set ks n k) (all_moved one_given ws)
@@ -106,11 +111,13 @@ module _ (gs : List ℕ) (m : ℕ) (f : Worker → Input) where
   found (k ∷ ks) [] i n d is h sit = absurd sit
   found (k ∷ ks) (w ∷ ws) i zero d is h sit =
       let here : m ≡ i = omega arith in
-      let some : one_given w ≡ Some (f w) = is_given w (ap (λ n. n == m) (sit.0.number ∙ sym here) ∙ same m) in
+      let it : (w.core.worker == m) ≡ true = ap (λ n. n == m) (sit.0.number ∙ sym here) ∙ same m in
+      let some : one_given w ≡ Some (f w) = is_given w it in
       let rest : Stay ws = others_stay ks ws (i + 1) sit.1 (omega arith) in
       record {
         one = w;
         sits = subst (λ n. SlotRepresents gs n k w) (sym here) sit.0;
+        finds = ap (λ b. if b then Some w else find_id worker_id m ws) it;
         sends = ap (λ o. given_sends w o ++ all_sends one_given ws) some ∙ (ap (λ l. outputs wire_model w (f w) ++ l) rest.sends ∙ append-nil (outputs wire_model w (f w)));
         spends = ap (λ o. given_spends w o || any_spends one_given ws) some ∙ (ap (λ b. spends wire_model w (f w) || b) rest.spends ∙ false_or (spends wire_model w (f w)));
         moves = λ k' sits. (
@@ -119,11 +126,13 @@ module _ (gs : List ℕ) (m : ℕ) (f : Worker → Input) where
         );
       }
   found (k ∷ ks) (w ∷ ws) i (suc n) d is h sit =
-      let none : one_given w ≡ None = not_given w (ap (λ n. n == m) sit.0.number ∙ differ i m (omega arith)) in
+      let other : (w.core.worker == m) ≡ false = ap (λ n. n == m) sit.0.number ∙ differ i m (omega arith) in
+      let none : one_given w ≡ None = not_given w other in
       let rest : Found (i + 1) n ks ws d = found ks ws (i + 1) n d (omega arith) (omega arith) sit.1 in
       record {
         one = rest.one;
         sits = rest.sits;
+        finds = ap (λ b. if b then Some w else find_id worker_id m ws) other ∙ rest.finds;
         sends = ap (λ o. given_sends w o ++ all_sends one_given ws) none ∙ rest.sends;
         spends = ap (λ o. given_spends w o || any_spends one_given ws) none ∙ rest.spends;
         moves = λ k' sits. (subst (λ o. SlotRepresents gs i k (moved w o)) (sym none) sit.0, rest.moves k' sits);
@@ -257,47 +266,73 @@ module _ (gs : List ℕ) (n : ℕ) (old new : WorkerSlot) (w : Worker) (sits : S
     cursors = λ g. ap (cursor_at g) cursors ∙ (sits.cursors g ∙ ap (λ es. length es) (sym (taken_seen i w calm g)));
   }
 
+  -- the cursors after a look, by what the worker has then seen of the log
+  look_cursors : (g at : ℕ) (es : List Edit) (now : ℕ → List Edit) → max at (length es) ≡ length (now g)
+      → new.cursors ≡ put_id cursor_id (record { guild = g; at = max at (length es) }) old.cursors
+      → (h : ℕ) → cursor_at h new.cursors ≡ length (if g == h then now h else w.logs.seen h)
+  look_cursors g at es now count cursors h =
+      ap (cursor_at h) cursors ∙ (ap cursor_value (find-put cursor_id (record { guild = g; at = max at (length es) }) h old.cursors) ∙ by_guild (g == h) refl)
+    where
+      by_guild : (b : Bool) → (g == h) ≡ b
+          → cursor_value (if b then Some (record { guild = g; at = max at (length es) }) else find_id cursor_id h old.cursors) ≡ length (if b then now h else w.logs.seen h)
+      by_guild true e = let one : g ≡ h = eqb-true g h e in count ∙ ap (λ k. length (now k)) one
+      by_guild false e = sits.cursors h
+
   -- a worker was given the entries after its cursor
-  pub look_sits : (g at : ℕ) (entries : List Edit) → contains g gs ≡ true → at ≡ cursor_at g old.cursors
-      → WorkerRepresents new.worker (taken wire_model w (Look g (drop at entries)))
-      → new.cursors ≡ put_id cursor_id (record { guild = g; at = max at (length entries) }) old.cursors → SlotRepresents gs n new (taken wire_model w (Look g (drop at entries)))
-  look_sits g at entries there is stands cursors =
-      let es : List Edit = drop at entries in
+  look_sits : (g at : ℕ) (es : List Edit) → contains g gs ≡ true → at ≡ cursor_at g old.cursors
+      → WorkerRepresents new.worker (taken wire_model w (Look g (drop at es)))
+      → new.cursors ≡ put_id cursor_id (record { guild = g; at = max at (length es) }) old.cursors → SlotRepresents gs n new (taken wire_model w (Look g (drop at es)))
+  look_sits g at es there is stands cursors =
+      let next : List Edit = drop at es in
       let here : contains g w.logs.guilds ≡ true = ap (contains g) sits.guilds ∙ there in
       let s : Record = record_of w.logs.seen g in
-      let looks : taken wire_model w (Look g es) ≡ looked wire_model w g s es = ap (λ o. looked_by wire_model o w g es) (here_found wire_text w.logs g here) in
+      let looks : taken wire_model w (Look g next) ≡ looked wire_model w g s next = ap (λ o. looked_by wire_model o w g next) (here_found wire_text w.logs g here) in
       subst (λ (v : Worker). SlotRepresents gs n new v) (sym looks) (record {
-        number = looked_number es w g s ∙ sits.number;
-        guilds = looked_guilds es w g s ∙ sits.guilds;
+        number = looked_number next w g s ∙ sits.number;
+        guilds = looked_guilds next w g s ∙ sits.guilds;
         worker = subst (λ (v : Worker). WorkerRepresents new.worker v) looks stands;
-        cursors = λ h. ap (cursor_at h) cursors ∙ (ap cursor_value (find-put cursor_id (record { guild = g; at = max at (length entries) }) h old.cursors)
-            ∙ (by_guild h (g == h) refl ∙ sym (ap length (looked_seen wire_text es w g s h))));
+        cursors = λ h. look_cursors g at es (λ k. w.logs.seen k ++ drop at es) (count (sym (sits.cursors g) ∙ sym is)) cursors h ∙ sym (ap length (looked_seen wire_text next w g s h));
       })
     where
-      count : length (w.logs.seen g) ≡ at → max at (length entries) ≡ length (w.logs.seen g ++ drop at entries)
+      count : length (w.logs.seen g) ≡ at → max at (length es) ≡ length (w.logs.seen g ++ drop at es)
       count e = simp (length-append, length-drop) (omega (arith, e))
 
-      by_guild : (h : ℕ) (b : Bool) → (g == h) ≡ b
-          → cursor_value (if b then Some (record { guild = g; at = max at (length entries) }) else find_id cursor_id h old.cursors)
-          ≡ length (if b then w.logs.seen h ++ drop at entries else w.logs.seen h)
-      by_guild h true e =
-          let one : g ≡ h = eqb-true g h e in
-          count (sym (sits.cursors g) ∙ sym is) ∙ ap (λ k. length (w.logs.seen k ++ drop at entries)) one
-      by_guild h false e = sits.cursors h
+  -- a worker was given the whole log
+  rebase_sits : (g at : ℕ) (es : List Edit) → contains g gs ≡ true → lags es at ≡ true → WorkerRepresents new.worker (taken wire_model w (Rebase g es))
+      → new.cursors ≡ put_id cursor_id (record { guild = g; at = max at (length es) }) old.cursors → SlotRepresents gs n new (taken wire_model w (Rebase g es))
+  rebase_sits g at es there late stands cursors =
+      let here : contains g w.logs.guilds ≡ true = ap (contains g) sits.guilds ∙ there in
+      let s : Record = record_of w.logs.seen g in
+      let rebases : taken wire_model w (Rebase g es) ≡ rebased_by wire_model (Some s) w g es = ap (λ o. rebased_by wire_model o w g es) (here_found wire_text w.logs g here) in
+      let below : at < length es - 4096 = grind (arith, nat_tests, late) in
+      subst (λ (v : Worker). SlotRepresents gs n new v) (sym rebases) (record {
+        number = sits.number;
+        guilds = sits.guilds;
+        worker = subst (λ (v : Worker). WorkerRepresents new.worker v) rebases stands;
+        cursors = look_cursors g at es (λ k. es) (omega (arith, below)) cursors;
+      })
 
-  pub look_steps : (g at : ℕ) (entries next : List Edit) (out : List Written) → contains g gs ≡ true → at ≡ cursor_at g old.cursors → next ≡ drop at entries
-      → StepsTo w (Look g next) new.worker out → new.cursors ≡ put_id cursor_id (record { guild = g; at = max at (length entries) }) old.cursors
-      → SlotSteps gs n w (Look g (drop (length (w.logs.seen g)) entries)) new out
-  look_steps g at entries next out there is given steps cursors =
-      let here : StepsTo w (Look g (drop at entries)) new.worker out = subst (λ (es : List Edit). StepsTo w (Look g es) new.worker out) given steps in
-      let all : SlotSteps gs n w (Look g (drop at entries)) new out = (look_sits g at entries there is here.0 cursors, (here.1.0, here.1.1)) in
-      subst (λ (k : ℕ). SlotSteps gs n w (Look g (drop k entries)) new out) (is ∙ sits.cursors g) all
+  look_at_sits : (g at : ℕ) (es : List Edit) → contains g gs ≡ true → at ≡ cursor_at g old.cursors → (b : Bool) → lags es at ≡ b
+      → new.cursors ≡ put_id cursor_id (record { guild = g; at = max at (length es) }) old.cursors
+      → WorkerRepresents new.worker (taken wire_model w (if b then Rebase g es else Look g (drop at es))) → SlotRepresents gs n new (taken wire_model w (if b then Rebase g es else Look g (drop at es)))
+  look_at_sits g at es there is true late cursors stands = rebase_sits g at es there late stands cursors
+  look_at_sits g at es there is false soon cursors stands = look_sits g at es there is stands cursors
 
--- a fault of a look that was given the entries after the cursor
-pub look_fails : (gs : List ℕ) (n : ℕ) (old : WorkerSlot) (w : Worker) → SlotRepresents gs n old w → (g at : ℕ) (entries next : List Edit) (fault : StepFault)
-    → at ≡ cursor_at g old.cursors → next ≡ drop at entries → Fails w (Look g next) fault → SlotFails w (Look g (drop (length (w.logs.seen g)) entries)) fault
-look_fails gs n old w sits g at entries next fault is given fails =
-    subst (λ (k : ℕ). SlotFails w (Look g (drop k entries)) fault) (is ∙ sits.cursors g) (subst (λ (es : List Edit). SlotFails w (Look g es) fault) given fails)
+  pub look_steps : (g at : ℕ) (es : List Edit) (out : List Written) → contains g gs ≡ true → at ≡ cursor_at g old.cursors
+      → StepsTo w (look_at g es at) new.worker out → new.cursors ≡ put_id cursor_id (record { guild = g; at = max at (length es) }) old.cursors
+      → SlotSteps gs n w (look_at g es (length (w.logs.seen g))) new out
+  look_steps g at es out there is steps cursors =
+      let all : SlotSteps gs n w (look_at g es at) new out = (look_at_sits g at es there is (lags es at) refl cursors steps.0, (steps.1.0, steps.1.1)) in
+      subst (λ (k : ℕ). SlotSteps gs n w (look_at g es k) new out) (is ∙ sits.cursors g) all
+
+module _ (gs : List ℕ) (n : ℕ) (old : WorkerSlot) (w : Worker) (sits : SlotRepresents gs n old w) (g at : ℕ) (es : List Edit) (is : at ≡ cursor_at g old.cursors) where
+  -- a fault of a look
+  pub look_fails : (fault : StepFault) → Fails w (look_at g es at) fault → SlotFails w (look_at g es (length (w.logs.seen g))) fault
+  look_fails fault fails = subst (λ (k : ℕ). SlotFails w (look_at g es k) fault) (is ∙ sits.cursors g) fails
+
+  -- whether a look lags, by the cursor that is kept
+  pub lag_is : (lag : Option Lagged) → lag ≡ (if lags es at then Some (record { worker = n; guild = g; base = base_of es; cursor = at }) else None) → lag ≡ lag_of n g es (Some w)
+  lag_is lag found = found ∙ ap (λ (k : ℕ). if lags es k then Some (record { worker = n; guild = g; base = base_of es; cursor = k }) else None) (is ∙ sits.cursors g)
 
 -- ---- all slots
 
@@ -321,3 +356,13 @@ module _ (gs : List ℕ) (m : ℕ) (f : Worker → Input) (ks : List WorkerSlot)
       (λ out step. (it.moves new step.0, (step.1.0 ∙ ap all_written (sym it.sends), it.spends ∙ step.1.1)))
       (λ fault fails. subst (λ b. FaultBy b fault) (sym it.spends) fails)
       (steps it.one (subst (λ k. SlotRepresents gs m k it.one) (sym is) it.sits))
+
+  -- the look of the worker of this number, if it lags
+  pub no_lag : (g : ℕ) (es : List Edit) → length ks ≤ m → None ≡ lag_of m g es (find_id worker_id m ws)
+  no_lag g es h = ap (lag_of m g es) (sym (none_there gs m f ks ws 0 sit (omega arith)).absent)
+
+  pub found_lag : (lag : Option Lagged) (d : WorkerSlot) (g : ℕ) (es : List Edit) → m < length ks → d ≡ get_or ks m d
+      → ((w : Worker) → SlotRepresents gs m d w → lag ≡ lag_of m g es (Some w)) → lag ≡ lag_of m g es (find_id worker_id m ws)
+  found_lag lag d g es h is lag_at =
+      let it : Found gs m f 0 m ks ws d = found gs m f ks ws 0 m d (omega arith) h sit in
+      lag_at it.one (subst (λ k. SlotRepresents gs m k it.one) (sym is) it.sits) ∙ ap (lag_of m g es) (sym it.finds)

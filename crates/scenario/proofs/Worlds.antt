@@ -1,10 +1,10 @@
 -- The world of a server, step by step.
 use Rattle.std.proofs.Common.{◌≡◌, ℕ, List, [], ◌∷◌, ◌++◌, Bool, true, false, Some, None, if◌then◌else◌, length, map, refl, ap, ◌∙◌}
-use Rattle.std.specs.Prelude.{◌==◌, drop}
+use Rattle.std.specs.Prelude.{◌==◌}
 use Rattle.edit_apply.specs.declared.Edit.{Edit}
 use Rattle.world_law.specs.Model.{Worker}
 use Rattle.world_law.specs.World.{World, Step, Edits, Looks, Opens, Frames, Loses, Leaves, Ticks, look_at, stepped, run}
-use Rattle.world_law.specs.Inputs.{Input, Look, Open, Frame, Lost, Closed, Tick, taken}
+use Rattle.world_law.specs.Inputs.{Input, Open, Frame, Lost, Closed, Tick, taken}
 use Rattle.worker_core.specs.InCode.{wire_text, wire_model}
 use Rattle.scenario.specs.Server.{Server, world, given, with_step}
 use Rattle.scenario.specs.Represents.{moved, all_moved, all_sends, any_spends}

@@ -17,8 +17,7 @@ use Rattle.scenario.specs.declared.server.Answer.{Answer}
 use Rattle.scenario.specs.declared.file_runner.FileRunner.{FileRunner}
 use Rattle.scenario.specs.Lines.{whole_lines, tail}
 use Rattle.scenario.specs.Server.{Server}
-use Rattle.scenario.specs.Texts.{refused_text}
-use Rattle.scenario.specs.Transcript.{outputs_text, Ending, Whole, Stops, Spends, after_run, run_text, run_ending, text_of, ending_of, reader_of, server_of, transcript, ending}
+use Rattle.scenario.specs.Transcript.{head_text, outputs_text, Ending, Whole, Stops, Spends, after_run, run_text, run_ending, text_of, ending_of, reader_of, server_of, transcript, ending}
 use Rattle.scenario.specs.Represents.{Represents}
 
 -- ---- the faults of the crates below, as faults of a play
@@ -49,7 +48,7 @@ WriteCause before now (Err fault) = FaultCause before now fault
 
 -- the transcript of a line of this number, for a server after its step
 abbrev pub answer_text : Server → ℕ → Answer → List ℕ
-answer_text p number a = refused_text number a.refusal ++ outputs_text p number a.outputs.items
+answer_text p number a = head_text number a.refusal a.lagged ++ outputs_text p number a.outputs.items
 
 -- how a text of this ending was left: with the fault of a line whole, else a front of it
 abbrev pub Ends : (got0 got1 : Option (List ℕ)) → List ℕ → Ending → PlayFault → Type 0

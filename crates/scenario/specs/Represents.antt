@@ -1,17 +1,14 @@
 -- Which servers the code's server represents.
-use Rattle.std.specs.Prelude.{◌≡◌, ℕ, ◌+◌, ◌==◌, List, [], ◌∷◌, length, map, flat_map, Bool, false, Option, Some, None, if◌then◌else◌, true}
+use Rattle.std.specs.Prelude.{◌≡◌, ℕ, ◌+◌, ◌==◌, List, [], ◌∷◌, ◌++◌, length, map, flat_map, take, drop, nat_lt, Bool, false, Option, Some, None, if◌then◌else◌, true}
 use Rattle.std.specs.List.{list_any}
 use Rattle.collections.specs.ById.{find_id, put_all}
 use Rattle.guild_model.specs.Record.{own_id}
-use Rattle.guild_model.specs.declared.verdict.Verdict.{Verdict}
-use Rattle.guild_model.specs.declared.verdict.Verdict.TheVariants.{NotOpen}
-use Rattle.guild_model.specs.Tests.{too_many}
 use Rattle.dispatch_types.specs.Fold.{contains}
-use Rattle.edit_apply.specs.Edits.{state}
+use Rattle.edit_apply.specs.Edits.{after, state, state_from}
 use Rattle.edit_apply.specs.declared.Edit.{Edit}
 use Rattle.edit_text.specs.declared.line.Line.{Line}
 use Rattle.world_law.specs.Model.{Worker}
-use Rattle.world_law.specs.World.{Step, stepped}
+use Rattle.world_law.specs.World.{Step, base_of, kept_entries, stepped}
 use Rattle.world_law.specs.Inputs.{Input, Look, Rebase, Open, Frame, Lost, Closed, Tick, taken, outputs}
 use Rattle.world_law.specs.Outputs.{Output}
 use Rattle.world_law.specs.Spent.{spends}
@@ -26,15 +23,33 @@ use Rattle.worker_core.specs.declared.io.Output.{Output as Written}
 use Rattle.scenario.specs.declared.guild_log.GuildLog.{GuildLog}
 use Rattle.scenario.specs.declared.worker_slot.Cursor.{Cursor}
 use Rattle.scenario.specs.declared.worker_slot.WorkerSlot.{WorkerSlot}
+use Rattle.scenario.specs.declared.server.Answer.{Answer}
 use Rattle.scenario.specs.declared.server.Server.{Server as KeptServer}
 use Rattle.scenario.specs.Server.{Server, world, step_of, noted, with_line, line_sends, given as given_to, for_worker, step_spends, given_sends, given_spends}
+use Rattle.scenario.specs.Transcript.{line_refusal, line_lag}
 
 abbrev pub log_id : GuildLog → ℕ
 log_id l = l.guild.id
 
--- a log with the record after it
+-- a log with the record after it, its latest entries and the record before these
 abbrev pub log_with : ℕ → List Edit → GuildLog
-log_with g es = record { guild = state g es; entries = es }
+log_with g es = record { guild = state g es; count = length es; basis = state g (take (base_of es) es); latest = drop (base_of es) es }
+
+-- how many of so many kept entries go into the record before them as one more comes
+abbrev pub over : ℕ → ℕ
+over n = if nat_lt n kept_entries then 0 else 1
+
+-- a log with one entry more, but for that entry among the latest
+abbrev pub counted_in : GuildLog → Edit → GuildLog
+counted_in l e = record {
+  guild = after l.guild e;
+  count = l.count + 1;
+  basis = state_from l.basis (take (over (length l.latest)) l.latest);
+  latest = drop (over (length l.latest)) l.latest;
+}
+
+abbrev pub added : GuildLog → Edit → GuildLog
+added l e = record (counted_in l e) { latest = drop (over (length l.latest)) l.latest ++ e ∷ [] }
 
 abbrev pub log_of : Server → ℕ → Option GuildLog
 log_of p g = if contains g p.guilds then Some (log_with g ((world p).logs g)) else None
@@ -91,11 +106,6 @@ abbrev pub IsFull : List WorkerSlot → Type 0
 IsFull [] = ⊥
 IsFull (k ∷ ks) = Unit {0}
 
--- why an edit enters no log, by the guild's log
-abbrev pub away : Option GuildLog → Option Verdict
-away None = Some NotOpen
-away (Some l) = too_many 16384 (length l.entries)
-
 -- ---- what a step leaves of a slot, and of all
 
 abbrev pub is_look : Input → Bool
@@ -146,6 +156,10 @@ SlotsFail f ws fault = FaultBy (any_spends f ws) fault
 -- what the step of a line leaves, and what goes out
 abbrev pub Plays : Server → Line → KeptServer → List Written → Type 0
 Plays p line new out = Represents new (with_line p line) × ((out ≡ line_sends p line) × (step_spends (world p) (step_of p line) ≡ false))
+
+-- and the answer to it
+abbrev pub Answers : Server → Line → KeptServer → Answer → Type 0
+Answers p line new a = (a.refusal ≡ line_refusal p line) × ((a.lagged ≡ line_lag p line) × Plays p line new a.outputs.items)
 
 -- a line that gives one worker an input, and leaves all else
 pub record Gives (p : Server) (line : Line) (worker : ℕ) (i : Input) : Type 0 where

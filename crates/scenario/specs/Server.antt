@@ -1,12 +1,11 @@
 -- What the lines of a step file make of the server: at most one step of the world a line, and an edit for
 -- each wish that goes out.
-use Rattle.std.specs.Prelude.{ℕ, ◌==◌, ◌&&◌, List, [], ◌∷◌, ◌++◌, length, drop, flat_map, Bool, false, not, nat_lt, Option, Some, None, option_map, if◌then◌else◌, decimal, codes}
+use Rattle.std.specs.Prelude.{ℕ, ◌==◌, List, [], ◌∷◌, ◌++◌, length, flat_map, Bool, false, Option, Some, None, option_map, if◌then◌else◌, decimal, codes}
 use Rattle.std.specs.List.{list_any}
 use Rattle.std.specs.Str.{bytes_eq}
 use Rattle.collections.specs.ById.{find_id, has_id, put_id}
 use Rattle.guild_model.specs.declared.verdict.Verdict.{Verdict}
 use Rattle.guild_model.specs.declared.verdict.Verdict.TheVariants.{NotOpen}
-use Rattle.guild_model.specs.Tests.{refused_if, first_of, too_many}
 use Rattle.dispatch_types.specs.Fold.{contains}
 use Rattle.edit_apply.specs.Edits.{verdict, state}
 use Rattle.edit_apply.specs.declared.Edit.{Edit as GuildEdit}
@@ -18,12 +17,13 @@ use Rattle.worker_core.specs.declared.io.Output.TheVariants.{Send, Close, Wish}
 use Rattle.worker_core.specs.InCode.{wire_text, wire_model}
 use Rattle.worker_core.specs.Outputs.{all_written}
 use Rattle.world_law.specs.Model.{Worker}
-use Rattle.world_law.specs.World.{World, Step, Edits, Looks, Opens, Frames, Loses, Leaves, Ticks, look_at, run}
+use Rattle.world_law.specs.World.{World, Step, Edits, Looks, Opens, Frames, Loses, Leaves, Ticks, base_of, lags, look_at, run}
 use Rattle.world_law.specs.Inputs.{Input, outputs}
 use Rattle.world_law.specs.Outputs.{Output}
 use Rattle.world_law.specs.Inputs.{Open as Opening, Frame as Framing, Lost as Losing, Closed as Leaving, Tick as Ticking}
 use Rattle.world_law.specs.World.{first_world}
 use Rattle.world_law.specs.Spent.{spends}
+use Rattle.scenario.specs.declared.lagged.Lagged.{Lagged}
 use Rattle.scenario.specs.declared.opened.Opened.{Opened}
 
 -- the bots and guilds of the head lines, each once; the connection numbers that were used, and where; the steps so far
@@ -55,19 +55,13 @@ log p g = (world p).logs g
 
 -- ---- edits
 
--- an edit of a guild without a head line, and one that finds a log of 16,384 entries, enter no log
-abbrev pub turned_away : Server → ℕ → List (Option Verdict)
-turned_away p g = refused_if (not (contains g p.guilds)) NotOpen ∷ too_many 16384 (length (log p g)) ∷ []
-
 -- why an edit is refused, if it is
 abbrev pub refusal : Server → ℕ → GuildEdit → Option Verdict
-refusal p g e = first_of (turned_away p g ++ verdict (state g (log p g)) e ∷ [])
+refusal p g e = if contains g p.guilds then verdict (state g (log p g)) e else Some NotOpen
 
-abbrev pub enters : Server → ℕ → Bool
-enters p g = contains g p.guilds && nat_lt (length (log p g)) 16384
-
+-- an edit of a guild without a head line enters no log
 abbrev pub edit_step : Server → ℕ → GuildEdit → Option Step
-edit_step p g e = if enters p g then Some (Edits g e) else None
+edit_step p g e = if contains g p.guilds then Some (Edits g e) else None
 
 abbrev pub with_step : Option Step → Server → Server
 with_step None p = p
@@ -162,6 +156,18 @@ step_sends m (Some s) = flat_map (λ w. given_sends w (given m s w)) m.workers
 abbrev pub step_spends : World → Option Step → Bool
 step_spends m None = false
 step_spends m (Some s) = list_any (λ w. given_spends w (given m s w)) m.workers
+
+-- ---- looks that lag
+
+abbrev pub worker_id : Worker → ℕ
+worker_id w = w.core.worker
+
+-- the look of a worker of this number at a guild's log, if it lags
+abbrev pub lag_of : ℕ → ℕ → List GuildEdit → Option Worker → Option Lagged
+lag_of n g log None = None
+lag_of n g log (Some w) =
+    let cursor = length (w.logs.seen g) in
+    if lags log cursor then Some (record { worker = n; guild = g; base = base_of log; cursor = cursor }) else None
 
 -- ---- what goes out
 

@@ -9,6 +9,7 @@ use Rattle.edit_fields.specs.Names.{name_text}
 use Rattle.edit_fields.specs.Edits.{edit_name}
 use Rattle.worker_core.specs.declared.io.Output.{Output}
 use Rattle.worker_core.specs.declared.io.Output.TheVariants.{Send, Close, Wish}
+use Rattle.scenario.specs.declared.lagged.Lagged.{Lagged}
 
 -- what goes out
 abbrev pub written_line : Output → List ℕ
@@ -49,6 +50,15 @@ refused_line number v = codes "refused " ++ (decimal number ++ (32 ∷ (decimal 
 abbrev pub refused_text : ℕ → Option Verdict → List ℕ
 refused_text number None = []
 refused_text number (Some v) = refused_line number v
+
+-- a look that lags, by the worker and the guild, how many entries come before the kept ones, and how many the
+-- worker was given
+abbrev pub lagged_line : Lagged → List ℕ
+lagged_line l = codes "lagged " ++ (decimal l.worker ++ (32 ∷ (decimal l.guild ++ (32 ∷ (decimal l.base ++ (32 ∷ (decimal l.cursor ++ 10 ∷ [])))))))
+
+abbrev pub lagged_text : Option Lagged → List ℕ
+lagged_text None = []
+lagged_text (Some l) = lagged_line l
 
 -- running out of memory is no fault of a line
 abbrev pub fault_number : LineFault → ℕ

@@ -1,6 +1,8 @@
 -- The transcript of a step file.
 use Rattle.std.specs.Prelude.{ℕ, List, [], ◌∷◌, ◌++◌, Bool, true, false, Option, Some, None, Result, Ok, Err, if◌then◌else◌}
+use Rattle.collections.specs.ById.{find_id}
 use Rattle.guild_model.specs.declared.verdict.Verdict.{Verdict}
+use Rattle.dispatch_types.specs.Fold.{contains}
 use Rattle.edit_fields.specs.declared.fault.LineFault.{LineFault}
 use Rattle.edit_text.specs.declared.line.FileKind.TheVariants.{Run}
 use Rattle.edit_text.specs.declared.line.Line.{Line}
@@ -9,9 +11,10 @@ use Rattle.edit_text.specs.declared.reader_state.ReaderState.{ReaderState}
 use Rattle.edit_text.specs.Lines.{line_of, reader_after}
 use Rattle.worker_core.specs.declared.io.Output.{Output}
 use Rattle.worker_core.specs.declared.io.Output.TheVariants.{Send, Close, Wish}
+use Rattle.scenario.specs.declared.lagged.Lagged.{Lagged}
 use Rattle.scenario.specs.Lines.{lines_of}
-use Rattle.scenario.specs.Server.{Server, first_server, world, refusal, step_of, with_line, line_sends, follow, played, step_spends}
-use Rattle.scenario.specs.Texts.{written_line, refused_text, stop_line}
+use Rattle.scenario.specs.Server.{Server, first_server, world, log, worker_id, lag_of, refusal, step_of, with_line, line_sends, follow, played, step_spends}
+use Rattle.scenario.specs.Texts.{written_line, refused_text, lagged_text, stop_line}
 
 abbrev pub first_reader : ReaderState
 first_reader = record { kind = Run; lines = 0; stepped = false; guilds = [] }
@@ -46,8 +49,24 @@ line_refusal p (Lost conn) = None
 line_refusal p (Closed conn code) = None
 line_refusal p (Tick worker now) = None
 
+-- the look of a line, if it lags
+abbrev pub line_lag : Server → Line → Option Lagged
+line_lag p (Bot token user name privileged) = None
+line_lag p (Guild id) = None
+line_lag p (Edit guild edit) = None
+line_lag p (Look worker guild) = if contains guild p.guilds then lag_of worker guild (log p guild) (find_id worker_id worker (world p).workers) else None
+line_lag p (Open worker conn) = None
+line_lag p (Frame conn text) = None
+line_lag p (Lost conn) = None
+line_lag p (Closed conn code) = None
+line_lag p (Tick worker now) = None
+
+-- what comes before the outputs of a line
+abbrev pub head_text : ℕ → Option Verdict → Option Lagged → List ℕ
+head_text number refusal lag = refused_text number refusal ++ lagged_text lag
+
 abbrev pub line_text : Server → ℕ → Line → List ℕ
-line_text p number line = refused_text number (line_refusal p line) ++ outputs_text (with_line p line) number (line_sends p line)
+line_text p number line = head_text number (line_refusal p line) (line_lag p line) ++ outputs_text (with_line p line) number (line_sends p line)
 
 abbrev pub line_spends : Server → Line → Bool
 line_spends p line = step_spends (world p) (step_of p line)

@@ -1,19 +1,46 @@
-//! The log of a guild.
-ghost use Rattle.std.specs.Prelude.{◌≡◌, ◌++◌, ◌∷◌, [], None, drop, IfOk, OnOk};
-ghost use Rattle.edit_apply.specs.Edits.{verdict, applied, after};
-ghost use Rattle.scenario.specs.Represents.{log_with};
+//! The log of a guild, of which the latest entries are kept.
+ghost use Rattle.std.specs.Prelude.{◌≡◌, ◌-◌, List, ◌++◌, ◌∷◌, [], None, length, take, drop, IfOk, OnOk};
+ghost use Rattle.edit_apply.specs.Edits.{verdict, applied, after, state_from};
+ghost use Rattle.world_law.specs.World.{kept_entries, look_at};
+ghost use Rattle.world_law.specs.Inputs.{Rebase};
+ghost use Rattle.worker_core.specs.Outputs.{IsGiven};
+ghost use Rattle.scenario.specs.Represents.{log_with, over, counted_in, added};
 
 use collections::{Keyed, Seq};
 use edit_apply::{Edit, judge, make};
 use guild_model::{Guild, Verdict};
 use snowflake_id::Snowflake;
 use std::alloc::{AllocError, Global};
+use std::collections::VecDeque;
+use std::marker::Model;
+use worker_core::Input;
 
-/// All entries of a guild, in order, and the record after them.
+/// The number of entries that a log keeps.
+const KEPT: usize = 4096;
+
+/// The latest entries of a log, seen as a list.
+#[derive(Drop)]
+pub struct Latest {
+    entries: VecDeque<Edit>,
+}
+
+impl Model for Latest {
+    ghost use Rattle.std.specs.Prelude.{List};
+    ghost use Rattle.edit_apply.specs.declared.Edit.{Edit};
+
+    ghost Value = { List Edit };
+
+    ghost view = { λ l. l.entries.items };
+}
+
+/// A guild's log: how many entries it has, the record after all of them, the latest entries, and the
+/// record before these.
 #[derive(Drop)]
 pub struct GuildLog {
     pub guild: Guild,
-    pub entries: Seq<Edit>,
+    pub count: usize,
+    pub basis: Guild,
+    pub latest: Latest,
 }
 
 impl Keyed for GuildLog {
@@ -32,6 +59,67 @@ fn make_copy(alloc: Global, guild: &mut Guild, edit: &Edit) -> Result<(), AllocE
     make(alloc, guild, edit.copy(alloc)?)
 }
 
+// Adds an entry to a record, and says why it is refused, if it is.
+fn add_to(alloc: Global, guild: &mut Guild, edit: &Edit) -> Result<Option<Verdict>, AllocError>
+    ensures answer { IfOk result (λ answer. answer ≡ verdict guild.old edit.now) }
+    ensures guild { OnOk result (guild.new ≡ after guild.old edit.now) }
+{
+    let verdict = judge(guild, edit).err();
+    if verdict.is_none() {
+        make_copy(alloc, guild, edit)?;
+    }
+    Ok(verdict)
+}
+
+impl Latest {
+    fn new(alloc: Global) -> Latest
+        ensures { result ≡ [] }
+    {
+        Latest {
+            entries: VecDeque::new(alloc),
+        }
+    }
+
+    fn len(&self) -> usize
+        ensures { result ≡ length self.now }
+    {
+        self.entries.len()
+    }
+
+    // Adds an entry.
+    fn push(&mut self, edit: Edit) -> Result<(), AllocError>
+        ensures { OnOk result (self.new ≡ self.old ++ edit ∷ []) }
+    {
+        self.entries.push_back(edit)?;
+        Ok(())
+    }
+
+    // Removes the oldest entry, if there are as many as are kept, and adds it to the record before them.
+    fn make_room(&mut self, alloc: Global, basis: &mut Guild) -> Result<(), AllocError>
+        ensures basis { OnOk result (basis.new ≡ state_from basis.old (take (over (length self.old)) self.old)) }
+        ensures latest { OnOk result (self.new ≡ drop (over (length self.old)) self.old) }
+    {
+        if self.entries.len() < KEPT {
+            return Ok(());
+        }
+        add_to(alloc, basis, &self.entries[0])?;
+        drop(self.entries.pop_front());
+        Ok(())
+    }
+
+    // Copies of the entries from a place on.
+    fn copies_from(&self, alloc: Global, from: usize) -> Result<Seq<Edit>, AllocError>
+        ensures { IfOk result (λ copies. copies ≡ drop from self.now) }
+    {
+        let entries = &self.entries;
+        let mut copies = Vec::new(alloc);
+        for place in from..entries.len() {
+            copies.push(entries[place].copy(alloc)?)?;
+        }
+        Ok(Seq::from_vec(copies))
+    }
+}
+
 impl GuildLog {
     /// An empty log.
     pub fn new(alloc: Global, id: Snowflake) -> GuildLog
@@ -39,36 +127,72 @@ impl GuildLog {
     {
         GuildLog {
             guild: Guild::closed(alloc, id),
-            entries: Seq::new(alloc),
+            count: 0,
+            basis: Guild::closed(alloc, id),
+            latest: Latest::new(alloc),
         }
     }
 
     /// Adds an entry, and says why it is refused, if it is.
     pub fn add(&mut self, alloc: Global, edit: Edit) -> Result<Option<Verdict>, AllocError>
         ensures answer { IfOk result (λ answer. answer ≡ verdict self.old.guild edit) }
-        ensures log { OnOk result (self.new ≡ record { guild = after self.old.guild edit; entries = self.old.entries ++ edit ∷ [] }) }
+        ensures log { OnOk result (self.new ≡ added self.old edit) }
     {
-        let verdict = judge(&self.guild, &edit).err();
-        if verdict.is_none() {
-            let Ok(()) = make_copy(alloc, &mut self.guild, &edit) else {
-                drop(edit);
-                return Err(AllocError);
-            };
-        }
-        self.entries.push(edit)?;
+        let Ok(verdict) = self.count_in(alloc, &edit) else {
+            drop(edit);
+            return Err(AllocError);
+        };
+        self.latest.push(edit)?;
         Ok(verdict)
     }
-}
 
-/// Copies of the entries after the first of them, of which there are `from`.
-pub fn entries_after(alloc: Global, entries: &[Edit], from: usize) -> Result<Seq<Edit>, AllocError>
-    ensures { IfOk result (λ copies. copies ≡ drop from entries.now) }
-{
-    let mut copies = Vec::new(alloc);
-    if from < entries.len() {
-        for entry in &entries[from..] {
-            copies.push(entry.copy(alloc)?)?;
-        }
+    // Adds an entry to all but the latest entries, among which there is room for it afterwards.
+    fn count_in(&mut self, alloc: Global, edit: &Edit) -> Result<Option<Verdict>, AllocError>
+        ensures answer { IfOk result (λ answer. answer ≡ verdict self.old.guild edit.now) }
+        ensures log { OnOk result (self.new ≡ counted_in self.old edit.now) }
+    {
+        self.latest.make_room(alloc, &mut self.basis)?;
+        let Some(count) = self.count.checked_add(1) else {
+            return Err(AllocError);
+        };
+        self.count = count;
+        add_to(alloc, &mut self.guild, edit)
     }
-    Ok(Seq::from_vec(copies))
+
+    /// How many entries come before those that are kept.
+    pub fn base(&self) -> usize
+        ensures { result ≡ self.now.count - kept_entries }
+    {
+        self.count.saturating_sub(KEPT)
+    }
+
+    /// The input of a look by a worker that was given this many entries: those that follow, or all that are
+    /// kept with the record before them, if the look lags.
+    pub fn input_after(
+        &self,
+        alloc: Global,
+        guild: Snowflake,
+        cursor: usize,
+    ) -> Result<Input, AllocError>
+        ensures { (es : List Edit) → self.now ≡ log_with guild es → IfOk result (λ input. IsGiven input (look_at guild es cursor)) }
+    {
+        let base = self.base();
+        if cursor < base {
+            return self.rebase(alloc, guild);
+        }
+        let entries = self.latest.copies_from(alloc, cursor - base)?;
+        Ok(Input::Look(guild, entries))
+    }
+
+    // The input of a look that lags.
+    fn rebase(&self, alloc: Global, guild: Snowflake) -> Result<Input, AllocError>
+        ensures { (es : List Edit) → self.now ≡ log_with guild es → IfOk result (λ input. IsGiven input (Rebase guild es)) }
+    {
+        let entries = self.latest.copies_from(alloc, 0)?;
+        let Ok(basis) = self.basis.copy(alloc) else {
+            drop(entries);
+            return Err(AllocError);
+        };
+        Ok(Input::Rebase(guild, self.base() as u64, basis, entries))
+    }
 }

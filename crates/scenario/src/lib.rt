@@ -4,6 +4,7 @@
 mod fault;
 mod file_runner;
 mod guild_log;
+mod lagged;
 mod opened;
 mod playing;
 mod server;

@@ -5,10 +5,11 @@ ghost use Rattle.world_law.specs.Inputs.{Input as ModelInput};
 ghost use Rattle.collections.specs.ById.{find_id};
 ghost use Rattle.edit_text.specs.declared.line.Line.TheVariants as line;
 ghost use Rattle.scenario.specs.Server.{Server as ModelServer, follow, has_token, refusal, first_server, opened_id};
-ghost use Rattle.scenario.specs.Represents.{Represents, Plays, PlaysNot, Gives, calm_of, log_id, away};
-ghost use Rattle.scenario.specs.Transcript.{line_refusal, wish_refusal};
+ghost use Rattle.scenario.specs.Represents.{Represents, Answers, Plays, PlaysNot, Gives, HasSlots, IsFull, calm_of};
+ghost use Rattle.scenario.specs.Transcript.{wish_refusal};
 
 use crate::guild_log::GuildLog;
+use crate::lagged::Lagged;
 use crate::opened::Opened;
 use crate::worker_slot;
 use crate::worker_slot::{WorkerSlot, start};
@@ -20,9 +21,6 @@ use session_core::Bot;
 use snowflake_id::Snowflake;
 use std::alloc::{AllocError, Global};
 use worker_core::{Input, Output, StepFault};
-
-/// The most entries of a guild's log.
-const LOG_ENTRIES: usize = 16_384;
 
 /// The bots and guilds of the head lines, the logs, the connection numbers that were used, and the
 /// workers, which exist from the first step on.
@@ -36,10 +34,11 @@ pub struct Server {
     slots: Vec<WorkerSlot>,
 }
 
-/// The result of a line: why its edit is refused, if it is, and what the worker sends.
+/// The result of a line: why its edit is refused, if it is, the look, if it lags, and what the worker sends.
 #[derive(Drop)]
 pub struct Answer {
     pub refusal: Option<Verdict>,
+    pub lagged: Option<Lagged>,
     pub outputs: Vec<Output>,
 }
 
@@ -47,10 +46,12 @@ impl Answer {
     // What a worker sends.
     fn sends(outputs: Vec<Output>) -> Answer
         ensures refusal { result.refusal ≡ None }
+        ensures lagged { result.lagged ≡ None }
         ensures outputs { result.outputs ≡ outputs }
     {
         Answer {
             refusal: None,
+            lagged: None,
             outputs,
         }
     }
@@ -96,38 +97,30 @@ impl Server {
         self.guilds.push(id)
     }
 
-    // Why an edit of a guild is not added to a log. `None` if it is added.
-    fn turned_away(&self, guild: Snowflake) -> Option<Verdict>
-        ensures { result ≡ away (find_id log_id guild self.now.logs) }
+    // Makes the workers, if no step was made yet.
+    fn start(&mut self) -> Result<(), AllocError>
+        ensures starts { OnOk result ((p : ModelServer) → Represents self.old p → IsFull self.new.slots.items × HasSlots self.new.slots.items p) }
+        ensures slots { self.new ≡ record self.old { slots = self.new.slots } }
     {
-        match self.logs.get(guild.0) {
-            None => Some(Verdict::NotOpen),
-            Some(log) => {
-                if log.entries.len() < LOG_ENTRIES {
-                    None
-                } else {
-                    Some(Verdict::TooMany { limit: 16_384 })
-                }
-            }
-        }
-    }
-
-    // Adds an edit to the guild's log, and says why it is refused, if it is. An edit of a guild without a
-    // head line, and one that finds the log full, is not added.
-    fn edit(&mut self, guild: Snowflake, edit: Edit) -> Result<Option<Verdict>, AllocError>
-        ensures answer { IfOk result (λ answer. (p : ModelServer) → Represents self.old p → answer ≡ refusal p guild edit) }
-        ensures plays { OnOk result ((p : ModelServer) → Represents self.old p → Plays p (line.Edit guild edit) self.new []) }
-    {
-        if let Some(verdict) = self.turned_away(guild) {
-            drop(edit);
-            return Ok(Some(verdict));
-        }
-        let Ok(()) = start(
+        start(
             self.alloc,
             &mut self.slots,
             self.bots.as_slice(),
             self.guilds.as_slice(),
-        ) else {
+        )
+    }
+
+    // Adds an edit to the guild's log, and says why it is refused, if it is. An edit of a guild without a
+    // head line is not added.
+    fn edit(&mut self, guild: Snowflake, edit: Edit) -> Result<Option<Verdict>, AllocError>
+        ensures answer { IfOk result (λ answer. (p : ModelServer) → Represents self.old p → answer ≡ refusal p guild edit) }
+        ensures plays { OnOk result ((p : ModelServer) → Represents self.old p → Plays p (line.Edit guild edit) self.new []) }
+    {
+        if !self.logs.contains(guild.0) {
+            drop(edit);
+            return Ok(Some(Verdict::NotOpen));
+        }
+        let Ok(()) = self.start() else {
             drop(edit);
             return Err(AllocError);
         };
@@ -154,25 +147,23 @@ impl Server {
         }
     }
 
-    fn look(&mut self, worker: u8, guild: Snowflake) -> Result<Vec<Output>, StepFault>
-        ensures { (p : ModelServer) → Represents self.old p → MatchResult result (λ out. Plays p (line.Look worker guild) self.new out.items) (PlaysNot p (line.Look worker guild)) }
+    fn look(&mut self, worker: u8, guild: Snowflake) -> Result<Answer, StepFault>
+        ensures { (p : ModelServer) → Represents self.old p → MatchResult result (λ a. Answers p (line.Look worker guild) self.new a) (PlaysNot p (line.Look worker guild)) }
     {
+        if !self.logs.contains(guild.0) {
+            return Ok(Answer::sends(Vec::new(self.alloc)));
+        }
+        self.start()?;
         let Some(log) = self.logs.get(guild.0) else {
-            return Ok(Vec::new(self.alloc));
+            return Ok(Answer::sends(Vec::new(self.alloc)));
         };
-        start(
-            self.alloc,
-            &mut self.slots,
-            self.bots.as_slice(),
-            self.guilds.as_slice(),
-        )?;
-        worker_slot::look(
-            self.alloc,
-            &mut self.slots,
-            worker,
-            guild,
-            log.entries.as_slice(),
-        )
+        let lagged = worker_slot::lag(self.slots.as_slice(), worker, guild, log);
+        let outputs = worker_slot::look(self.alloc, &mut self.slots, worker, guild, log)?;
+        Ok(Answer {
+            refusal: None,
+            lagged,
+            outputs,
+        })
     }
 
     fn open(&mut self, worker: u8, conn: u32) -> Result<Vec<Output>, StepFault>
@@ -181,12 +172,7 @@ impl Server {
         if self.used.contains(conn as u64) {
             return Ok(Vec::new(self.alloc));
         }
-        start(
-            self.alloc,
-            &mut self.slots,
-            self.bots.as_slice(),
-            self.guilds.as_slice(),
-        )?;
+        self.start()?;
         self.used.insert(Opened {
             number: conn,
             worker,
@@ -199,12 +185,7 @@ impl Server {
         ensures { (p : ModelServer) (line : Line) (i : ModelInput) → Represents self.old p → calm_of input ≡ Some i → Gives p line worker i
             → MatchResult result (λ out. Plays p line self.new out.items) (PlaysNot p line) }
     {
-        start(
-            self.alloc,
-            &mut self.slots,
-            self.bots.as_slice(),
-            self.guilds.as_slice(),
-        )?;
+        self.start()?;
         worker_slot::give(self.alloc, &mut self.slots, worker, input)
     }
 
@@ -251,7 +232,7 @@ impl Server {
 
     /// Runs a line that was read.
     pub fn play(&mut self, line: Line) -> Result<Answer, StepFault>
-        ensures { (p : ModelServer) → Represents self.old p → MatchResult result (λ a. (a.refusal ≡ line_refusal p line) × Plays p line self.new a.outputs.items) (PlaysNot p line) }
+        ensures { (p : ModelServer) → Represents self.old p → MatchResult result (λ a. Answers p line self.new a) (PlaysNot p line) }
     {
         match line {
             Line::Bot {
@@ -274,9 +255,10 @@ impl Server {
             }
             Line::Edit { guild, edit } => Ok(Answer {
                 refusal: self.edit(guild, edit)?,
+                lagged: None,
                 outputs: Vec::new(self.alloc),
             }),
-            Line::Look { worker, guild } => Ok(Answer::sends(self.look(worker, guild)?)),
+            Line::Look { worker, guild } => self.look(worker, guild),
             Line::Open { worker, conn } => Ok(Answer::sends(self.open(worker, conn)?)),
             Line::Frame { conn, text } => Ok(Answer::sends(self.frame(conn, text)?)),
             Line::Lost { conn } => Ok(Answer::sends(self.lost(conn)?)),

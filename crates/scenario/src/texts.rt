@@ -1,7 +1,8 @@
 //! Appends transcript lines, each whole or not at all.
 ghost use Rattle.std.specs.Prelude.{◌≡◌, ◌++◌, ◌∷◌, [], is_ok, codes, decimal, if◌then◌else◌};
-ghost use Rattle.scenario.specs.Texts.{fault_number, fault_name, limit_of, refused_text, refused_line, stop_line, written_line};
+ghost use Rattle.scenario.specs.Texts.{fault_number, fault_name, limit_of, refused_text, refused_line, lagged_line, lagged_text, stop_line, written_line};
 
+use crate::lagged::Lagged;
 use edit_text::LineFault;
 use guild_model::Verdict;
 use itoa::Buffer;
@@ -94,6 +95,33 @@ pub fn put_refusal(
     match refusal {
         None => Ok(()),
         Some(verdict) => put_refused(text, line, verdict),
+    }
+}
+
+fn put_lag(text: &mut Vec<u8>, lag: Lagged) -> Result<(), AllocError>
+    ensures { text.new.items ≡ (if is_ok result then text.old.items ++ lagged_line lag else text.old.items) }
+{
+    let mut worker_buffer = Buffer::new();
+    let mut guild_buffer = Buffer::new();
+    let mut base_buffer = Buffer::new();
+    let mut cursor_buffer = Buffer::new();
+    let worker = worker_buffer.format(lag.worker);
+    let guild = guild_buffer.format(lag.guild.0);
+    let base = base_buffer.format(lag.base);
+    let cursor = cursor_buffer.format(lag.cursor);
+    append_all(
+        text,
+        &["lagged ", worker, " ", guild, " ", base, " ", cursor, "\n"],
+    )
+}
+
+/// Appends the line of a look, if it lags.
+pub fn put_lagged(text: &mut Vec<u8>, lagged: Option<Lagged>) -> Result<(), AllocError>
+    ensures { text.new.items ≡ (if is_ok result then text.old.items ++ lagged_text lagged else text.old.items) }
+{
+    match lagged {
+        None => Ok(()),
+        Some(lag) => put_lag(text, lag),
     }
 }
 

@@ -1,17 +1,18 @@
 //! The four workers, each with how far it has looked at each log.
 ghost use Rattle.std.specs.Prelude.{◌≡◌, ℕ, List, [], length, true, Some, IfOk, OnOk, MatchResult};
-ghost use Rattle.collections.specs.ById.{put_all};
+ghost use Rattle.collections.specs.ById.{find_id, put_all};
 ghost use Rattle.guild_model.specs.Record.{own_id};
+ghost use Rattle.edit_apply.specs.declared.Edit.{Edit};
 ghost use Rattle.dispatch_types.specs.Fold.{contains};
 ghost use Rattle.world_law.specs.Model.{Worker as ModelWorker, first_worker};
 ghost use Rattle.world_law.specs.Inputs.{Input as ModelInput};
 ghost use Rattle.world_law.specs.World.{look_at, first_world};
-ghost use Rattle.scenario.specs.Server.{Server, url, first_workers, for_worker};
-ghost use Rattle.scenario.specs.Represents.{SlotRepresents, SlotsRepresent, SlotSteps, SlotFails, SlotsStep, SlotsFail, HasSlotsOnceStepped, HasSlots, IsFull, cursor_at, calm_of};
+ghost use Rattle.scenario.specs.Server.{Server, url, first_workers, for_worker, worker_id, lag_of};
+ghost use Rattle.scenario.specs.Represents.{log_with, SlotRepresents, SlotsRepresent, SlotSteps, SlotFails, SlotsStep, SlotsFail, HasSlotsOnceStepped, HasSlots, IsFull, cursor_at, calm_of};
 
-use crate::guild_log::entries_after;
+use crate::guild_log::GuildLog;
+use crate::lagged::Lagged;
 use collections::{ById, Keyed, Text};
-use edit_apply::Edit;
 use session_core::Bot;
 use snowflake_id::Snowflake;
 use std::alloc::{AllocError, Global};
@@ -65,24 +66,42 @@ impl WorkerSlot {
         }
     }
 
-    // Passes the worker the entries of a guild's log that it has not been given.
+    // Has the worker look at a guild's log.
     fn look(
         &mut self,
         alloc: Global,
         guild: Snowflake,
-        entries: &[Edit],
+        log: &GuildLog,
     ) -> Result<Vec<Output>, StepFault>
-        ensures { (guilds : List ℕ) (number : ℕ) (w : ModelWorker) → contains guild guilds ≡ true → SlotRepresents guilds number self.old w
-            → let input = look_at guild entries.now (length (w.logs.seen guild)) in MatchResult result (λ out. SlotSteps guilds number w input self.new out.items) (SlotFails w input) }
+        ensures { (guilds : List ℕ) (number : ℕ) (w : ModelWorker) (es : List Edit) → contains guild guilds ≡ true → log.now ≡ log_with guild es → SlotRepresents guilds number self.old w
+            → let input = look_at guild es (length (w.logs.seen guild)) in MatchResult result (λ out. SlotSteps guilds number w input self.new out.items) (SlotFails w input) }
     {
         let at = self.cursor(guild);
-        let next = entries_after(alloc, entries, at)?;
-        let out = self.worker.step(Input::Look(guild, next))?;
+        let input = log.input_after(alloc, guild, at)?;
+        let out = self.worker.step(input)?;
         self.cursors.put(Cursor {
             guild,
-            at: at.max(entries.len()),
+            at: at.max(log.count),
         })?;
         Ok(out)
+    }
+
+    // The worker's look at a guild's log, if it lags.
+    fn lag(&self, number: u8, guild: Snowflake, log: &GuildLog) -> Option<Lagged>
+        ensures { (guilds : List ℕ) (w : ModelWorker) (es : List Edit) → log.now ≡ log_with guild es → SlotRepresents guilds number self.now w
+            → result ≡ lag_of number guild es (Some w) }
+    {
+        let base = log.base();
+        let cursor = self.cursor(guild);
+        if cursor >= base {
+            return None;
+        }
+        Some(Lagged {
+            worker: number,
+            guild,
+            base,
+            cursor,
+        })
     }
 
     // Passes the worker any input but a look.
@@ -160,17 +179,30 @@ pub fn look(
     slots: &mut Vec<WorkerSlot>,
     number: u8,
     guild: Snowflake,
-    entries: &[Edit],
+    log: &GuildLog,
 ) -> Result<Vec<Output>, StepFault>
-    ensures { (guilds : List ℕ) (ws : List ModelWorker) → contains guild guilds ≡ true → SlotsRepresent guilds 0 slots.old.items ws
-        → let given = λ (w : ModelWorker). for_worker number (look_at guild entries.now (length (w.logs.seen guild))) w in
+    ensures { (guilds : List ℕ) (ws : List ModelWorker) (es : List Edit) → contains guild guilds ≡ true → log.now ≡ log_with guild es → SlotsRepresent guilds 0 slots.old.items ws
+        → let given = λ (w : ModelWorker). for_worker number (look_at guild es (length (w.logs.seen guild))) w in
         MatchResult result (λ out. SlotsStep guilds given ws slots.new.items out.items) (SlotsFail given ws) }
 {
     let index = number as usize;
     if index >= slots.len() {
         return Ok(Vec::new(alloc));
     }
-    slots[index].look(alloc, guild, entries)
+    slots[index].look(alloc, guild, log)
+}
+
+/// The look at a guild's log of the worker of this number, if it lags.
+pub fn lag(slots: &[WorkerSlot], number: u8, guild: Snowflake, log: &GuildLog) -> Option<Lagged>
+    ensures { (guilds : List ℕ) (ws : List ModelWorker) (es : List Edit) → log.now ≡ log_with guild es → SlotsRepresent guilds 0 slots.now ws
+        → result ≡ lag_of number guild es (find_id worker_id number ws) }
+{
+    let index = number as usize;
+    if index >= slots.len() {
+        return None;
+    }
+    let slot = &slots[index];
+    slot.lag(number, guild, log)
 }
 
 /// Passes an input other than a look to the worker of this number.

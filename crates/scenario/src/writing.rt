@@ -3,13 +3,14 @@ ghost use Rattle.std.specs.Prelude.{◌++◌, MatchResult, OnOk, OnErr};
 ghost use Rattle.gate_outside.specs.Causes.{FaultHasCause};
 ghost use Rattle.gate_outside.specs.Streams.{Carries, CarriesFront};
 ghost use Rattle.scenario.specs.Server.{Server as ModelServer, follow, followed};
-ghost use Rattle.scenario.specs.Texts.{written_line, refused_text, stop_line};
-ghost use Rattle.scenario.specs.Transcript.{output_text, outputs_text};
+ghost use Rattle.scenario.specs.Texts.{written_line, refused_text, lagged_text, stop_line};
+ghost use Rattle.scenario.specs.Transcript.{head_text, output_text, outputs_text};
 ghost use Rattle.scenario.specs.Represents.{Represents};
 ghost use Rattle.scenario.specs.Played.{answer_text};
 
+use crate::lagged::Lagged;
 use crate::server::{Answer, Server};
-use crate::texts::{put_output, put_refusal, put_stop};
+use crate::texts::{put_lagged, put_output, put_refusal, put_stop};
 use edit_text::LineFault;
 use gate_outside::faults::Fault;
 use gate_outside::streams::{Sink, write_all};
@@ -49,6 +50,21 @@ fn write_refusal<K: Sink>(
 {
     text.clear();
     put_refusal(text, line, refusal)?;
+    write_line(sink, text.as_slice())
+}
+
+// Writes the line of a look that lags, if it does.
+fn write_lagged<K: Sink>(
+    sink: &mut K,
+    text: &mut Vec<u8>,
+    lagged: Option<Lagged>,
+) -> Result<(), Fault>
+    ensures ok { OnOk result (Carries (K.got sink.old) (K.got sink.new) (K.waits sink.new) (K.waits sink.old ++ lagged_text lagged)) }
+    ensures err { OnErr result (CarriesFront (K.got sink.old) (K.got sink.new) (K.waits sink.new) (K.waits sink.old ++ lagged_text lagged)) }
+    ensures cause { FaultHasCause (K.faults sink.old) (K.faults sink.new) result }
+{
+    text.clear();
+    put_lagged(text, lagged)?;
     write_line(sink, text.as_slice())
 }
 
@@ -105,6 +121,23 @@ fn write_outputs<K: Sink>(
     Ok(())
 }
 
+// Writes what comes before the outputs of a line.
+fn write_head<K: Sink>(
+    sink: &mut K,
+    text: &mut Vec<u8>,
+    line: u64,
+    answer: &Answer,
+) -> Result<(), Fault>
+    ensures head { MatchResult result
+        (λ _. Carries (K.got sink.old) (K.got sink.new) (K.waits sink.new) (K.waits sink.old ++ head_text line answer.now.refusal answer.now.lagged))
+        (λ _. CarriesFront (K.got sink.old) (K.got sink.new) (K.waits sink.new) (K.waits sink.old ++ head_text line answer.now.refusal answer.now.lagged)) }
+    ensures cause { FaultHasCause (K.faults sink.old) (K.faults sink.new) result }
+{
+    write_refusal(sink, text, line, answer.refusal)?;
+    write_lagged(sink, text, answer.lagged)?;
+    Ok(())
+}
+
 /// Writes the transcript of a line. Each wish is at once an edit of its guild.
 pub fn write_answer<K: Sink>(
     server: &mut Server,
@@ -118,7 +151,7 @@ pub fn write_answer<K: Sink>(
         (λ _. CarriesFront (K.got sink.old) (K.got sink.new) (K.waits sink.new) (K.waits sink.old ++ answer_text p line answer.now)) }
     ensures cause { FaultHasCause (K.faults sink.old) (K.faults sink.new) result }
 {
-    write_refusal(sink, text, line, answer.refusal)?;
+    write_head(sink, text, line, answer)?;
     write_outputs(server, sink, text, line, answer.outputs.as_slice())?;
     Ok(())
 }

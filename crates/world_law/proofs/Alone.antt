@@ -1,9 +1,7 @@
 -- A connection has at most one session.
-use Rattle.std.proofs.Common.{◌≡◌, ℕ, ◌+◌, ◌≤◌, ◌<◌, List, [], ◌∷◌, ◌++◌, Bool, true, false, not, Option, Some, None, Result, Ok, Err, if◌then◌else◌, length, map, refl, sym, ap, subst, ◌∙◌, arith}
-use Rattle.std.specs.Prelude.{All, ◌==◌, ◌&&◌, flat_map, max, nat_lt, nat_le, option_map}
+use Rattle.std.proofs.Common.{◌≡◌, ℕ, ◌+◌, ◌≤◌, ◌<◌, List, [], ◌∷◌, ◌++◌, Bool, true, false, Option, Some, None, Result, Ok, Err, if◌then◌else◌, length, map, refl, sym, ap, subst, arith}
+use Rattle.std.specs.Prelude.{◌==◌, ◌&&◌, flat_map, max, nat_lt, option_map}
 use Rattle.std.specs.List.{find}
-use Rattle.std.specs.Str.{bytes_eq}
-use Rattle.std.proofs.lemmas.List.Elements.{All-map, All-weaker, All-nil}
 use Rattle.std.proofs.lemmas.Bool.{eqb-true}
 use Rattle.std.proofs.lemmas.Bool.Decides.{nat_tests}
 use Rattle.guild_model.specs.Record.{Record}
@@ -15,23 +13,22 @@ use Rattle.gateway_frames.specs.declared.frame.Ask.{Ask}
 use Rattle.gateway_frames.specs.declared.frame.Frame.{Frame as Received}
 use Rattle.gateway_frames.specs.declared.frame.Frame.TheVariants as frame
 use Rattle.gateway_frames.specs.declared.frame.Identify.{Identify}
-use Rattle.gateway_frames.specs.declared.frame.Resume.{Resume}
 use Rattle.gateway_frames.specs.declared.fault.FrameFault.{FrameFault}
 use Rattle.gateway_frames.specs.Read.{frame_of}
 use Rattle.edit_events.specs.Due.{due}
 use Rattle.session_core.specs.declared.bot.Bot.{Bot}
 use Rattle.session_core.specs.declared.reply.Mark.TheVariants.{Entry}
-use Rattle.session_core.specs.State.{State, Session, Connection, Condition, Attached, Detached, Ended, is_on, is_live, has_connection, session_on, number_on, released, opened, gone, begun}
+use Rattle.session_core.specs.State.{State, Session, Connection, Condition, Attached, Detached, Ended, is_on, is_live, has_connection, number_on, released, opened, gone, begun}
 use Rattle.session_core.specs.Identify.{identified}
 use Rattle.session_core.specs.Rate.{is_rated}
 use Rattle.session_core.specs.Frames.{Want, Members, Presence, Voice, Move, Nothing, Answers, ClosesWith, Begins, Denies, Resumes, Wants, identify_move, resume_move, move_in_session, move_before_session, read_move}
 use Rattle.session_core.specs.Resume.{ResumeAnswer, NotResumable, InvalidSeq, Resumed, joined, resumed, resume_answer}
-use Rattle.session_core.specs.Ends.{is_final, lost, all_gone, left, client_closed, silent_of, is_overdue, ended_if_live}
+use Rattle.session_core.specs.Ends.{is_final, lost, all_gone, left, client_closed, silent_of, is_overdue}
 use Rattle.world_law.specs.Keeping.{Cursors, record_at}
 use Rattle.world_law.specs.Sent.{Sent, ended_at}
 use Rattle.world_law.specs.Looks.{after_entry, entered, looked, looked_by, rebased_by}
 use Rattle.world_law.specs.Greeting.{begins_with}
-use Rattle.world_law.specs.Wants.{is_numbered, change_first, after_answer, asked, after_want}
+use Rattle.world_law.specs.Wants.{is_numbered, change_first, after_answer, after_want}
 use Rattle.world_law.specs.Frames.{framed, move_at}
 use Rattle.world_law.specs.Inputs.{Input, Look, Rebase, Open, Frame, Lost, Closed, Tick, taken}
 use Rattle.world_law.specs.Model.{Logs, Worker, in_model, replay, cursors, seen_with}

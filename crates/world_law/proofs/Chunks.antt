@@ -2,14 +2,14 @@
 use Rattle.std.proofs.Common.{◌≡◌, ℕ, ◌+◌, List, [], ◌∷◌, ◌++◌, Bool, true, false, Option, Some, None, if◌then◌else◌, length, refl, sym, ap, subst, ◌∙◌, append_assoc, arith, inl}
 use Rattle.std.specs.Prelude.{All, ◌==◌, ◌<◌}
 use Rattle.std.specs.List.{slice_index_or}
-use Rattle.std.proofs.lemmas.List.Elements.{All-nil, All-cons, All-head, All-tail}
+use Rattle.std.proofs.lemmas.List.Elements.{All-nil, All-cons, All-head, All-tail, All-append}
 use Rattle.std.proofs.Math.Seq.{take-length}
 use Rattle.std.proofs.lemmas.Bool.{eqb-true}
 use Rattle.guild_model.specs.Record.{Record}
 use Rattle.gateway_frames.specs.declared.frame.Ask.{Ask}
 use Rattle.dispatch_types.specs.declared.viewer.Viewer.{Viewer}
 use Rattle.dispatch_types.specs.declared.dispatch.Dispatch.{Dispatch}
-use Rattle.dispatch_types.specs.Fold.{Held, contains, purge, folded}
+use Rattle.dispatch_types.specs.Fold.{Held, purge, folded}
 use Rattle.dispatch_types.specs.Projection.{projection}
 use Rattle.edit_apply.specs.Edits.{state}
 use Rattle.edit_apply.specs.declared.Edit.{Edit}
@@ -21,7 +21,8 @@ use Rattle.member_chunks.proofs.Keeps.{each_chunk_keeps, each_chunk_stays}
 use Rattle.session_core.specs.declared.reply.Mark.TheVariants.{Chunk}
 use Rattle.session_core.specs.State.{Session, Condition, Attached, Detached, Ended}
 use Rattle.world_law.specs.Keeping.{Cursors, record_at}
-use Rattle.world_law.proofs.Entries.{Entries, made-append}
+use Rattle.world_law.proofs.Entries.{Entries, IsPlain, made-append}
+use Rattle.world_law.proofs.Quiet.{IsQuiet, answer_quiet}
 use Rattle.world_law.proofs.Workers.{Follows, SessionMeets, at}
 use Rattle.world_law.proofs.Sessions.{Meets, more_sent}
 use Rattle.world_law.specs.Model.{Seen, Worker, cursors, in_model}
@@ -96,11 +97,18 @@ no_entry : (g p made : ℕ) (now : Cursors) (ds : List Dispatch) → made_for g 
 no_entry g p made now [] = refl
 no_entry g p made now (d ∷ ds) = no_entry g p (made + 1) now ds
 
-chunks_entries : (seen : Seen) (v : Viewer) (made : ℕ) (ds : List Dispatch) (sent : List SentDispatch) → Entries seen (cursors seen) v sent
+-- and none is about messages
+chunks_plain : (made : ℕ) (now : Cursors) (ds : List Dispatch) → All IsQuiet ds → All IsPlain (chunks_told made now ds)
+chunks_plain made now [] quiet = All-nil IsPlain
+chunks_plain made now (d ∷ ds) quiet =
+    All-cons IsPlain _ (chunks_told (made + 1) now ds) (λ about. absurd (cc (All-head IsQuiet d ds quiet, about))) (chunks_plain (made + 1) now ds (All-tail IsQuiet d ds quiet))
+
+chunks_entries : (seen : Seen) (v : Viewer) (made : ℕ) (ds : List Dispatch) (sent : List SentDispatch) → All IsQuiet ds → Entries seen (cursors seen) v sent
     → Entries seen (cursors seen) v (sent ++ chunks_told made (cursors seen) ds)
-chunks_entries seen v made ds [] old = absurd (old.starts)
-chunks_entries seen v made ds (t ∷ ts) old = record {
+chunks_entries seen v made ds [] quiet old = absurd (old.starts)
+chunks_entries seen v made ds (t ∷ ts) quiet old = record {
   starts = tt;
+  plain = All-append IsPlain (t ∷ ts) _ old.plain (chunks_plain made (cursors seen) ds quiet);
   holds = record {
     handled = λ g front e h from upto. same g (length front + 1) ∙ old.holds.handled g front e h from upto;
     before = λ g p le. same g p ∙ old.holds.before g p le;
@@ -142,7 +150,8 @@ answered_meets text w ask number x = by_condition x.condition x.sent.end
     meets old = chunks_meet w.logs.seen x.viewer (answer_to (in_model text) w ask x) w.chunks x.sent.told (answer_keeps text w ask x) old
 
     entries : Entries w.logs.seen (cursors w.logs.seen) x.viewer x.sent.told → Entries w.logs.seen (cursors w.logs.seen) x.viewer (x.sent.told ++ more)
-    entries old = chunks_entries w.logs.seen x.viewer w.chunks (answer_to (in_model text) w ask x) x.sent.told old
+    entries old = chunks_entries w.logs.seen x.viewer w.chunks (answer_to (in_model text) w ask x) x.sent.told
+        (answer_quiet x.viewer ask (record_at (in_model text) w.logs ask.guild)) old
 
     by_condition : (condition : Condition) (end : Option Cursors) → is_numbered number (at x condition end) ≡ true → SessionMeets w.logs.seen (at x condition end) → SessionMeets w.logs.seen (after_answer (in_model text) w ask (at x condition end))
     by_condition (Attached conn) None here old = record { meets = meets old.meets; marked = refl; entries = entries old.entries }

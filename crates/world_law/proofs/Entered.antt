@@ -1,9 +1,8 @@
 -- One entry more in the model: what each session is told, and the record after it.
 use Rattle.std.proofs.Common.{◌≡◌, ℕ, ◌+◌, List, [], ◌∷◌, ◌++◌, if◌then◌else◌, length, sym, ap, ◌∙◌}
-use Rattle.std.specs.Prelude.{◌==◌}
 use Rattle.guild_model.specs.Record.{Record, closed}
 use Rattle.dispatch_types.specs.declared.dispatch.Dispatch.{Dispatch}
-use Rattle.edit_apply.specs.Edits.{after, state}
+use Rattle.edit_apply.specs.Edits.{after}
 use Rattle.edit_apply.specs.declared.Edit.{Edit}
 use Rattle.edit_events.specs.Due.{due}
 use Rattle.session_core.specs.declared.reply.Mark.TheVariants.{Entry}

@@ -1,6 +1,7 @@
 -- What was made for each entry, after one more.
 use Rattle.std.proofs.Common.{◌≡◌, ℕ, ◌+◌, ◌≤◌, ◌<◌, List, [], ◌∷◌, ◌++◌, Bool, true, false, if◌then◌else◌, length, map, take, refl, sym, ap, subst, ◌∙◌, arith}
-use Rattle.std.specs.Prelude.{◌==◌, ◌&&◌, filter, nat_le}
+use Rattle.std.specs.Prelude.{◌==◌, ◌&&◌, filter, nat_le, All}
+use Rattle.std.proofs.lemmas.List.Elements.{All-nil, All-cons, All-head, All-tail, All-append}
 use Rattle.std.proofs.lemmas.List.{length-append, take-append-le}
 use Rattle.std.proofs.Math.Seq.{take-length}
 use Rattle.std.proofs.lemmas.Bool.{eqb-true}
@@ -13,10 +14,11 @@ use Rattle.edit_events.specs.Due.{due}
 use Rattle.session_core.specs.declared.reply.Mark.{Mark}
 use Rattle.session_core.specs.declared.reply.Mark.TheVariants.{Start, Entry}
 use Rattle.world_law.specs.Keeping.{Cursors}
-use Rattle.world_law.specs.Entries.{EntriesHold, first_cursors, is_for, made_for}
+use Rattle.world_law.specs.Entries.{EntriesHold, about_messages, first_cursors, is_for, made_for}
 use Rattle.world_law.specs.Model.{Seen, cursors, seen_with}
 use Rattle.world_law.specs.Sent.{SentDispatch, dispatch_of, told}
 use Rattle.world_law.proofs.Lists.{append_none, by_split}
+use Rattle.world_law.proofs.Quiet.{IsQuiet}
 use Rattle.world_law.proofs.Folds.{same_id}
 
 -- a session has been sent READY
@@ -24,8 +26,17 @@ abbrev pub IsBegun : List SentDispatch → Type 0
 IsBegun [] = ⊥
 IsBegun (t ∷ ts) = Unit {0}
 
+abbrev pub IsOfEntry : Mark → Type 0
+IsOfEntry (Entry g p) = Unit {0}
+IsOfEntry _ = ⊥
+
+-- a dispatch about messages has the mark of an entry
+abbrev pub IsPlain : SentDispatch → Type 0
+IsPlain t = about_messages t.dispatch ≡ true → IsOfEntry t.mark
+
 pub record Entries (seen : Seen) (last : Cursors) (v : Viewer) (sent : List SentDispatch) : Type 0 where
   pub starts : IsBegun sent
+  pub plain : All IsPlain sent
   pub holds : EntriesHold seen (first_cursors sent) last v sent
 
 pub made-append : (g p : ℕ) (xs ys : List SentDispatch) → made_for g p (xs ++ ys) ≡ made_for g p xs ++ made_for g p ys
@@ -60,6 +71,15 @@ below a b lt = grind (arith, nat_tests)
 above : (a b : ℕ) → b < a → (a == b) ≡ false
 above a b lt = grind (arith, nat_tests)
 
+quiet_told : (mark : Mark) (b a : Cursors) (ds : List Dispatch) → All IsQuiet ds → All IsPlain (told mark b a ds)
+quiet_told mark b a [] quiet = All-nil IsPlain
+quiet_told mark b a (d ∷ ds) quiet =
+    All-cons IsPlain _ (told mark b a ds) (λ about. absurd (cc (All-head IsQuiet d ds quiet, about))) (quiet_told mark b a ds (All-tail IsQuiet d ds quiet))
+
+entry_told : (g p : ℕ) (b a : Cursors) (ds : List Dispatch) → All IsPlain (told (Entry g p) b a ds)
+entry_told g p b a [] = All-nil IsPlain
+entry_told g p b a (d ∷ ds) = All-cons IsPlain _ (told (Entry g p) b a ds) (λ about. tt) (entry_told g p b a ds)
+
 -- of logs that have grown
 pub entries_grown : (was is : Seen) (start last : Cursors) (v : Viewer) (sent : List SentDispatch) → ((g p : ℕ) → p ≤ last g → take p (is g) ≡ take p (was g))
     → EntriesHold was start last v sent → EntriesHold is start last v sent
@@ -71,9 +91,10 @@ entries_grown was is start last v sent same old = record {
 }
 
 -- a session that begins
-pub entries_first : (seen : Seen) (v : Viewer) (d : Dispatch) (ds : List Dispatch) → Entries seen (cursors seen) v (told Start (cursors seen) (cursors seen) (d ∷ ds))
-entries_first seen v d ds = record {
+pub entries_first : (seen : Seen) (v : Viewer) (d : Dispatch) (ds : List Dispatch) → All IsQuiet (d ∷ ds) → Entries seen (cursors seen) v (told Start (cursors seen) (cursors seen) (d ∷ ds))
+entries_first seen v d ds quiet = record {
   starts = tt;
+  plain = quiet_told Start (cursors seen) (cursors seen) (d ∷ ds) quiet;
   holds = record {
     handled = λ g front e h from upto. absurd (omega (arith, from, upto));
     before = λ g p le. made-told g p Start (cursors seen) (cursors seen) (d ∷ ds);
@@ -169,4 +190,8 @@ module _ (seen : Seen) (at : ℕ) (e : Edit) (start : Cursors) (v : Viewer) (sen
 pub entries_after : (seen : Seen) (at : ℕ) (e : Edit) (v : Viewer) (sent : List SentDispatch) → Entries seen (cursors seen) v sent
     → Entries (seen_with seen at e) (cursors (seen_with seen at e)) v (sent ++ told (Entry at (length (seen at) + 1)) (cursors seen) (cursors (seen_with seen at e)) (due (state at (seen at)) e v))
 entries_after seen at e v [] old = absurd (old.starts)
-entries_after seen at e v (t ∷ ts) old = record { starts = tt; holds = entries_more seen at e t.before v (t ∷ ts) old.holds }
+entries_after seen at e v (t ∷ ts) old = record {
+  starts = tt;
+  plain = All-append IsPlain (t ∷ ts) _ old.plain (entry_told at (length (seen at) + 1) (cursors seen) (cursors (seen_with seen at e)) (due (state at (seen at)) e v));
+  holds = entries_more seen at e t.before v (t ∷ ts) old.holds;
+}

@@ -13,7 +13,7 @@ use Rattle.gateway_frames.specs.declared.out.Out.TheVariants as outs
 use Rattle.gateway_frames.specs.Read.{frame_of}
 use Rattle.session_core.specs.State.{State, Session, Condition, Attached, Detached, Ended, is_on, is_live, attached, released, session_on, number_on}
 use Rattle.session_core.specs.Rate.{is_rated}
-use Rattle.session_core.specs.Frames.{Move, Nothing, ClosesWith, resume_move, read_move, move_of}
+use Rattle.session_core.specs.Frames.{Move, Nothing, ClosesWith, resume_move, read_move}
 use Rattle.session_core.specs.Resume.{ResumeAnswer, NotResumable, InvalidSeq, Resumed, session_named, joined, resumed, resume_by, resume_answer}
 use Rattle.world_law.specs.Resumes.{Covers, EachResumeHolds, GoesOn, IsBeyond, IsDenied, Reaches, sent_of}
 use Rattle.world_law.specs.Inputs.{Frame, outputs, taken}

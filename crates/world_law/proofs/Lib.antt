@@ -4,12 +4,14 @@ pub mod Folds
 pub mod Entered
 pub mod Found
 pub mod Sessions
+pub mod Quiet
 pub mod Entries
 pub mod Greetings
 pub mod Workers
 pub mod Chunks
 pub mod Alone
 pub mod Taking
+pub mod Messages
 pub mod Worlds
 pub mod Replays
 pub mod Resumes

@@ -1,6 +1,6 @@
 -- A session that resumes: which it is, and what goes out again.
-use Rattle.std.proofs.Common.{◌≡◌, ℕ, ◌+◌, ◌-◌, ◌≤◌, zero, suc, List, [], ◌∷◌, ◌++◌, Bool, true, false, not, Option, Some, None, Result, Ok, Err, if◌then◌else◌, length, map, drop, refl, sym, ap, subst, ◌∙◌, arith}
-use Rattle.std.specs.Prelude.{◌==◌, ◌&&◌, flat_map, nat_lt}
+use Rattle.std.proofs.Common.{◌≡◌, ℕ, ◌+◌, ◌-◌, ◌≤◌, zero, suc, List, [], ◌∷◌, Bool, true, false, not, Option, Some, None, Result, Ok, Err, if◌then◌else◌, length, map, drop, refl, sym, ap, ◌∙◌, arith}
+use Rattle.std.specs.Prelude.{◌==◌, ◌&&◌, nat_lt}
 use Rattle.std.specs.List.{find}
 use Rattle.std.specs.Str.{bytes_eq}
 use Rattle.std.proofs.lemmas.Option.{same_Some}
@@ -19,8 +19,8 @@ use Rattle.session_core.specs.declared.bot.Bot.{Bot}
 use Rattle.session_core.specs.State.{State, Session, Attached, is_live, attached, has_connection, number_on}
 use Rattle.session_core.specs.Identify.{identified}
 use Rattle.session_core.specs.Rate.{is_rated}
-use Rattle.session_core.specs.Frames.{Move, Nothing, Answers, ClosesWith, Begins, Denies, Resumes, Wants, identify_move, resume_move, move_in_session, move_before_session, read_move, move_of}
-use Rattle.session_core.specs.Resume.{NotResumable, InvalidSeq, Resumed, session_id, session_named, resume_by, older_closes, resume_replies}
+use Rattle.session_core.specs.Frames.{Move, Nothing, Answers, ClosesWith, Begins, Denies, Resumes, Wants, identify_move, resume_move, move_in_session, move_before_session, read_move}
+use Rattle.session_core.specs.Resume.{NotResumable, InvalidSeq, Resumed, session_id, session_named, resume_by}
 use Rattle.world_law.specs.Outputs.{Sends, sends, texts_from}
 use Rattle.world_law.specs.Sent.{Sent, dispatches}
 use Rattle.world_law.specs.Model.{Worker, in_model, replay}

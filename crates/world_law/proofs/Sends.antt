@@ -28,7 +28,7 @@ use Rattle.world_law.specs.Keeping.{Cursors, record_at}
 use Rattle.world_law.specs.Sends.{EachSendHolds, HasSent, IsNumber, OutputHolds}
 use Rattle.world_law.proofs.Resumes.{Fits, IsHeld, fits_text, resent}
 use Rattle.world_law.specs.Model.{Seen, Worker, cursors, in_model, record_of, records_of, seen_with}
-use Rattle.world_law.specs.Sent.{Sent, SentDispatch, chunks_told, dispatch_of, dispatches, told}
+use Rattle.world_law.specs.Sent.{Sent, SentDispatch, chunks_told, dispatch_of, dispatches}
 use Rattle.world_law.specs.Wants.{after_answer, after_want, answer_to, asked, change_first, is_numbered, numbered, presence_wishes, voice_wishes, want_sends, wished}
 use Rattle.world_law.proofs.Entered.{batch, entry_due, next_record, told_entry}
 use Rattle.world_law.specs.Greeting.{begins_with, first_dispatches}

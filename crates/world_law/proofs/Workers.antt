@@ -24,6 +24,7 @@ use Rattle.session_core.specs.Resume.{joined, attached_to, resumed}
 use Rattle.session_core.specs.Ends.{is_final, lost, all_gone, left_of, left, client_closed, kept_for, silent_of, ended_if_live}
 use Rattle.world_law.specs.Keeping.{Cursors}
 use Rattle.world_law.proofs.Entries.{Entries, entries_after, entries_first, entries_grown}
+use Rattle.world_law.proofs.Quiet.{IsQuiet, greetings_quiet}
 use Rattle.world_law.proofs.Sessions.{Meets, grown, more_sent}
 use Rattle.world_law.specs.Model.{Seen, Worker, cursors, in_model, record_of, records_of, seen_as, seen_with}
 use Rattle.world_law.specs.Sent.{Sent, SentDispatch, ended_at, told}
@@ -119,6 +120,7 @@ ended_grown was is same up x last old = record {
   marked = old.marked;
   entries = record {
     starts = old.entries.starts;
+    plain = old.entries.plain;
     holds = entries_grown was is (first_cursors x.sent.told) last x.viewer x.sent.told (λ h p le. same h p (omega (arith, old.meets.within h, le))) old.entries.holds;
   };
 }
@@ -191,7 +193,8 @@ begun_follows text w conn bot v old = record {
         (λ h. subst (λ (hd : Held). Agrees (state h (w.logs.seen h)) v hd) (sym (held_join v h [] Start (cursors w.logs.seen) (cursors w.logs.seen) (first_dispatches (in_model text) w v bot.name (w.core.made + 1))))
         (first_agrees text w v h bot.name (w.core.made + 1) (old.strangers h)));
     marked = refl;
-    entries = entries_first w.logs.seen v (Ready (ready (in_model text) w v bot.name (w.core.made + 1))) (flat_map (greeting_of v) (records_of w.logs));
+    entries = entries_first w.logs.seen v (Ready (ready (in_model text) w v bot.name (w.core.made + 1))) (flat_map (greeting_of v) (records_of w.logs))
+        (All-cons IsQuiet _ _ refl (greetings_quiet v (records_of w.logs)));
   });
   strangers = old.strangers;
 }

@@ -1,28 +1,23 @@
 -- What was sent to each session of each worker holds in each world that a list of steps makes.
-use Rattle.std.proofs.Common.{◌≡◌, ℕ, ◌+◌, ◌≤◌, List, [], ◌∷◌, ◌++◌, Bool, true, false, Option, Some, None, if◌then◌else◌, length, take, drop, refl, sym, ap, subst, ◌∙◌, append_assoc, arith}
-use Rattle.std.specs.Prelude.{All, ◌==◌, nat_lt, is_some}
+use Rattle.std.proofs.Common.{◌≡◌, ℕ, ◌≤◌, List, [], ◌∷◌, ◌++◌, Bool, true, false, Option, Some, None, if◌then◌else◌, length, take, drop, refl, sym, ap, subst, ◌∙◌, append_assoc, arith}
+use Rattle.std.specs.Prelude.{All, ◌==◌}
 use Rattle.std.proofs.lemmas.List.Elements.{All-map, All-weaker, All-nil}
 use Rattle.std.proofs.lemmas.List.{take-append-le, length-append}
 use Rattle.std.proofs.Math.Seq.{drop-append_seam}
 use Rattle.std.proofs.lemmas.Bool.{eqb-true}
 use Rattle.guild_model.specs.Record.{Record}
 use Rattle.dispatch_types.specs.declared.dispatch.Dispatch.{Dispatch}
-use Rattle.dispatch_types.specs.declared.viewer.Viewer.{Viewer}
-use Rattle.message_events.specs.Dispatches.{About, message_told, shown}
-use Rattle.message_events.specs.Notes.{message_note}
 use Rattle.edit_apply.specs.declared.Edit.{Edit}
-use Rattle.edit_apply.specs.declared.Edit.TheVariants as edit
-use Rattle.edit_apply.specs.Edits.{state, after}
-use Rattle.edit_events.proofs.Messages.{messages-shown}
+use Rattle.edit_apply.specs.Edits.{after}
 use Rattle.session_core.specs.declared.bot.Bot.{Bot}
 use Rattle.session_core.specs.State.{Session}
 use Rattle.session_core.specs.Frames.{Members, Presence, Voice, Move, Nothing, Answers, ClosesWith, Begins, Denies, Resumes, Wants}
 use Rattle.world_law.specs.TheLaw.{AreOf, EachConnectionHolds, EachEntryHolds, EachMessageHolds, EachRunHolds, EachWorkerHolds, IsOf, OfSessions, all_taken}
 use Rattle.world_law.specs.Inputs.{Closed, Frame, Input, Look, Lost, Open, Rebase, Tick, taken}
 use Rattle.world_law.specs.Keeping.{Cursors, record_at}
-use Rattle.world_law.specs.World.{Edits, Frames, Leaves, Looks, Loses, Opens, Step, Ticks, World, at_worker, first_of, first_world, look_at, run, stepped}
+use Rattle.world_law.specs.World.{Edits, Frames, Leaves, Looks, Loses, Opens, Step, Ticks, World, at_worker, first_of, first_world, lags, look_at, run, stepped}
 use Rattle.world_law.proofs.Workers.{Follows, SessionMeets}
-use Rattle.world_law.specs.Entries.{IsShown, MessagesHold, SessionEntriesHold, first_cursors}
+use Rattle.world_law.specs.Entries.{MessagesHold, SessionEntriesHold, first_cursors}
 use Rattle.world_law.proofs.Sessions.{Meets, grown}
 use Rattle.world_law.specs.Model.{Seen, Worker, cursors, first_worker, in_model, seen_with}
 use Rattle.world_law.specs.Sent.{Sent}
@@ -30,6 +25,7 @@ use Rattle.world_law.specs.Folds.{SessionHolds, last_cursors}
 use Rattle.world_law.proofs.Lists.{append_none}
 use Rattle.world_law.specs.Looks.{entered, looked, looked_by, rebased_by}
 use Rattle.world_law.proofs.Entries.{entries_grown}
+use Rattle.world_law.proofs.Messages.{messages_alone, messages_shown}
 use Rattle.world_law.specs.Frames.{framed, move_at}
 use Rattle.world_law.specs.Sends.{IsAlone}
 use Rattle.world_law.proofs.Taking.{taken_follows}
@@ -114,12 +110,16 @@ module _ (text : ℕ → Dispatch → List ℕ) where
 
 -- ---- a world
 
--- a look at a log takes what follows the cursor
+-- a look at a log takes what follows the cursor, or the whole log
 look_is_of : (logs : Seen) (g : ℕ) (w : Worker) → IsFront w.logs.seen logs → IsOf logs w (look_at g (logs g) (length (w.logs.seen g)))
-look_is_of logs g w front =
-    let next : List Edit = drop (length (w.logs.seen g)) (logs g) in
-    let dropped : next ≡ (front g).0 = ap (drop (length (w.logs.seen g))) (front g).1 ∙ drop-append_seam (w.logs.seen g) (front g).0 in
-    ([], (front g).1 ∙ ap (λ es. w.logs.seen g ++ es) (sym (append_none next ∙ dropped)))
+look_is_of logs g w front = by_lag (lags (logs g) (length (w.logs.seen g)))
+  where
+    by_lag : (b : Bool) → IsOf logs w (if b then Rebase g (logs g) else Look g (drop (length (w.logs.seen g)) (logs g)))
+    by_lag true = ((front g).0, ([], ((front g).1, sym (append_none (logs g)))))
+    by_lag false =
+        let next : List Edit = drop (length (w.logs.seen g)) (logs g) in
+        let dropped : next ≡ (front g).0 = ap (drop (length (w.logs.seen g))) (front g).1 ∙ drop-append_seam (w.logs.seen g) (front g).0 in
+        ([], (front g).1 ∙ ap (λ es. w.logs.seen g ++ es) (sym (append_none next ∙ dropped)))
 
 moved_stays : (n : ℕ) (f : Worker → Worker) (m : World) → ((w : Worker) → Stays m.logs w → Stays m.logs (f w)) → All (Stays m.logs) m.workers → All (Stays m.logs) (at_worker n f m).workers
 moved_stays n f m keeps old = All-map (Stays m.logs) (λ (w : Worker). if w.core.worker == n then f w else w) m.workers
@@ -208,21 +208,17 @@ each_entry_holds text bots guilds places steps =
     All-weaker (Stays m.logs) (OfSessions SessionEntriesHold m.logs) (worker_entries m.logs) m.workers
     (run_stays text steps (first_world bots guilds places) (first_stays bots guilds places))
 
--- the one dispatch of an edit of messages
-is_shown : (t : Record) (v : Viewer) (o : Option About) (sent : List Dispatch) → is_some o ≡ true → sent ≡ shown t v o → IsShown t v o sent
-is_shown t v None sent there is = absurd (cc there)
-is_shown t v (Some about) sent there is = record { about = about; is = refl; exactly = is }
-
-session_messages : (logs : Seen) (now : Cursors) (x : Session Sent) → SessionEntriesHold logs now x → MessagesHold logs now x
-session_messages logs now x old g front e is from upto accepted =
-    let s : Record = state g front in
-    let t : Record = after s (edit.Message e) in
-    let both = messages-shown s e x.viewer accepted in
-    is_shown t x.viewer (message_told t x.viewer (message_note s e) e) _ both.0 (old.handled g front (edit.Message e) is from upto ∙ both.1)
+session_messages : (logs seen : Seen) (x : Session Sent) → IsFront seen logs → SessionMeets seen x → MessagesHold logs (cursors seen) x
+session_messages logs seen x front old =
+    let entries : SessionEntriesHold logs (cursors seen) x = session_entries logs seen x front old in
+    record {
+      shown = messages_shown logs (cursors seen) x entries;
+      alone = messages_alone logs (first_cursors x.sent.told) (last_cursors (cursors seen) x) x.viewer x.sent.told entries (session_holds logs seen x front old).within old.entries.plain;
+    }
 
 pub worker_messages : (logs : Seen) (w : Worker) → Stays logs w → OfSessions MessagesHold logs w
 worker_messages logs w old =
-    All-weaker (SessionEntriesHold logs (cursors w.logs.seen)) (MessagesHold logs (cursors w.logs.seen)) (session_messages logs (cursors w.logs.seen)) w.core.sessions (worker_entries logs w old)
+    All-weaker (SessionMeets w.logs.seen) (MessagesHold logs (cursors w.logs.seen)) (λ x. session_messages logs w.logs.seen x old.front) w.core.sessions old.follows.sessions
 
 pub each_message_holds : EachMessageHolds
 unfolding EachMessageHolds

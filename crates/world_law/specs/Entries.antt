@@ -1,8 +1,9 @@
 -- Which dispatches of a session were made for which entry of a log, and who was sent messages.
-use Rattle.std.specs.Prelude.{◌≡◌, ℕ, ◌+◌, ◌<◌, ◌≤◌, List, [], ◌∷◌, ◌++◌, Bool, true, false, ◌==◌, ◌&&◌, Option, Some, if◌then◌else◌, length, map, filter, take}
+use Rattle.std.specs.Prelude.{◌≡◌, ℕ, ◌+◌, ◌<◌, ◌≤◌, List, [], ◌∷◌, ◌++◌, Bool, true, false, ◌==◌, ◌&&◌, Option, Some, if◌then◌else◌, length, map, filter, take, All}
 use Rattle.guild_model.specs.Record.{Record}
 use Rattle.dispatch_types.specs.declared.viewer.Viewer.{Viewer}
 use Rattle.dispatch_types.specs.declared.dispatch.Dispatch.{Dispatch}
+use Rattle.dispatch_types.specs.declared.dispatch.Dispatch.TheVariants as dispatch
 use Rattle.dispatch_types.specs.Kinds.{kind_of}
 use Rattle.message_edit.specs.declared.MessageEdit.{MessageEdit}
 use Rattle.message_gate.specs.Shows.{shows}
@@ -53,8 +54,32 @@ pub record IsShown (t : Record) (v : Viewer) (told : Option About) (sent : List 
 
 -- an accepted edit of messages that was handled while the session was there: its dispatch stands under its
 -- mark, once, exactly if it is shown by the record after that very entry
-abbrev pub MessagesHold : (ℕ → List Edit) → Cursors → Session Sent → Type 0
-MessagesHold logs now x = (g : ℕ) (front : List Edit) (e : MessageEdit) → take (length front + 1) (logs g) ≡ front ++ edit.Message e ∷ []
+abbrev pub MessagesShown : (ℕ → List Edit) → Cursors → Session Sent → Type 0
+MessagesShown logs now x = (g : ℕ) (front : List Edit) (e : MessageEdit) → take (length front + 1) (logs g) ≡ front ++ edit.Message e ∷ []
     → first_cursors x.sent.told g ≤ length front → length front + 1 ≤ last_cursors now x g → accepts (state g front) (edit.Message e) ≡ true
     → let s = state g front in let t = after s (edit.Message e) in
     IsShown t x.viewer (message_told t x.viewer (message_note s e) e) (made_for g (length front + 1) x.sent.told)
+
+-- a dispatch about messages, reactions or typing
+abbrev pub about_messages : Dispatch → Bool
+about_messages (dispatch.MessageCreate message) = true
+about_messages (dispatch.MessageUpdate message) = true
+about_messages (dispatch.MessageDelete delete) = true
+about_messages (dispatch.MessageReactionAdd reaction) = true
+about_messages (dispatch.MessageReactionRemove reaction) = true
+about_messages (dispatch.TypingStart typing) = true
+about_messages _ = false
+
+-- a mark of an entry that is an edit of messages
+abbrev pub IsOfMessages : (ℕ → List Edit) → Mark → Type 0
+IsOfMessages logs (Entry g p) = (front : List Edit) × ((e : MessageEdit) × ((p ≡ length front + 1) × (take p (logs g) ≡ front ++ edit.Message e ∷ [])))
+IsOfMessages logs _ = ⊥
+
+-- a dispatch about messages was made for an edit of messages
+abbrev pub IsMadeForMessages : (ℕ → List Edit) → SentDispatch → Type 0
+IsMadeForMessages logs t = about_messages t.dispatch ≡ true → IsOfMessages logs t.mark
+
+-- of messages, reactions and typing a session is sent what is shown of them, and nothing under any other mark
+pub record MessagesHold (logs : ℕ → List Edit) (now : Cursors) (x : Session Sent) : Type 0 where
+  pub shown : MessagesShown logs now x
+  pub alone : All (IsMadeForMessages logs) x.sent.told

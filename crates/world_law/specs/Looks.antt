@@ -1,14 +1,13 @@
 -- Entries of a log, handled one after another: each session that has not ended is sent what is due to its viewer.
 use Rattle.std.specs.Prelude.{ℕ, ◌+◌, List, [], ◌∷◌, ◌++◌, Option, Some, None, if◌then◌else◌, map, flat_map}
 use Rattle.guild_model.specs.Record.{Record}
-use Rattle.dispatch_types.specs.declared.dispatch.Dispatch.{Dispatch}
 use Rattle.edit_apply.specs.Edits.{after}
 use Rattle.edit_apply.specs.declared.Edit.{Edit}
 use Rattle.edit_events.specs.Due.{due}
 use Rattle.session_core.specs.declared.reply.Mark.TheVariants.{Entry}
 use Rattle.session_core.specs.State.{State, Session, is_live}
 use Rattle.session_core.specs.Ends.{session_conns, all_ended}
-use Rattle.world_law.specs.Keeping.{Cursors, Keeping, Machine, with_sessions}
+use Rattle.world_law.specs.Keeping.{Keeping, Machine, with_sessions}
 use Rattle.world_law.specs.Outputs.{Output, Closes, sends}
 
 -- one entry of a guild's log, by the record before it

@@ -1,10 +1,10 @@
 -- The logs of guilds and the workers that follow them, and what a list of steps makes of them.
-use Rattle.std.specs.Prelude.{ℕ, List, [], ◌∷◌, ◌==◌, if◌then◌else◌, length, map, drop}
+use Rattle.std.specs.Prelude.{ℕ, ◌-◌, List, [], ◌∷◌, Bool, ◌==◌, if◌then◌else◌, length, map, drop, nat_lt}
 use Rattle.dispatch_types.specs.declared.dispatch.Dispatch.{Dispatch}
 use Rattle.edit_apply.specs.declared.Edit.{Edit}
 use Rattle.session_core.specs.declared.bot.Bot.{Bot}
 use Rattle.world_law.specs.Model.{Worker, in_model, first_worker, seen_with}
-use Rattle.world_law.specs.Inputs.{Input, Look, Open, Frame, Lost, Closed, Tick, taken}
+use Rattle.world_law.specs.Inputs.{Input, Look, Rebase, Open, Frame, Lost, Closed, Tick, taken}
 
 pub record World : Type 0 where
   pub logs : ℕ → List Edit
@@ -20,9 +20,21 @@ pub data Step : Type 0 where
   Leaves : (worker conn code : ℕ) → Step
   Ticks : (worker now : ℕ) → Step
 
--- a look at a log: at the entries after the cursor
+-- a log keeps its latest entries, this many
+abbrev pub kept_entries : ℕ
+kept_entries = 4096
+
+-- how many entries come before those that are kept
+abbrev pub base_of : List Edit → ℕ
+base_of log = length log - kept_entries
+
+-- a look lags if not all entries after its cursor are kept
+abbrev pub lags : List Edit → ℕ → Bool
+lags log cursor = nat_lt cursor (base_of log)
+
+-- a look at a log: at the entries after the cursor; if it lags, the worker takes over the whole log
 abbrev pub look_at : ℕ → List Edit → ℕ → Input
-look_at g log cursor = Look g (drop cursor log)
+look_at g log cursor = if lags log cursor then Rebase g log else Look g (drop cursor log)
 
 -- the worker of this number, moved
 abbrev pub at_worker : ℕ → (Worker → Worker) → World → World

@@ -1,18 +1,22 @@
 use Rattle.std.proofs.Common.{◌≡◌, ℕ, List, ◌++◌, ◌∷◌, [], Some, refl, sym, subst, ◌∙◌, ap}
 use Rattle.collections.specs.ById.{find_id, put_id}
-use Rattle.edit_apply.specs.Edits.{after}
 use Rattle.scenario.specs.declared.guild_log.GuildLog.{GuildLog}
-use Rattle.scenario.specs.Represents.{log_id}
+use Rattle.scenario.specs.declared.server.Server.{Server as KeptServer}
+use Rattle.scenario.specs.Represents.{log_id, added}
 use Rattle.scenario.proofs.Servers.{edit_plays, log_keyed}
 use Rattle.scenario.proofs.server.Server.edit.Goals as goal
 
 pub returns-clause-plays : goal.returns-clause-plays
 returns-clause-plays c p stands =
-    let start = c.in-Ok.ensures p (c.as_slice.ensures ∙ stands.keeps.bots) (c.as_slice-2.ensures ∙ stands.keeps.guilds) stands.slots in
+    let start = c.in-Ok.ensures.starts p stands in
+    let same = c.in-Ok.ensures.slots in
+    let before : List GuildLog = c.start.new.self.logs in
     let new : log_id c.new.result ≡ c.args.guild = ap log_id c.new.ensures ∙ log_keyed c.args.guild [] in
-    let found : find_id log_id c.args.guild c.args.self.now.logs ≡ Some c.exchange-log.result = subst (λ (n : ℕ). find_id log_id n c.args.self.now.logs ≡ Some c.exchange-log.result) new c.exchange-log.ensures.given in
-    let next : GuildLog = record { guild = after c.exchange-log.result.guild c.args.edit; entries = c.exchange-log.result.entries ++ c.args.edit ∷ [] } in
-    let logs : c.put.new.self ≡ put_id log_id next (put_id log_id c.new.result c.args.self.now.logs) =
+    let given : find_id log_id c.args.guild before ≡ Some c.exchange-log.result = subst (λ (n : ℕ). find_id log_id n before ≡ Some c.exchange-log.result) new c.exchange-log.ensures.given in
+    let found : find_id log_id c.args.guild c.args.self.now.logs ≡ Some c.exchange-log.result = ap (λ (k : KeptServer). find_id log_id c.args.guild k.logs) (sym same) ∙ given in
+    let next : GuildLog = added c.exchange-log.result c.args.edit in
+    let put : c.put.new.self ≡ put_id log_id next (put_id log_id c.new.result before) =
     c.in_ok-put.ensures.ok ∙ (ap (λ (l : GuildLog). put_id log_id l c.exchange-log.new.self) c.in-Ok-add.ensures.log ∙ ap (λ (ls : List GuildLog). put_id log_id next ls) c.exchange-log.ensures.set) in
-    edit_plays c.args.self.now (record c.args.self.now { logs = c.put.new.self; slots = c.start.new.slots }) p c.args.guild c.args.edit c.exchange-log.result c.new.result [] stands.keeps (sym c.in_default.ensures) found new
-    refl refl refl logs start refl
+    let logs : c.put.new.self ≡ put_id log_id next (put_id log_id c.new.result c.args.self.now.logs) = put ∙ ap (λ (k : KeptServer). put_id log_id next (put_id log_id c.new.result k.logs)) same in
+    edit_plays c.args.self.now (record c.start.new.self { logs = c.put.new.self }) p c.args.guild c.args.edit c.exchange-log.result c.new.result [] stands.keeps found new
+    (ap (λ (k : KeptServer). k.bots) same) (ap (λ (k : KeptServer). k.guilds) same) (ap (λ (k : KeptServer). k.used) same) logs start refl
