@@ -1,10 +1,12 @@
 -- internal: cited by private functions only
 -- What is left by a call that sends dispatches to sessions by their indexes.
-use Rattle.std.specs.Prelude.{◌≡◌, ℕ, List, [], ◌∷◌, ◌++◌, Option, Some, None, false, length, map, flat_map}
+use Rattle.std.specs.Prelude.{◌≡◌, ℕ, ◌+◌, ◌-◌, ◌^◌, min, List, [], ◌∷◌, ◌++◌, Option, Some, None, false, length, map, flat_map}
 use Rattle.std.specs.List.{list_any}
 use Rattle.guild_model.specs.Record.{Record}
 use Rattle.dispatch_types.specs.declared.dispatch.Dispatch.{Dispatch}
 use Rattle.edit_apply.specs.declared.Edit.{Edit}
+use Rattle.session_core.specs.declared.reply.Mark.{Mark}
+use Rattle.session_core.specs.declared.reply.Mark.TheVariants.{Start, Entry, Chunk}
 use Rattle.session_core.specs.State.{State, Session}
 use Rattle.replay_ring.specs.Replay.{Replay}
 use Rattle.world_law.specs.Keeping.{with_sessions}
@@ -22,6 +24,12 @@ use Rattle.worker_core.specs.declared.io.StepFault.{StepFault}
 abbrev pub sent_to : Option ℕ → List ℕ → List Written
 sent_to None text = []
 sent_to (Some conn) text = Send conn text ∷ []
+
+-- the mark of the dispatch at an index, where the first has a mark: each chunk has its own
+abbrev pub mark_at : Mark → ℕ → Mark
+mark_at Start index = Start
+mark_at (Entry guild position) index = Entry guild position
+mark_at (Chunk number) index = Chunk (min (number + index) (2 ^ 64 - 1))
 
 -- with these dispatches more
 abbrev pub further : List Dispatch → Session Replay → Session Replay

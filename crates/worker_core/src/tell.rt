@@ -2,7 +2,7 @@
 
 ghost use Rattle.std.specs.Prelude.{◌≡◌, ◌∷◌, [], ◌++◌, ◌<◌, ℕ, Some, length, map, position, IfOk, MatchResult, OnOk};
 ghost use Rattle.world_law.specs.Wants.{is_numbered};
-ghost use Rattle.worker_core.specs.Telling.{TellsAt, FailsAt, sent_to};
+ghost use Rattle.worker_core.specs.Telling.{TellsAt, FailsAt, mark_at, sent_to};
 ghost use Rattle.event_json.specs.Text.{envelope_of};
 
 use crate::io::{Output, StepFault, put};
@@ -94,22 +94,32 @@ fn tell_next(
     Ok(())
 }
 
+/// The mark of the dispatch at an index, where the first has a mark: each chunk has its own.
+fn mark_at(first: &Mark, index: usize) -> Mark
+    ensures { result ≡ mark_at first.now index }
+{
+    match first {
+        Mark::Start => Mark::Start,
+        Mark::Entry(guild, position) => Mark::Entry(*guild, *position),
+        Mark::Chunk(number) => Mark::Chunk(number.saturating_add(index as u64)),
+    }
+}
+
 /// The same of dispatches in order, which are made for one reason, the first under a mark.
 pub fn tell(
     alloc: Global,
     sessions: &mut Sessions,
     session: u32,
-    first: Mark,
+    first: &Mark,
     dispatches: &[Dispatch],
     out: &mut Vec<Output>,
 ) -> Result<(), StepFault>
     ensures { (index : ℕ) → position (is_numbered session) sessions.old.sessions ≡ Some index
         → MatchResult result (λ _. TellsAt index (λ x. dispatches.now) sessions.old sessions.new out.old.items out.new.items) (FailsAt index (λ x. dispatches.now) sessions.old) }
 {
-    let mut mark = first;
     for next in 0..dispatches.len() {
+        let mark = mark_at(first, next);
         tell_next(alloc, sessions, session, mark, &dispatches[next], out)?;
-        mark = mark.next();
     }
     Ok(())
 }

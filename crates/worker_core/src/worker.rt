@@ -493,7 +493,7 @@ impl Worker {
             self.alloc,
             &mut self.sessions,
             session,
-            first,
+            &first,
             dispatches,
             out,
         )

@@ -1,5 +1,5 @@
 -- One dispatch more.
-use Rattle.std.proofs.Common.{◌≡◌, ◌∷◌, ◌++◌, ◌+◌, ◌<◌, List, length, take, drop, sym, ap, subst, ◌∙◌, arith}
+use Rattle.std.proofs.Common.{◌≡◌, ◌∷◌, ◌++◌, ◌+◌, ◌<◌, List, length, take, take_all, drop, sym, ap, subst, ◌∙◌, arith}
 use Rattle.std.proofs.lemmas.Result.{err_from_is_err_and}
 use Rattle.std.proofs.lemmas.List.{take-append-drop}
 use Rattle.dispatch_types.specs.declared.dispatch.Dispatch.{Dispatch}
@@ -37,3 +37,9 @@ loop-next-preserved c index is =
     subst (λ (es : List Dispatch). TellsAt index (λ x. es) c.args.sessions.now c.tell_next.new.sessions c.args.out.now.items c.tell_next.new.out.items)
     (sym (last_taken ds i d lt (sym c.index-dispatches-next.is)))
     (tells_more index (take i ds) d c.args.sessions.now mid c.args.out.now.items outm told c.tell_next.new.sessions c.tell_next.new.out.items (c.in_ok-tell_next.ensures index there))
+
+pub returns : goal.returns
+returns c index is =
+    let ds : List Dispatch = c.args.dispatches.now in
+    let all : take c.loop-next.next ds ≡ ds = take_all c.loop-next.next ds (omega arith) in
+    subst (λ (es : List Dispatch). TellsAt index (λ x. es) c.args.sessions.now c.loop-next.sessions c.args.out.now.items c.loop-next.out.items) all (c.loop-next.invariant index is)

@@ -8,10 +8,10 @@ use Rattle.worker_core.proofs.Wanting.{speaks, when_ok}
 pub returns-in-Some-Some : goal.returns-in-Some-Some
 returns-in-Some-Some c =
     when_ok c.wish_voice.result
-    (speaks c.args.self.now c.args.session c.args.out.now.items c.args.ask.now c.in-Some-Some.viewer.now (Some c.in-Some-Some.replica.now) c.wish_voice.new.out.items
-    (sym c.viewer_of.ensures ∙ ap option_copied c.in-Some-Some.is-0) (sym (ap option_copied c.in-Some-Some.is-1) ∙ c.replica.ensures)) c.wish_voice.ensures
+    (speaks c.args.self.now c.args.session c.args.out.now.items c.args.ask.now c.in-Some-Some.viewer (Some c.in-Some-Some.replica.now) c.wish_voice.new.out.items
+    (sym c.viewer_of.ensures ∙ c.in-Some-Some.is-0) (sym (ap option_copied c.in-Some-Some.is-1) ∙ c.replica.ensures)) c.wish_voice.ensures
 
 pub returns-in_default : goal.returns-in_default
 returns-in_default c =
-    speaks c.args.self.now c.args.session c.args.out.now.items c.args.ask.now c.in_default.field-0-0.now None c.args.out.now.items
-    (sym c.viewer_of.ensures ∙ ap option_copied c.in_default.is-0) (sym (ap option_copied c.in_default.is-1) ∙ c.replica.ensures) (sym (append_none c.args.out.now.items))
+    speaks c.args.self.now c.args.session c.args.out.now.items c.args.ask.now c.in_default.field-0-0 None c.args.out.now.items
+    (sym c.viewer_of.ensures ∙ c.in_default.is-0) (sym (ap option_copied c.in_default.is-1) ∙ c.replica.ensures) (sym (append_none c.args.out.now.items))
