@@ -2,8 +2,6 @@
 use Rattle.std.specs.Prelude.{ℕ, ◌+◌, ◌-◌, ◌^◌, ◌==◌, ◌&&◌, List, Bool, false, nat_lt, min, map, if◌then◌else◌, slice_get, slice_set}
 use Rattle.std.specs.Option.{option_map_or}
 use Rattle.replay_ring.specs.Replay.{Replay, pushed}
-use Rattle.session_core.specs.declared.reply.Mark.{Mark}
-use Rattle.session_core.specs.declared.reply.Mark.TheVariants.{Start, Entry, Chunk}
 use Rattle.session_core.specs.State.{State, Session, is_live}
 
 -- the number of the next dispatch
@@ -31,9 +29,3 @@ further_if number text x = if is_live x.condition && (x.number == number) then f
 
 abbrev pub pushed_to : ℕ → List ℕ → State Replay → State Replay
 pushed_to number text s = record s { sessions = map (further_if number text) s.sessions }
-
--- the mark of the dispatch that is made next for the same reason: each chunk has its own
-abbrev pub mark_after : Mark → Mark
-mark_after Start = Start
-mark_after (Entry guild position) = Entry guild position
-mark_after (Chunk number) = Chunk (min (number + 1) (2 ^ 64 - 1))

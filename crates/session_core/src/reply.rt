@@ -1,8 +1,5 @@
 //! What the worker has to do after a call.
 
-ghost use Rattle.std.specs.Prelude.{◌≡◌};
-ghost use Rattle.session_core.specs.Pushes.{mark_after};
-
 use gateway_frames::{Ask, Out, VoiceAsk};
 use guild_model::Status;
 use payload_text::Payload;
@@ -34,17 +31,4 @@ pub enum Mark {
     Start,
     Entry(Snowflake, u64),
     Chunk(u64),
-}
-
-impl Mark {
-    /// The mark of the dispatch that is made next, for the same reason: that of the next chunk, or the
-    /// same.
-    pub fn next(self) -> Mark
-        ensures { result ≡ mark_after self }
-    {
-        match self {
-            Mark::Chunk(number) => Mark::Chunk(number.saturating_add(1)),
-            Mark::Start | Mark::Entry(_, _) => self,
-        }
-    }
 }

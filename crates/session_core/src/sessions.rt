@@ -92,7 +92,7 @@ impl Sessions {
     }
 
     /// The number of sessions that were made.
-    pub(crate) fn made(&self) -> u32
+    pub fn made(&self) -> u32
         ensures { result ≡ self.now.made }
     {
         self.made
