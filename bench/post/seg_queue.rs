@@ -18,6 +18,11 @@ const HAS_NEXT: usize = 1;
 const LAP: usize = 32;
 const SLOTS: usize = LAP - 1;
 
+// The slot of an index in its block. Behind the last slot it is `SLOTS`, until the next block is there.
+fn slot_of(index: usize) -> usize {
+    index / STEP % LAP
+}
+
 // Waits a little longer each time, as the crate's `Backoff` does.
 struct Backoff(u32);
 
@@ -92,8 +97,16 @@ struct Position<T> {
 }
 
 impl<T> Position<T> {
-    fn load(&self) -> (usize, *mut Block<T>) {
-        (self.index.load(Acquire), self.block.load(Acquire))
+    // The index and its block. Behind the last slot of a block it waits for the thread that took that
+    // slot, which moves both on to the next block.
+    fn settled(&self, backoff: &mut Backoff) -> (usize, *mut Block<T>) {
+        loop {
+            let (index, block) = (self.index.load(Acquire), self.block.load(Acquire));
+            if slot_of(index) < SLOTS {
+                return (index, block);
+            }
+            backoff.snooze();
+        }
     }
 }
 
@@ -124,15 +137,10 @@ impl<T> SegQueue<T> {
 
     pub fn push(&self, value: T) {
         let mut backoff = Backoff(0);
-        let (mut tail, mut block) = self.tail.load();
+        let (mut tail, mut block) = self.tail.settled(&mut backoff);
         let mut next_block = None;
         loop {
-            let offset = tail / STEP % LAP;
-            if offset == SLOTS {
-                backoff.snooze();
-                (tail, block) = self.tail.load();
-                continue;
-            }
+            let offset = slot_of(tail);
             if offset + 1 == SLOTS && next_block.is_none() {
                 next_block = Some(Block::new());
             }
@@ -140,7 +148,7 @@ impl<T> SegQueue<T> {
                 match self.lay_first() {
                     Some(first) => block = first,
                     None => {
-                        (tail, block) = self.tail.load();
+                        (tail, block) = self.tail.settled(&mut backoff);
                         continue;
                     }
                 }
@@ -158,10 +166,9 @@ impl<T> SegQueue<T> {
                     slot.state.fetch_or(WRITE, Release);
                     return;
                 },
-                Err(found) => {
-                    tail = found;
-                    block = self.tail.block.load(Acquire);
+                Err(_) => {
                     backoff.spin();
+                    (tail, block) = self.tail.settled(&mut backoff);
                 }
             }
         }
@@ -169,14 +176,9 @@ impl<T> SegQueue<T> {
 
     pub fn pop(&self) -> Option<T> {
         let mut backoff = Backoff(0);
-        let (mut head, mut block) = self.head.load();
+        let (mut head, mut block) = self.head.settled(&mut backoff);
         loop {
-            let offset = head / STEP % LAP;
-            if offset == SLOTS {
-                backoff.snooze();
-                (head, block) = self.head.load();
-                continue;
-            }
+            let offset = slot_of(head);
             let mut new_head = head + STEP;
             if new_head & HAS_NEXT == 0 {
                 fence(SeqCst);
@@ -190,15 +192,14 @@ impl<T> SegQueue<T> {
             }
             if block.is_null() {
                 backoff.snooze();
-                (head, block) = self.head.load();
+                (head, block) = self.head.settled(&mut backoff);
                 continue;
             }
             match self.head.index.compare_exchange_weak(head, new_head, SeqCst, Acquire) {
                 Ok(_) => return Some(unsafe { self.read(block, offset, new_head) }),
-                Err(found) => {
-                    head = found;
-                    block = self.head.block.load(Acquire);
+                Err(_) => {
                     backoff.spin();
+                    (head, block) = self.head.settled(&mut backoff);
                 }
             }
         }
