@@ -1,4 +1,4 @@
-use Rattle.std.proofs.Common.{◌≡◌, ◌-◌, ◌∙◌, ap, true, false, Some, None, if◌then◌else◌, length, arith}
+use Rattle.std.proofs.Common.{◌≡◌, ◌-◌, ◌∙◌, ap, sym, true, false, Some, None, if◌then◌else◌, length, arith}
 use Rattle.std.proofs.lemmas.Bool.Decides.{nat_tests}
 use Rattle.world_law.specs.World.{base_of, lags}
 use Rattle.scenario.specs.declared.guild_log.GuildLog.{GuildLog}
