@@ -59,6 +59,17 @@ fn make_copy(alloc: Global, guild: &mut Guild, edit: &Edit) -> Result<(), AllocE
     make(alloc, guild, edit.copy(alloc)?)
 }
 
+// Adds an entry to a record, which a refused one leaves as it is.
+fn enter(alloc: Global, guild: &mut Guild, edit: Edit) -> Result<(), AllocError>
+    ensures { OnOk result (guild.new ≡ after guild.old edit) }
+{
+    if judge(guild, &edit).is_ok() {
+        return make(alloc, guild, edit);
+    }
+    drop(edit);
+    Ok(())
+}
+
 // Adds an entry to a record, and says why it is refused, if it is.
 fn add_to(alloc: Global, guild: &mut Guild, edit: &Edit) -> Result<Option<Verdict>, AllocError>
     ensures answer { IfOk result (λ answer. answer ≡ verdict guild.old edit.now) }
@@ -102,9 +113,10 @@ impl Latest {
         if self.entries.len() < KEPT {
             return Ok(());
         }
-        add_to(alloc, basis, &self.entries[0])?;
-        drop(self.entries.pop_front());
-        Ok(())
+        let Some(oldest) = self.entries.pop_front() else {
+            return Ok(());
+        };
+        enter(alloc, basis, oldest)
     }
 
     // Copies of the entries from a place on.
