@@ -176,9 +176,11 @@ impl<R: Wait + Drop> Post<R> {
         ensures taken { MatchOption result ((pass.new ≡ after_empty_take pass.old) × FoundEmpty pass.new) (λ r. pass.new ≡ after_take pass.old r) }
         ensures next { IfSome result (λ r. (r.sender < pass.old.senders) × (r.number ≡ length (requests_of r.sender pass.old.taken) + 1)) }
     {
-        let request = queue::take(&self.rt, &self.queue, &mut pass.pass)?;
-        pass.counts[usize::from(request.sender)] = request.number;
-        Some(request)
+        let found = queue::take(&self.rt, &self.queue, &mut pass.pass);
+        if let Some(request) = &found {
+            pass.counts[usize::from(request.sender)] = request.number;
+        }
+        found
     }
 
     /// Settles with a sender: the mark that was found of it is the mark that it stored, and what was

@@ -131,6 +131,9 @@ pub fn send<R: Wait>(
 
 /// Removes the request at the front. `None` only if the queue was empty at one step of the call. It
 /// does not allocate.
+// Laid into a caller that reads a request's fields, each move of the request is cut at these fields, and
+// each then waits for the one before.
+#[inline(never)]
 pub fn take<R: Wait>(rt: &R, queue: &Queue, pass: &mut QueuePass) -> Option<Request>
     requires queue { IsSegPassOf queue.now pass.old }
     requires taker { pass.old.me.view.client.takes ≡ true }
@@ -140,14 +143,17 @@ pub fn take<R: Wait>(rt: &R, queue: &Queue, pass: &mut QueuePass) -> Option<Requ
         (λ r. (pass.new.me.view.client ≡ took pass.old.me.view.client r) × (r.sender < pass.old.me.view.client.made)
         × (r.number ≡ length (requests_of r.sender pass.old.me.view.client.taken) + 1)) }
 {
-    match queue.pop_as::<Takes, R>(rt, pass) {
-        found @ Some(_) => found,
+    let found = queue.pop_as::<Takes, R>(rt, pass);
+    match &found {
+        Some(_) => found,
         None => count_and_take(rt, queue, pass),
     }
 }
 
 // Counts this take as one that finds nothing, and only then looks, so that the step at which the queue
 // was empty is known to be one of this call.
+#[cold]
+#[inline(never)]
 fn count_and_take<R: Wait>(rt: &R, queue: &Queue, pass: &mut QueuePass) -> Option<Request>
     requires queue { IsSegPassOf queue.now pass.old }
     requires taker { pass.old.me.view.client.takes ≡ true }

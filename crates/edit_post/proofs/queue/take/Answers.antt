@@ -1,5 +1,5 @@
 use Rattle.edit_post.proofs.QueueMoves.{pops}
 use Rattle.edit_post.proofs.queue.take.Goals as goal
 
-pub pop_as-requires-clause-rule : goal.pop_as-requires-clause-rule
-pop_as-requires-clause-rule g c = (pops _ _ _ c.requires.taker, λ items views d at. tt)
+pub pop_as-found-requires-clause-rule : goal.pop_as-found-requires-clause-rule
+pop_as-found-requires-clause-rule g c = (pops _ _ _ c.requires.taker, λ items views d at. tt)
