@@ -1,9 +1,9 @@
 -- A log with one entry more.
-use Rattle.std.proofs.Common.{◌≡◌, ℕ, ◌+◌, ◌-◌, ◌<◌, ◌≤◌, List, [], ◌∷◌, ◌++◌, Bool, true, false, if◌then◌else◌, length, take, drop, nat_lt, refl, sym, ap, ◌∙◌, take-add, arith}
-use Rattle.std.proofs.lemmas.List.{length-append, length-drop, take-append-le, drop-append-le, drop-drop}
+use Rattle.std.proofs.Common.{◌≡◌, ℕ, ◌+◌, ◌-◌, ◌<◌, ◌≤◌, List, [], ◌∷◌, ◌++◌, Bool, true, false, if◌then◌else◌, length, drop, nat_lt, refl, sym, ap, ◌∙◌, arith}
+use Rattle.std.proofs.lemmas.List.{length-append, length-drop, drop-append-le, drop-drop}
 use Rattle.std.proofs.lemmas.Bool.Decides.{nat_tests}
 use Rattle.guild_model.specs.Record.{Record, closed}
-use Rattle.edit_apply.specs.Edits.{after, state, state_from}
+use Rattle.edit_apply.specs.Edits.{after, state}
 use Rattle.edit_apply.specs.declared.Edit.{Edit}
 use Rattle.world_law.specs.World.{base_of}
 use Rattle.world_law.proofs.Folds.{state_join}
@@ -13,24 +13,21 @@ module _ (g : ℕ) (es : List Edit) (e : Edit) where
   all : List Edit
   all = es ++ e ∷ []
 
-  -- of which k go into the record before the latest
+  -- of which k are removed
   more : (k : ℕ) → over (length (drop (base_of es) es)) ≡ k → base_of all ≡ base_of es + k → base_of es + k ≤ length es → added (log_with g es) e ≡ log_with g all
   unfolding all
   more k is base within =
       let b : ℕ = base_of es in
-      let first : state_from (state g (take b es)) (take k (drop b es)) ≡ state g (take (base_of all) all) =
-      sym (state_join (closed g) (take b es) (take k (drop b es))) ∙ (ap (state g) (sym (take-add b k es)) ∙ (ap (state g) (sym (take-append-le (b + k) es (e ∷ []) within)) ∙ ap (λ n. state g (take n all)) (sym base))) in
       let last : drop k (drop b es) ++ e ∷ [] ≡ drop (base_of all) all =
       ap (λ l. l ++ e ∷ []) (drop-drop k b es) ∙ (sym (drop-append-le (b + k) es (e ∷ []) within) ∙ ap (λ n. drop n all) (sym base)) in
       let n : ℕ = length es + 1 in
       let whole : Record = after (state g es) e in
-      let moved : added (log_with g es) e ≡ record { guild = whole; count = n; basis = state_from (state g (take b es)) (take k (drop b es)); latest = drop k (drop b es) ++ e ∷ [] } =
-      ap (λ j. record { guild = whole; count = n; basis = state_from (state g (take b es)) (take j (drop b es)); latest = drop j (drop b es) ++ e ∷ [] }) is in
+      let moved : added (log_with g es) e ≡ record { guild = whole; count = n; latest = drop k (drop b es) ++ e ∷ [] } =
+      ap (λ j. record { guild = whole; count = n; latest = drop j (drop b es) ++ e ∷ [] }) is in
       moved
-      ∙ (ap (λ r. record { guild = whole; count = n; basis = r; latest = drop k (drop b es) ++ e ∷ [] }) first
-      ∙ (ap (λ l. record { guild = whole; count = n; basis = state g (take (base_of all) all); latest = l }) last
-      ∙ (ap (λ r. record { guild = r; count = n; basis = state g (take (base_of all) all); latest = drop (base_of all) all }) (sym (state_join (closed g) es (e ∷ [])))
-      ∙ ap (λ m. record { guild = state g all; count = m; basis = state g (take (base_of all) all); latest = drop (base_of all) all }) (sym (length-append es (e ∷ []))))))
+      ∙ (ap (λ l. record { guild = whole; count = n; latest = l }) last
+      ∙ (ap (λ r. record { guild = r; count = n; latest = drop (base_of all) all }) (sym (state_join (closed g) es (e ∷ [])))
+      ∙ ap (λ m. record { guild = state g all; count = m; latest = drop (base_of all) all }) (sym (length-append es (e ∷ [])))))
 
   pub log_more : added (log_with g es) e ≡ log_with g (es ++ e ∷ [])
   unfolding all

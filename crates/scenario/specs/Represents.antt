@@ -1,10 +1,10 @@
 -- Which servers the code's server represents.
-use Rattle.std.specs.Prelude.{◌≡◌, ℕ, ◌+◌, ◌==◌, List, [], ◌∷◌, ◌++◌, length, map, flat_map, take, drop, nat_lt, Bool, false, Option, Some, None, if◌then◌else◌, true}
+use Rattle.std.specs.Prelude.{◌≡◌, ℕ, ◌+◌, ◌==◌, List, [], ◌∷◌, ◌++◌, length, map, flat_map, drop, nat_lt, Bool, false, Option, Some, None, if◌then◌else◌, true}
 use Rattle.std.specs.List.{list_any}
 use Rattle.collections.specs.ById.{find_id, put_all}
 use Rattle.guild_model.specs.Record.{own_id}
 use Rattle.dispatch_types.specs.Fold.{contains}
-use Rattle.edit_apply.specs.Edits.{after, state, state_from}
+use Rattle.edit_apply.specs.Edits.{after, state}
 use Rattle.edit_apply.specs.declared.Edit.{Edit}
 use Rattle.edit_text.specs.declared.line.Line.{Line}
 use Rattle.world_law.specs.Model.{Worker}
@@ -31,11 +31,11 @@ use Rattle.scenario.specs.Transcript.{line_refusal, line_lag}
 abbrev pub log_id : GuildLog → ℕ
 log_id l = l.guild.id
 
--- a log with the record after it, its latest entries and the record before these
+-- a log with the record after it, and its latest entries
 abbrev pub log_with : ℕ → List Edit → GuildLog
-log_with g es = record { guild = state g es; count = length es; basis = state g (take (base_of es) es); latest = drop (base_of es) es }
+log_with g es = record { guild = state g es; count = length es; latest = drop (base_of es) es }
 
--- how many of so many kept entries go into the record before them as one more comes
+-- how many of so many kept entries are removed as one more comes
 abbrev pub over : ℕ → ℕ
 over n = if nat_lt n kept_entries then 0 else 1
 
@@ -44,7 +44,6 @@ abbrev pub counted_in : GuildLog → Edit → GuildLog
 counted_in l e = record {
   guild = after l.guild e;
   count = l.count + 1;
-  basis = state_from l.basis (take (over (length l.latest)) l.latest);
   latest = drop (over (length l.latest)) l.latest;
 }
 

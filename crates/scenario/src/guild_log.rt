@@ -1,6 +1,6 @@
 //! The log of a guild, of which the latest entries are kept.
-ghost use Rattle.std.specs.Prelude.{◌≡◌, ◌-◌, List, ◌++◌, ◌∷◌, [], None, length, take, drop, IfOk, OnOk};
-ghost use Rattle.edit_apply.specs.Edits.{verdict, applied, after, state_from};
+ghost use Rattle.std.specs.Prelude.{◌≡◌, ◌-◌, List, ◌++◌, ◌∷◌, [], None, length, drop, IfOk, OnOk};
+ghost use Rattle.edit_apply.specs.Edits.{verdict, applied, after};
 ghost use Rattle.world_law.specs.World.{kept_entries, look_at};
 ghost use Rattle.world_law.specs.Inputs.{Rebase};
 ghost use Rattle.worker_core.specs.Outputs.{IsGiven};
@@ -33,13 +33,11 @@ impl Model for Latest {
     ghost view = { λ l. l.entries.items };
 }
 
-/// A guild's log: how many entries it has, the record after all of them, the latest entries, and the
-/// record before these.
+/// A guild's log: the record after all entries, how many they are, and the latest of them.
 #[derive(Drop)]
 pub struct GuildLog {
     pub guild: Guild,
     pub count: usize,
-    pub basis: Guild,
     pub latest: Latest,
 }
 
@@ -57,17 +55,6 @@ fn make_copy(alloc: Global, guild: &mut Guild, edit: &Edit) -> Result<(), AllocE
     ensures { OnOk result (guild.new ≡ applied guild.old edit.now) }
 {
     make(alloc, guild, edit.copy(alloc)?)
-}
-
-// Adds an entry to a record, which a refused one leaves as it is.
-fn enter(alloc: Global, guild: &mut Guild, edit: Edit) -> Result<(), AllocError>
-    ensures { OnOk result (guild.new ≡ after guild.old edit) }
-{
-    if judge(guild, &edit).is_ok() {
-        return make(alloc, guild, edit);
-    }
-    drop(edit);
-    Ok(())
 }
 
 // Adds an entry to a record, and says why it is refused, if it is.
@@ -105,18 +92,13 @@ impl Latest {
         Ok(())
     }
 
-    // Removes the oldest entry, if there are as many as are kept, and adds it to the record before them.
-    fn make_room(&mut self, alloc: Global, basis: &mut Guild) -> Result<(), AllocError>
-        ensures basis { OnOk result (basis.new ≡ state_from basis.old (take (over (length self.old)) self.old)) }
-        ensures latest { OnOk result (self.new ≡ drop (over (length self.old)) self.old) }
+    // Removes the oldest entry, if there are as many as are kept.
+    fn make_room(&mut self)
+        ensures { self.new ≡ drop (over (length self.old)) self.old }
     {
-        if self.entries.len() < KEPT {
-            return Ok(());
+        if self.entries.len() >= KEPT {
+            drop(self.entries.pop_front());
         }
-        let Some(oldest) = self.entries.pop_front() else {
-            return Ok(());
-        };
-        enter(alloc, basis, oldest)
     }
 
     // Copies of the entries from a place on.
@@ -140,7 +122,6 @@ impl GuildLog {
         GuildLog {
             guild: Guild::closed(alloc, id),
             count: 0,
-            basis: Guild::closed(alloc, id),
             latest: Latest::new(alloc),
         }
     }
@@ -163,7 +144,7 @@ impl GuildLog {
         ensures answer { IfOk result (λ answer. answer ≡ verdict self.old.guild edit.now) }
         ensures log { OnOk result (self.new ≡ counted_in self.old edit.now) }
     {
-        self.latest.make_room(alloc, &mut self.basis)?;
+        self.latest.make_room();
         let Some(count) = self.count.checked_add(1) else {
             return Err(AllocError);
         };
@@ -178,8 +159,8 @@ impl GuildLog {
         self.count.saturating_sub(KEPT)
     }
 
-    /// The input of a look by a worker that was given this many entries: those that follow, or all that are
-    /// kept with the record before them, if the look lags.
+    /// The input of a look by a worker that was given this many entries: those that follow, or the record
+    /// after all entries, if the look lags.
     pub fn input_after(
         &self,
         alloc: Global,
@@ -196,15 +177,11 @@ impl GuildLog {
         Ok(Input::Look(guild, entries))
     }
 
-    // The input of a look that lags.
+    // The input of a look that lags: no entry follows the record after all of them.
     fn rebase(&self, alloc: Global, guild: Snowflake) -> Result<Input, AllocError>
         ensures { (es : List Edit) → self.now ≡ log_with guild es → IfOk result (λ input. IsGiven input (Rebase guild es)) }
     {
-        let entries = self.latest.copies_from(alloc, 0)?;
-        let Ok(basis) = self.basis.copy(alloc) else {
-            drop(entries);
-            return Err(AllocError);
-        };
-        Ok(Input::Rebase(guild, self.base() as u64, basis, entries))
+        let record = self.guild.copy(alloc)?;
+        Ok(Input::Rebase(guild, self.count as u64, record, Seq::new(alloc)))
     }
 }
