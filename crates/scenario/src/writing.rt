@@ -48,6 +48,9 @@ fn write_refusal<K: Sink>(
     ensures err { OnErr result (CarriesFront (K.got sink.old) (K.got sink.new) (K.waits sink.new) (K.waits sink.old ++ refused_text line refusal)) }
     ensures cause { FaultHasCause (K.faults sink.old) (K.faults sink.new) result }
 {
+    if refusal.is_none() {
+        return Ok(());
+    }
     text.clear();
     put_refusal(text, line, refusal)?;
     write_line(sink, text.as_slice())
@@ -63,6 +66,9 @@ fn write_lagged<K: Sink>(
     ensures err { OnErr result (CarriesFront (K.got sink.old) (K.got sink.new) (K.waits sink.new) (K.waits sink.old ++ lagged_text lagged)) }
     ensures cause { FaultHasCause (K.faults sink.old) (K.faults sink.new) result }
 {
+    if lagged.is_none() {
+        return Ok(());
+    }
     text.clear();
     put_lagged(text, lagged)?;
     write_line(sink, text.as_slice())
