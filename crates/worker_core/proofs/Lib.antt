@@ -9,3 +9,4 @@ pub mod Putting
 pub mod Wanting
 pub mod Numbering
 pub mod Moving
+pub mod Counting

@@ -28,7 +28,7 @@ use Rattle.worker_core.specs.declared.io.StepFault.{StepFault}
 use Rattle.worker_core.specs.declared.io.StepFault.TheVariants.{Spent}
 use Rattle.worker_core.proofs.Putting.{all_live, AreLive, look_sends_is, look_spends_is, looked_is, put_twice, puts_once}
 use Rattle.world_law.specs.Outputs.{Closes, Says, Sends, sends}
-use Rattle.worker_core.specs.Represents.{Fails, FaultBy, Represents, StepsTo, Takes, TakesNot}
+use Rattle.worker_core.specs.Represents.{Fails, FaultBy, Represents, StepsTo, Takes, TakesCounted, TakesNot}
 use Rattle.worker_core.specs.Telling.{FailsAt, TellsAt, further}
 use Rattle.world_law.specs.Inputs.{Frame, Input, Look, Rebase, open_sends, outputs, taken}
 use Rattle.worker_core.specs.Replies.{Greets, GreetsNot, Replies, RepliesNot, greeted, is_plain, plain, wanted_spends}
@@ -45,6 +45,7 @@ use Rattle.world_law.specs.Frames.{frame_sends, framed, move_at, older_sends}
 use Rattle.world_law.specs.Spent.{frame_spends, is_past, look_spends_by, spends}
 use Rattle.world_law.proofs.Logs.{from_id}
 use Rattle.worker_core.proofs.Representing.{input_kept}
+use Rattle.worker_core.proofs.Counting.{past_kept}
 use Rattle.worker_core.specs.Looked.{kept_looked, kept_sends, kept_spends}
 use Rattle.world_law.specs.Looks.{look_sends_by, looked_by, rebase_sends_by, rebased_by}
 use Rattle.world_law.specs.Keeping.{record_at, with_sessions}
@@ -390,10 +391,10 @@ module _ (k : KeptWorker) (conn : ℕ) where
 -- ---- in the words of the model
 
 pub steps : {V : Type 0} (k new : KeptWorker) (w : Worker) (i : Input) (items : V → List Written) (result : Result V StepFault) → Represents k w
-    → MatchResult result (λ out. Takes k i new (items out)) (TakesNot k i) → MatchResult result (λ out. StepsTo w i new (items out)) (Fails w i)
+    → MatchResult result (λ out. TakesCounted k i new (items out)) (TakesNot k i) → MatchResult result (λ out. StepsTo w i new (items out)) (Fails w i)
 steps k new w i items (Ok out) stands takes =
     let same = input_kept k.machine w stands.machine i in (
-      subst (λ (h : KeptWorker). Represents h (taken wire_model w i)) (sym takes.0) (record { goes_on = stands.goes_on; machine = same.0 }),
+      subst (λ (h : KeptWorker). Represents h (taken wire_model w i)) (sym takes.0) (record { goes_on = stands.goes_on; past = past_kept k w stands i; machine = same.0 }),
       (takes.1.0 ∙ ap all_written same.1.0, sym same.1.1 ∙ takes.1.1),
     )
 steps k new w i items (Err fault) stands takes = subst (λ b. FaultBy b fault) (input_kept k.machine w stands.machine i).1.1 takes

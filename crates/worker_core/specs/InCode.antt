@@ -55,9 +55,11 @@ in_code = record {
 abbrev pub KeptMachine : Type 0
 KeptMachine = Machine Replay (List Replica)
 
--- a worker's value, and the fault by which it is finished, if it is
+-- a worker's value: the fault by which it is finished, if it is, and the number of dispatches of the sessions that
+-- have ended, or 2^64 - 1 if there are more
 pub record KeptWorker : Type 0 where
   pub finished : Option StepFault
+  pub past : ℕ
   pub machine : KeptMachine
 
 -- what becomes of it

@@ -1,4 +1,5 @@
 pub mod InCode
+pub mod Made
 pub mod Outputs
 pub mod Represents
 pub mod Faults

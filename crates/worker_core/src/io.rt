@@ -1,6 +1,7 @@
 //! What a worker is given, what it sends, and why it stops.
 
 ghost use Rattle.std.specs.Prelude.{◌≡◌, [], ◌∷◌, ◌++◌, OnOk};
+ghost use Rattle.worker_core.specs.Represents.{may_end_by};
 
 use collections::{Seq, Text};
 use edit_apply::Edit;
@@ -28,6 +29,18 @@ pub enum Input {
     Closed(u32, u16),
     /// The time, in milliseconds. A time before the worker's own counts as the worker's.
     Tick(u64),
+}
+
+impl Input {
+    /// Whether sessions may end by this.
+    pub(crate) fn may_end_sessions(&self) -> bool
+        ensures { result ≡ may_end_by self.now }
+    {
+        match self {
+            Input::Rebase(_, _, _, _) | Input::Closed(_, _) | Input::Tick(_) => true,
+            Input::Look(_, _) | Input::Open(_) | Input::Frame(_, _) | Input::Lost(_) => false,
+        }
+    }
 }
 
 /// What a worker sends.

@@ -6,6 +6,7 @@ mod due;
 mod form_index;
 pub mod io;
 mod look;
+mod made;
 mod ready;
 mod recipients;
 pub mod replica;
@@ -14,5 +15,6 @@ mod wish;
 pub mod worker;
 
 pub use io::{Input, Output, StepFault};
+pub use made::Made;
 pub use replica::Replica;
 pub use worker::Worker;

@@ -1,6 +1,6 @@
 //! A worker: its state and its step.
 
-ghost use Rattle.std.specs.Prelude.{◌≡◌, ◌+◌, ℕ, List, [], ◌∷◌, false, true, max, flat_map, position, option_map, length, Some, None, Err, IfOk, OnOk, OnErr, MatchResult, IsSome};
+ghost use Rattle.std.specs.Prelude.{◌≡◌, ◌+◌, ◌-◌, ◌^◌, ℕ, List, [], ◌∷◌, false, true, max, min, flat_map, position, option_map, length, Some, None, Err, IfOk, OnOk, OnErr, MatchResult, IsSome};
 ghost use Rattle.std.specs.List.{list_all};
 ghost use Rattle.std.specs.Option.{option_map_or, option_copied};
 ghost use Rattle.collections.specs.ById.{IsById, find_id, has_id, put_id};
@@ -24,7 +24,8 @@ ghost use Rattle.world_law.specs.Model.{Worker as ModelWorker, first_worker};
 ghost use Rattle.world_law.specs.Spent.{is_past};
 ghost use Rattle.worker_core.specs.InCode.{replica_id, in_code, kept_after, after_frame};
 ghost use Rattle.worker_core.specs.Outputs.{IsGiven, written, all_written};
-ghost use Rattle.worker_core.specs.Represents.{Represents, StepsTo, Fails, Takes, TakesNot, FaultBy};
+ghost use Rattle.worker_core.specs.Represents.{Represents, StepsTo, Fails, Takes, TakesNot, TakesCounted, FaultBy, may_end, with_ended};
+ghost use Rattle.worker_core.specs.Made.{all_dispatches, live_dispatches};
 ghost use Rattle.worker_core.specs.Looked.{kept_looked, kept_sends, kept_spends};
 ghost use Rattle.worker_core.specs.Recipients.{viewer_of};
 ghost use Rattle.worker_core.specs.Telling.{TellsAt, FailsAt};
@@ -32,6 +33,7 @@ ghost use Rattle.worker_core.specs.Replies.{Greets, GreetsNot, Replies, RepliesN
 
 use crate::io::{Input, Output, StepFault, put};
 use crate::look::{apply_each, look};
+use crate::made::{Made, counted_more, live_dispatches};
 use crate::ready::{guild_creates, ready_guilds};
 use crate::replica::Replica;
 use crate::tell::tell;
@@ -57,6 +59,8 @@ pub struct Worker {
     clock: u64,
     /// How many chunks of members were made.
     chunks: u64,
+    /// How many dispatches the sessions had that have ended, or 2^64 - 1 if there were more.
+    past: u64,
     replicas: ById<Replica>,
     sessions: Sessions,
 }
@@ -66,7 +70,7 @@ impl Model for Worker {
 
     ghost Value = { KeptWorker };
 
-    ghost view = { λ w. record { finished = w.finished; machine = record { url = w.url; now = w.clock; chunks = w.chunks; logs = w.replicas; core = w.sessions } } };
+    ghost view = { λ w. record { finished = w.finished; past = w.past; machine = record { url = w.url; now = w.clock; chunks = w.chunks; logs = w.replicas; core = w.sessions } } };
 }
 
 impl Worker {
@@ -93,6 +97,7 @@ impl Worker {
             url,
             clock: 0,
             chunks: 0,
+            past: 0,
             replicas,
             sessions: Sessions::new(alloc, number, bots),
         })
@@ -112,10 +117,70 @@ impl Worker {
         if let Some(fault) = self.finished {
             return Err(fault);
         }
-        let given = self.take(input);
+        let given = self.take_counted(input);
         if let Err(fault) = &given {
             self.finished = Some(*fault);
         }
+        given
+    }
+
+    /// The numbers of sessions and of dispatches that the worker has made. Does not allocate.
+    pub fn made(&self) -> Made
+        ensures sessions { (w : ModelWorker) → Represents self.now w → result.sessions ≡ w.core.made }
+        ensures dispatches { (w : ModelWorker) → Represents self.now w → result.dispatches ≡ min (all_dispatches w.core.sessions) (2 ^ 64 - 1) }
+    {
+        let sessions = u64::from(self.sessions_made());
+        let dispatches = self.dispatches_made();
+        Made {
+            sessions,
+            dispatches,
+        }
+    }
+
+    fn sessions_made(&self) -> u32
+        ensures { result ≡ self.now.machine.core.made }
+    {
+        self.sessions.made()
+    }
+
+    fn dispatches_made(&self) -> u64
+        ensures { result ≡ min (self.now.past + live_dispatches self.now.machine.core.sessions) (2 ^ 64 - 1) }
+    {
+        counted_more(self.past, live_dispatches(&self.sessions))
+    }
+
+    fn live_dispatches(&self) -> u128
+        ensures { result ≡ live_dispatches self.now.machine.core.sessions }
+    {
+        live_dispatches(&self.sessions)
+    }
+
+    /// Counts the dispatches of the sessions that have ended, by how many the live ones had before.
+    fn count_ended(&mut self, before: u128)
+        ensures { self.new ≡ with_ended before self.old }
+    {
+        let ended = before.saturating_sub(live_dispatches(&self.sessions));
+        self.past = counted_more(self.past, ended);
+    }
+
+    /// Handles an input, and counts the dispatches of the sessions that end by it.
+    fn take_counted(&mut self, input: Input) -> Result<Vec<Output>, StepFault>
+        ensures { (i : ModelInput) → IsGiven input i → MatchResult result (λ out. TakesCounted self.old i self.new out.items) (TakesNot self.old i) }
+    {
+        if !input.may_end_sessions() {
+            return self.take(input);
+        }
+        self.take_ending(input)
+    }
+
+    /// The same of an input by which sessions may end.
+    fn take_ending(&mut self, input: Input) -> Result<Vec<Output>, StepFault>
+        ensures { (i : ModelInput) → IsGiven input i → may_end i ≡ true
+            → MatchResult result (λ out. TakesCounted self.old i self.new out.items) (TakesNot self.old i) }
+    {
+        let before = self.live_dispatches();
+        let given = self.take(input);
+        self.count_ended(before);
         given
     }
 

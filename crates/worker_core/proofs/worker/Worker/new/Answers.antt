@@ -3,6 +3,7 @@ use Rattle.std.proofs.Common.{◌≡◌, [], map, drop, refl, sym, ap, ◌∙◌
 use Rattle.collections.specs.ById.{put_all}
 use Rattle.guild_model.specs.Record.{own_id}
 use Rattle.worker_core.specs.InCode.{replica_id, guild_of}
+use Rattle.worker_core.proofs.Counting.{nothing_past}
 use Rattle.worker_core.proofs.Moving.{first_replica, first_all, first_records, ids_ascend, no_more}
 use Rattle.worker_core.proofs.worker.Worker.new.Goals as goal
 
@@ -12,6 +13,7 @@ loop-id-init c = ap (λ rs. put_all replica_id rs (map first_replica c.args.guil
 pub returns : goal.returns
 returns c = record {
   goes_on = refl;
+  past = nothing_past;
   machine = record {
     url = refl;
     now = refl;
