@@ -1,6 +1,6 @@
 -- How many dispatches there are, as sessions are made, are sent more, and end.
 use Rattle.std.proofs.Common.{◌≡◌, ℕ, ◌+◌, ◌-◌, ◌^◌, ◌≤◌, List, [], ◌∷◌, ◌++◌, Bool, true, false, Option, Some, None, Result, Ok, Err, if◌then◌else◌, length, min, map, refl, sym, ap, ◌∙◌, arith}
-use Rattle.std.specs.Prelude.{◌==◌, ◌&&◌, flat_map, max, nat_lt, MatchResult}
+use Rattle.std.specs.Prelude.{◌==◌, flat_map, max, nat_lt, MatchResult}
 use Rattle.std.specs.List.{sum_by}
 use Rattle.std.proofs.lemmas.List.Sums.{sum_by-cons, sum_by-append, sum_by_push}
 use Rattle.guild_model.specs.Record.{Record}
@@ -10,10 +10,10 @@ use Rattle.edit_apply.specs.Edits.{after}
 use Rattle.edit_apply.specs.declared.Edit.{Edit}
 use Rattle.replay_ring.specs.Replay.{Replay}
 use Rattle.session_core.specs.declared.bot.Bot.{Bot}
-use Rattle.session_core.specs.State.{State, Session, Condition, Attached, Detached, Ended, is_on, is_live, has_connection, released, opened, gone, begun}
+use Rattle.session_core.specs.State.{State, Session, Condition, Attached, Detached, Ended, is_on, is_live, has_connection, released, opened, gone}
 use Rattle.session_core.specs.Frames.{Want, Members, Presence, Voice, Move, Nothing, Answers, ClosesWith, Begins, Denies, Resumes, Wants, moved, framed as with_frame}
-use Rattle.session_core.specs.Resume.{joined, attached_to, cut, resumed}
-use Rattle.session_core.specs.Ends.{is_final, is_overdue, lost, all_gone, left, client_closed, expired, ticked, silent_of, all_ended}
+use Rattle.session_core.specs.Resume.{joined, resumed}
+use Rattle.session_core.specs.Ends.{is_final, is_overdue, lost, all_gone, left, client_closed, expired, ticked, silent_of}
 use Rattle.world_law.specs.Keeping.{Cursors, record_at}
 use Rattle.world_law.specs.Sent.{Sent, ended_at}
 use Rattle.world_law.specs.Looks.{after_entry, entered, looked, looked_by, rebased_by}
@@ -31,7 +31,7 @@ use Rattle.worker_core.specs.declared.io.StepFault.{StepFault}
 use Rattle.worker_core.specs.Outputs.{IsGiven}
 use Rattle.worker_core.proofs.Representing.{input_kept}
 use Rattle.worker_core.specs.Made.{dispatch_count, all_dispatches, ended_count, ended_dispatches, last_number, live_dispatches}
-use Rattle.worker_core.specs.Represents.{Represents, counted, kept_session, kept, TakesNot, Takes, TakesCounted, may_end, may_end_by, past_with, with_ended, past_after, counted_after}
+use Rattle.worker_core.specs.Represents.{Represents, counted, kept_session, kept, TakesNot, Takes, TakesCounted, may_end, may_end_by, past_with, with_ended, past_after}
 
 -- ---- sums
 
