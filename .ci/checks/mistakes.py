@@ -197,8 +197,8 @@ def try_little_memory(gate, folder):
     path = os.path.join(folder, "large.jsonl")
     channel = edit(CHANNEL % '"type":0')
     with open(path, "w") as file:
-        file.writelines(line + "\n" for line in [*OPENED, channel, *(edit(MESSAGE % (number, "x" * 2000, 0)) for number in range(100, 16000))])
-    limit = lambda: resource.setrlimit(resource.RLIMIT_AS, (24 << 20, 24 << 20))
+        file.writelines(line + "\n" for line in [*OPENED, channel, *(edit(MESSAGE % (number, "x" * 2000, 0)) for number in range(100, 5000))])
+    limit = lambda: resource.setrlimit(resource.RLIMIT_AS, (10 << 20, 10 << 20))
     run = subprocess.run([gate, "run", path], capture_output=True, timeout=60, preexec_fn=limit)
     compare("little memory", (6, b"", said(6, f"out of memory while playing {path}")), (run.returncode, run.stdout, run.stderr.decode()))
 
