@@ -27,8 +27,8 @@ pub front_out : (got0 got1 : Known (List ℕ)) (waits text : List ℕ) → Carri
 front_out got0 got1 waits text h = (h.sent, waits ++ h.back, sym (append_assoc h.sent waits h.back) ∙ h.is, h.wrote)
 
 -- how the usage line was written
-pub tells_usage : (r : Result (Unit {0}) Fault) (got0 got1 : Known (List ℕ)) (f0 f1 : ℕ) → OnOk r (Appends got0 got1 usage) → OnErr r (AppendsFront got0 got1 usage) → FaultHasCause f0 f1 r
-    → TellsUsage got0 got1 f0 f1 (usage_status r)
-tells_usage (Ok x) got0 got1 f0 f1 ok err cause = inl (refl, ok, cause.ok)
-tells_usage (Err outside.Failed) got0 got1 f0 f1 ok err cause = inr (inl (refl, err, cause.failed refl))
-tells_usage (Err outside.Memory) got0 got1 f0 f1 ok err cause = inr (inr (refl, err))
+pub tells_usage : (r : Result (Unit {0}) Fault) (got0 got1 : Known (List ℕ)) (before : List ℕ) (f0 f1 : ℕ) → OnOk r (Appends got0 got1 (before ++ usage)) → OnErr r (AppendsFront got0 got1 (before ++ usage))
+    → FaultHasCause f0 f1 r → TellsUsage got0 got1 before f0 f1 (usage_status r)
+tells_usage (Ok x) got0 got1 before f0 f1 ok err cause = inl (refl, ok, cause.ok)
+tells_usage (Err outside.Failed) got0 got1 before f0 f1 ok err cause = inr (inl (refl, err, cause.failed refl))
+tells_usage (Err outside.Memory) got0 got1 before f0 f1 ok err cause = inr (inr (refl, err))

@@ -1,5 +1,5 @@
 -- What the command answers and leaves.
-use Rattle.std.specs.Prelude.{◌≡◌, ◌⊎◌, ℕ, List, Result, Ok, Err, Some, None, MatchResult}
+use Rattle.std.specs.Prelude.{◌≡◌, ◌⊎◌, ℕ, List, ◌++◌, Result, Ok, Err, Some, None, MatchResult}
 use Rattle.std.specs.declared.option.Option.{Option}
 use Rattle.gate_outside.specs.declared.asked.Asked.{Asked}
 use Rattle.gate_outside.specs.declared.asked.Asked.TheVariants as asked
@@ -33,14 +33,14 @@ fault_of (Err fault) = Some fault
 abbrev pub NotGiven : (returned0 returned1 : Option (List ReturnedSource)) (got0 got1 : Option (List ℕ)) → Result (Unit {0}) PlayFault → Type 0
 NotGiven returned0 returned1 got0 got1 played = (returned1 ≡ returned0) × (got1 ≡ got0) × ((played ≡ Err Read) ⊎ (played ≡ Err Memory))
 
--- a source of these bytes was played, and put back
-abbrev pub Given : Option (List ℕ) → (returned0 returned1 : Option (List ReturnedSource)) (got0 got1 : Option (List ℕ)) → Result (Unit {0}) PlayFault → Type 0
-Given own returned0 returned1 got0 got1 played = (left0 left1 : Option (List ℕ)) × ((faults : ℕ) × (GivesOwn own left0
-    × MatchResult played (λ _. PlaysAll left0 left1 got0 got1) (PlaysTo left0 left1 got0 got1)
+-- a source of these bytes was played, after the bytes that waited before the sink, and put back
+abbrev pub Given : Option (List ℕ) → (returned0 returned1 : Option (List ReturnedSource)) (got0 got1 : Option (List ℕ)) → (before : List ℕ) → Result (Unit {0}) PlayFault → Type 0
+Given own returned0 returned1 got0 got1 before played = (left0 left1 : Option (List ℕ)) × ((faults : ℕ) × (GivesOwn own left0
+    × MatchResult played (λ _. PlaysAll left0 left1 got0 got1 before) (PlaysTo left0 left1 got0 got1 before)
     × GrowsBy returned0 returned1 (returned_source left1 faults)))
 
-abbrev pub Runs : Option (List ℕ) → (returned0 returned1 : Option (List ReturnedSource)) (got0 got1 : Option (List ℕ)) → Result (Unit {0}) PlayFault → Type 0
-Runs own returned0 returned1 got0 got1 played = NotGiven returned0 returned1 got0 got1 played ⊎ Given own returned0 returned1 got0 got1 played
+abbrev pub Runs : Option (List ℕ) → (returned0 returned1 : Option (List ReturnedSource)) (got0 got1 : Option (List ℕ)) → (before : List ℕ) → Result (Unit {0}) PlayFault → Type 0
+Runs own returned0 returned1 got0 got1 before played = NotGiven returned0 returned1 got0 got1 played ⊎ Given own returned0 returned1 got0 got1 before played
 
 -- the file was asked for once, or memory ran out before
 abbrev pub AsksOnce : (asks0 asks1 : Option (List Asked)) → List ℕ → Result (Unit {0}) PlayFault → Type 0
@@ -51,12 +51,13 @@ usage_status (Ok x) = 2
 usage_status (Err outside.Failed) = 2
 usage_status (Err outside.Memory) = 6
 
--- the whole usage line, or a front of it if the sink's count rose or memory ran out
-abbrev pub TellsUsage : (got0 got1 : Option (List ℕ)) → (faults0 faults1 : ℕ) → (status : ℕ) → Type 0
-TellsUsage got0 got1 faults0 faults1 status =
-    ((status ≡ 2) × Appends got0 got1 usage × (faults1 ≡ faults0))
-    ⊎ (((status ≡ 2) × AppendsFront got0 got1 usage × Rose faults0 faults1)
-    ⊎ ((status ≡ 6) × AppendsFront got0 got1 usage))
+-- the whole usage line after the bytes that waited before the sink, or a front of both if the sink's count rose or
+-- memory ran out
+abbrev pub TellsUsage : (got0 got1 : Option (List ℕ)) → (before : List ℕ) → (faults0 faults1 : ℕ) → (status : ℕ) → Type 0
+TellsUsage got0 got1 before faults0 faults1 status =
+    ((status ≡ 2) × Appends got0 got1 (before ++ usage) × (faults1 ≡ faults0))
+    ⊎ (((status ≡ 2) × AppendsFront got0 got1 (before ++ usage) × Rose faults0 faults1)
+    ⊎ ((status ≡ 6) × AppendsFront got0 got1 (before ++ usage)))
 
 -- no door and no clock was put back, no door failed, and each name has the bytes that it had
 pub record LeavesRest (old new : HouseTale) : Type 0 where

@@ -1,5 +1,5 @@
 //! The command, over a house.
-ghost use Rattle.std.specs.Prelude.{◌≡◌, ◌++◌, [], ℕ, List, Result, Some, None, true, is_some, map, string_bytes, OnOk, OnErr};
+ghost use Rattle.std.specs.Prelude.{◌≡◌, ◌++◌, ℕ, List, Result, Some, None, true, is_some, map, string_bytes, OnOk, OnErr};
 ghost use Rattle.std.specs.Io.KnownBytes.{Appends};
 ghost use Rattle.world_law.specs.TheLaw.{TheLaw};
 ghost use Rattle.gate_outside.specs.Causes.{FaultHasCause};
@@ -74,9 +74,9 @@ fn run<H: House>(
     house: &mut H,
     sink: &mut H::Out,
 ) -> Result<(), PlayFault>
-    ensures runs { H.Out.waits sink.old ≡ [] → Runs ((H.house_tale house.old).contents file.now)
+    ensures runs { Runs ((H.house_tale house.old).contents file.now)
         (H.house_tale house.old).sources (H.house_tale house.new).sources
-        (H.Out.got sink.old) (H.Out.got sink.new) result }
+        (H.Out.got sink.old) (H.Out.got sink.new) (H.Out.waits sink.old) result }
     ensures asks { AsksOnce (H.house_tale house.old).asks (H.house_tale house.new).asks
         file.now result }
     ensures cause { PlayCause
@@ -120,7 +120,7 @@ fn write_usage<K: Sink>(sink: &mut K) -> Result<(), faults::Fault>
 
 // Tells how to call the program.
 fn refuse<K: Sink>(sink: &mut K) -> u8
-    ensures { K.waits sink.old ≡ [] → TellsUsage (K.got sink.old) (K.got sink.new) (K.faults sink.old) (K.faults sink.new) result }
+    ensures { TellsUsage (K.got sink.old) (K.got sink.new) (K.waits sink.old) (K.faults sink.old) (K.faults sink.new) result }
 {
     usage_status(write_usage(sink))
 }
@@ -130,8 +130,8 @@ fn refuse<K: Sink>(sink: &mut K) -> u8
 /// 6 if memory runs out, 12 if a count is at its last value. For other words it writes the usage
 /// line and answers 2, or 6 if memory runs out.
 ///
-/// `fault` is then why the play did not come to its end; `None` if it did, or if nothing was played.
-/// What the sink gets is told for one where nothing waited before.
+/// What waited before the sink goes out first. `fault` is then why the play did not come to its end;
+/// `None` if it did, or if nothing was played.
 pub fn gate<H: House>(
     alloc: Global,
     words: &[String],
@@ -140,20 +140,21 @@ pub fn gate<H: House>(
     fault: &mut Option<PlayFault>,
 ) -> u8
     ensures words { result ≡ 2 → run_file (map string_bytes words.now) ≡ None }
-    ensures usage { run_file (map string_bytes words.now) ≡ None → H.Out.waits sink.old ≡ [] → TellsUsage (H.Out.got sink.old) (H.Out.got sink.new) (H.Out.faults sink.old) (H.Out.faults sink.new) result }
+    ensures usage { run_file (map string_bytes words.now) ≡ None → TellsUsage (H.Out.got sink.old) (H.Out.got sink.new)
+        (H.Out.waits sink.old) (H.Out.faults sink.old) (H.Out.faults sink.new) result }
     ensures asks_nothing { run_file (map string_bytes words.now) ≡ None
         → H.house_tale house.new ≡ H.house_tale house.old }
     ensures run { (file : List ℕ) → run_file (map string_bytes words.now) ≡ Some file → (played : Result (Unit {0}) Fault) × (result ≡ status_of played)
-        × (H.Out.waits sink.old ≡ [] → Runs ((H.house_tale house.old).contents file)
+        × Runs ((H.house_tale house.old).contents file)
         (H.house_tale house.old).sources (H.house_tale house.new).sources
-        (H.Out.got sink.old) (H.Out.got sink.new) played)
+        (H.Out.got sink.old) (H.Out.got sink.new) (H.Out.waits sink.old) played
         × AsksOnce (H.house_tale house.old).asks (H.house_tale house.new).asks file played
         × PlayCause (H.house_tale house.old).source_faults (H.house_tale house.new).source_faults
         (H.Out.faults sink.old) (H.Out.faults sink.new) played }
     ensures fault { (file : List ℕ) → run_file (map string_bytes words.now) ≡ Some file → (played : Result (Unit {0}) Fault) × (fault.new ≡ fault_of played) × (result ≡ status_of played)
-        × (H.Out.waits sink.old ≡ [] → Runs ((H.house_tale house.old).contents file)
+        × Runs ((H.house_tale house.old).contents file)
         (H.house_tale house.old).sources (H.house_tale house.new).sources
-        (H.Out.got sink.old) (H.Out.got sink.new) played) }
+        (H.Out.got sink.old) (H.Out.got sink.new) (H.Out.waits sink.old) played }
     ensures rest { LeavesRest (H.house_tale house.old) (H.house_tale house.new) }
     ensures dial { H.tale house.new ≡ H.tale house.old }
     ensures dial_faults { H.faults house.new ≡ H.faults house.old }

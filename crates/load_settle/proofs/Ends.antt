@@ -1,14 +1,13 @@
 -- How a reader comes to the end of a sealed log.
-use Rattle.std.proofs.Common.{◌≡◌, ℕ, ◌<◌, ◌≤◌, true, false, List, [], ◌∷◌, ◌++◌, length, drop, append-nil, append_assoc, sym, ap, subst, refl, ◌∙◌, arith}
+use Rattle.std.proofs.Common.{◌≡◌, ℕ, ◌<◌, true, List, [], ◌∷◌, ◌++◌, length, drop, append-nil, append_assoc, sym, ap, subst, refl, ◌∙◌, arith}
 use Rattle.std.proofs.lemmas.Bool.Decides.{nat_tests}
 use Rattle.guild_hub.specs.Logs.{Published, GoesOn, base_of, record_after}
 use Rattle.guild_hub.specs.Marks.{EndsWithLoad}
-use Rattle.guild_hub.specs.Sights.{Seeing, Fits, segment, end_of, with_more, has_quit}
-use Rattle.guild_hub.specs.Looks.{Looks, Lags, Rebases}
+use Rattle.guild_hub.specs.Sights.{Seeing, Fits, segment, end_of, has_quit}
+use Rattle.guild_hub.specs.Looks.{Lags, Rebases}
 use Rattle.guild_hub.specs.declared.mark_step.MarkStep.{MarkStep}
-use Rattle.guild_hub.specs.declared.reader.Looked.{Looked}
 use Rattle.guild_hub.specs.declared.reader.Rebased.{Rebased}
-use Rattle.guild_hub.specs.declared.reader.LookRefused.TheVariants.{Lagged, Memory}
+use Rattle.guild_hub.specs.declared.reader.LookRefused.TheVariants.{Lagged}
 use Rattle.load_settle.specs.Readers.{lags, seen_whole, found_whole, SeesToEnd, Stays}
 
 pub same_log : (a : Published) → GoesOn a a
@@ -35,34 +34,6 @@ stays_told before told after on is stays = record {
   mark = stays.mark ∙ ap (λ (s : Seeing). s.mark) is;
   quit = λ quit. stays.quit (ap (λ (s : Seeing). has_quit s) is ∙ quit);
 }
-
--- out of memory at the look
-pub stays_refused : (before after : Seeing) → Lags before Memory after → Stays before after
-stays_refused before after lagged = record { last = lagged.2; log = lagged.0.log; mark = lagged.0.mark; quit = lagged.0.quit }
-
--- out of memory at the rebase
-pub stays_lagged : (before mid after : Seeing) (base cursor : ℕ) → Lags before (Lagged base cursor) mid → after ≡ record mid { enters = after.enters } → Stays before after
-stays_lagged before mid after base cursor lagged is = record {
-  last = ap (λ (s : Seeing). s.last) is ∙ lagged.2;
-  log = subst (GoesOn before.log) (sym (ap (λ (s : Seeing). s.log) is)) lagged.0.log;
-  mark = ap (λ (s : Seeing). s.mark) is ∙ lagged.0.mark;
-  quit = λ quit. ap (λ (s : Seeing). has_quit s) is ∙ lagged.0.quit quit;
-}
-
--- a look that does not lag
-pub looks_whole : (before after : Seeing) (looked : Looked) → before.log.sealed ≡ true → EndsWithLoad before.mark_steps after.mark_steps → Looks before looked after → SeesToEnd before.log before after
-looks_whole before after looked sealed load looks =
-    let same : after.log ≡ before.log = looks.steps.log.final sealed in
-    let kept : base_of before.log ≤ end_of before.last = subst (λ (l : Published). base_of l ≤ end_of before.last) same looks.kept in
-    let all : lags before.log before.last ≡ false = grind (arith, nat_tests, kept) in record {
-      steps = looks.steps;
-      load = load;
-      enters = looks.enters ∙ rw (all, same) refl;
-      log = same;
-      last = looks.last ∙ ap (with_more before.last) looks.entries ∙ rw (all, same) refl;
-      fits = subst (Fits after.last) same looks.steps.fits;
-      reaches = looks.reaches ∙ ap (λ (l : Published). length l.entries) same;
-    }
 
 kept_whole : (rebased : Rebased) (found log : Published) → found ≡ log → rebased.base ≡ base_of found → rebased.basis ≡ record_after found rebased.base → rebased.entries.items ≡ drop rebased.base found.entries
     → segment rebased.base rebased.basis rebased.entries.items ≡ segment (base_of log) (record_after log (base_of log)) (drop (base_of log) log.entries)

@@ -1,5 +1,5 @@
 -- Bytes of a step file, as they come.
-use Rattle.std.proofs.Common.{◌≡◌, ℕ, ◌+◌, ◌<◌, ◌≤◌, List, [], ◌∷◌, ◌++◌, Result, Ok, Err, MatchResult, OnOk, length, refl, sym, ap, ◌∙◌, subst, append_assoc, append-nil, length-append, arith}
+use Rattle.std.proofs.Common.{◌≡◌, ℕ, ◌+◌, ◌<◌, List, [], ◌∷◌, ◌++◌, Result, Ok, Err, MatchResult, OnOk, length, refl, sym, ap, ◌∙◌, subst, append_assoc, append-nil, arith}
 use Rattle.std.specs.declared.option.Option.{Option as Known}
 use Rattle.edit_text.specs.declared.reader_state.ReaderState.{ReaderState}
 use Rattle.edit_text.specs.Lines.{reader_after}
@@ -10,18 +10,10 @@ use Rattle.scenario.specs.Lines.{whole_lines, tail, lines_of, last_line, IsPiece
 use Rattle.scenario.specs.Server.{Server, first_server}
 use Rattle.scenario.specs.Transcript.{first_reader, Whole, text_from, run_text, run_ending, text_of, reader_of, server_of, transcript, ending}
 use Rattle.gate_outside.specs.Streams.{Carries, CarriesFront}
-use Rattle.scenario.specs.Played.{Leaves, RunsLine, IsCounted, Playing, LeavesAt, Anything, Nothing, Fits, room}
+use Rattle.scenario.specs.Played.{Leaves, RunsLine, Playing, LeavesAt, Anything, Nothing}
 use Rattle.gate_outside.proofs.Fronts.{front_before, carries_front}
 use Rattle.scenario.proofs.Lists.{whole_line, tail_line, whole_part, tail_part, lines_from, lines-more, Begins, begun}
 use Rattle.scenario.proofs.Stops.{reader-more, text-more, ends_among, line_is_run, long_text, long_ending, long_stops}
-
--- a line takes at least the room of its last piece and the line feed
-pub line_room : (old new : FileRunner) (piece line : List ℕ) → line ≡ old.part.items ++ piece → IsCounted old.reader line new.reader → new.part.items ≡ []
-    → Fits old → Fits new × (room new + (length piece + 1) ≤ room old)
-line_room old new piece line is counted none fits =
-    let count : length line ≡ length old.part.items + length piece = ap length is ∙ length-append old.part.items piece in
-    let empty : length new.part.items ≡ 0 = ap length none in
-    ((omega (arith, counted.few, counted.next), omega (arith, empty)), omega (arith, counted.few, counted.short, counted.next, count, empty))
 
 last_is : (part : List ℕ) (b : ℕ) (bs : List ℕ) → part ≡ b ∷ bs → last_line part ≡ part ∷ []
 last_is part b bs e = subst (λ l. last_line l ≡ l ∷ []) (sym e) refl

@@ -1,5 +1,5 @@
 -- A piece of the file, line by line.
-use Rattle.std.proofs.Common.{◌≡◌, ℕ, ◌+◌, ◌≤◌, List, [], ◌∷◌, ◌++◌, Result, Ok, Err, MatchResult, OnOk, length, refl, sym, ap, ◌∙◌, append_assoc, append-nil, length-append, arith}
+use Rattle.std.proofs.Common.{◌≡◌, ℕ, ◌+◌, ◌≤◌, List, [], ◌∷◌, ◌++◌, Result, Ok, Err, MatchResult, OnOk, length, sym, ap, ◌∙◌, append_assoc, length-append, arith}
 use Rattle.std.specs.declared.option.Option.{Option}
 use Rattle.scenario.specs.declared.fault.PlayFault.{PlayFault}
 use Rattle.scenario.specs.declared.file_runner.FileRunner.{FileRunner}
@@ -12,14 +12,6 @@ pub record Fed (chunk : List ℕ) (got0 got1 : Option (List ℕ)) (waits0 waits1
   pub is : chunk ≡ front ++ rest
   pub plays : (got : Option (List ℕ)) (bytes : List ℕ) → Playing got got0 waits0 old bytes → Playing got got1 waits1 now (bytes ++ front)
   pub fits : Fits old → Fits now × (room now + length front ≤ room old)
-
-pub fed_none : (chunk : List ℕ) (got : Option (List ℕ)) (waits : List ℕ) (k : FileRunner) → Fed chunk got got waits waits k k chunk
-fed_none chunk got waits k = record {
-  front = [];
-  is = refl;
-  plays = λ got bytes playing. rw (append-nil bytes) playing;
-  fits = λ fits. (fits, omega arith);
-}
 
 module _ (chunk : List ℕ) (got0 got1 got2 : Option (List ℕ)) (waits0 waits1 waits2 : List ℕ) (old now : FileRunner) (rest : List ℕ) (fed : Fed chunk got0 got1 waits0 waits1 old now rest) where
   -- the next line

@@ -6,17 +6,13 @@ use Rattle.worker_core.specs.declared.io.Output.{Output}
 use Rattle.scenario.specs.Server.{Server, follow, followed}
 use Rattle.scenario.specs.Transcript.{output_text, outputs_text}
 use Rattle.gate_outside.specs.Streams.{Carries, CarriesFront}
-use Rattle.gate_outside.proofs.Fronts.{carries_more, front_of_more, front_before, carries_front}
+use Rattle.gate_outside.proofs.Fronts.{carries_more, front_of_more, front_before}
 
 -- a text, and then more
 module _ (got0 got1 got2 : Option (List ℕ)) (waits0 waits1 waits2 text more : List ℕ) where
   -- a front of the text alone
   pub text_stops : CarriesFront got0 got1 waits1 (waits0 ++ text) → CarriesFront got0 got1 waits1 (waits0 ++ (text ++ more))
   text_stops front = rw (append_assoc waits0 text more) at (front_before got0 got1 waits1 (waits0 ++ text) more front)
-
-  -- the text alone
-  pub text_whole : Carries got0 got1 waits1 (waits0 ++ text) → CarriesFront got0 got1 waits1 (waits0 ++ (text ++ more))
-  text_whole whole = text_stops (carries_front got0 got1 waits1 (waits0 ++ text) whole)
 
   -- the text, and a front of what follows
   pub more_stops : Carries got0 got1 waits1 (waits0 ++ text) → CarriesFront got1 got2 waits2 (waits1 ++ more) → CarriesFront got0 got2 waits2 (waits0 ++ (text ++ more))

@@ -1,5 +1,5 @@
 -- One line, as it is read and played.
-use Rattle.std.proofs.Common.{◌≡◌, ◌⊎◌, ℕ, List, [], ◌++◌, false, Option, Some, None, Result, Ok, Err, OnOk, if◌then◌else◌, inl, inr, refl, sym, ap, ◌∙◌, subst, append-nil}
+use Rattle.std.proofs.Common.{◌≡◌, ◌⊎◌, ℕ, List, ◌++◌, false, Option, Some, Result, Ok, Err, OnOk, if◌then◌else◌, inl, inr, refl, sym, ap, ◌∙◌, subst}
 use Rattle.std.specs.declared.option.Option.{Option as Known}
 use Rattle.gate_outside.specs.declared.faults.Fault.{Fault}
 use Rattle.gate_outside.specs.declared.faults.Fault.TheVariants as outside
@@ -19,17 +19,13 @@ use Rattle.scenario.specs.Transcript.{head_text, outputs_text, Ending, Whole, Sp
 use Rattle.scenario.specs.Represents.{Represents, PlaysNot}
 use Rattle.gate_outside.specs.Streams.{Carries, CarriesFront}
 use Rattle.scenario.specs.Played.{fault_of, step_fault, answer_text, Leaves, RunsLine}
-use Rattle.gate_outside.proofs.Fronts.{puts, puts_front}
+use Rattle.gate_outside.proofs.Fronts.{puts_front}
 
 -- ---- what was read
 
 pub read_ok : (result answer : Result (Option Line) LineFault) (x : Option Line) → result ≡ Ok x → UnlessMemory result answer → answer ≡ Ok x
 read_ok result answer x is (inl none) = absurd (cc)
 read_ok result answer x is (inr same) = sym same ∙ is
-
-pub read_err : (result answer : Result (Option Line) LineFault) (f : LineFault) → result ≡ Err f → ¬ (f ≡ Memory) → UnlessMemory result answer → answer ≡ Err f
-read_err result answer f is other (inl none) = absurd (other (cc))
-read_err result answer f is other (inr same) = sym same ∙ is
 
 -- ---- a line that is played
 
@@ -61,12 +57,6 @@ module _ (r : ReaderState) (p : Server) (bytes : List ℕ) (number : ℕ) (count
   runs_line new line is stands wrote spends =
       subst (λ o. RunsAs o (reader_after r bytes).lines new) (sym is)
       (subst (λ n. RunsAs (Ok (Some line)) n new) counted (stands, (wrote, ap (λ b. if b then Spends else Whole) spends)))
-
-  pub runs_blank : (new : KeptServer) → line_of r bytes ≡ Ok None → Represents new p → got1 ≡ got0 → waits1 ≡ waits0 → RunsLine r p bytes got0 got1 waits0 waits1 new
-  unfolding RunsAs
-  runs_blank new is stands same wait =
-      let nothing : Carries got0 got0 waits1 (waits0 ++ []) = puts got0 waits0 waits1 [] (wait ∙ sym (append-nil waits0)) in
-      subst (λ o. RunsAs o (reader_after r bytes).lines new) (sym is) (stands, (subst (λ (g : Known (List ℕ)). Carries got0 g waits1 (waits0 ++ [])) (sym same) nothing, refl))
 
   pub ends_as : (o : Result (Option Line) LineFault) (fault : PlayFault) → line_of r bytes ≡ o → Leaves got0 got1 waits1 (waits0 ++ read_text p number o) (read_ending p number o) fault
       → Leaves got0 got1 waits1 (waits0 ++ run_text r p bytes) (run_ending r p bytes) fault

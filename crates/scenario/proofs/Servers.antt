@@ -1,15 +1,13 @@
 -- What lines make of the server.
-use Rattle.std.proofs.Common.{◌≡◌, ℕ, List, [], ◌∷◌, ◌++◌, Bool, true, false, Option, Some, None, Result, MatchResult, if◌then◌else◌, length, refl, sym, ap, ◌∙◌, subst, arith}
+use Rattle.std.proofs.Common.{◌≡◌, ℕ, List, [], ◌∷◌, ◌++◌, Bool, true, false, Option, Some, None, IsSome, Result, MatchResult, if◌then◌else◌, length, refl, sym, ap, ◌∙◌, subst, arith}
 use Rattle.std.specs.Prelude.{◌==◌, ◌||◌, is_some, option_map}
 use Rattle.std.proofs.lemmas.Bool.{eqb-true}
 use Rattle.std.proofs.lemmas.Bool.Decides.{nat_tests}
 use Rattle.collections.specs.ById.{find_id, has_id, put_id, put_all}
-use Rattle.collections.proofs.Finds.{find-put}
+use Rattle.collections.proofs.Finds.{find-put, key-found}
 use Rattle.collections.proofs.Has.{has-put}
 use Rattle.guild_model.specs.Record.{own_id}
-use Rattle.guild_model.specs.declared.verdict.Verdict.TheVariants.{NotOpen}
 use Rattle.dispatch_types.specs.Fold.{contains}
-use Rattle.edit_apply.specs.Edits.{verdict, state}
 use Rattle.edit_apply.specs.declared.Edit.{Edit}
 use Rattle.edit_text.specs.declared.line.Line.{Line}
 use Rattle.edit_text.specs.declared.line.Line.TheVariants as line
@@ -22,13 +20,13 @@ use Rattle.world_law.specs.Inputs.{Input, Look, Open, Frame, Lost, Closed, Tick}
 use Rattle.world_law.specs.World.{first_world}
 use Rattle.worker_core.specs.declared.io.StepFault.{StepFault}
 use Rattle.worker_core.specs.declared.io.Output.{Output as Written}
-use Rattle.world_law.proofs.Logs.{state_id}
+use Rattle.world_law.proofs.Folds.{same_id}
+use Rattle.world_law.proofs.Logs.{from_id, state_id}
 use Rattle.scenario.specs.declared.guild_log.GuildLog.{GuildLog}
 use Rattle.scenario.specs.declared.opened.Opened.{Opened}
 use Rattle.scenario.specs.declared.worker_slot.WorkerSlot.{WorkerSlot}
 use Rattle.scenario.specs.declared.server.Server.{Server as KeptServer}
-use Rattle.scenario.specs.Server.{Server, first_workers, world, given, for_worker, step_of, with_step, with_line, noted, opened_id, worker_id, lag_of, refusal, log, step_sends, step_spends}
-use Rattle.scenario.specs.Transcript.{line_lag}
+use Rattle.scenario.specs.Server.{Server, first_workers, world, given, for_worker, step_of, with_step, with_line, noted, opened_id, log, step_sends, step_spends}
 use Rattle.scenario.specs.Represents.{log_id, log_with, added, SlotsRepresent, guilds_of, HasSlotsOnceStepped, IsFull, Keeps, Represents, all_moved, all_sends, any_spends, SlotsStep, SlotsFail, Plays, PlaysNot, Gives}
 use Rattle.scenario.proofs.Latest.{log_more}
 use Rattle.scenario.proofs.Slots.{by_result}
@@ -77,6 +75,13 @@ contains_all id gs h = contains_found id (put_all own_id [] gs) ∙ has_all gs [
 
 pub log_keyed : (g : ℕ) (es : List Edit) → log_id (log_with g es) ≡ g
 log_keyed g es = state_id g es
+
+-- while a log is out, the one held in its place keeps that place
+pub place_kept : (logs : List GuildLog) (held l : GuildLog) (e : Edit) → find_id log_id (log_id held) logs ≡ Some l → IsSome (find_id log_id (log_id (added l e)) (put_id log_id held logs))
+place_kept logs held l e found =
+    let same : log_id (added l e) ≡ log_id held = from_id l.guild (e ∷ []) ∙ key-found log_id (log_id held) logs l found in
+    ap is_some (ap (λ n. find_id log_id n (put_id log_id held logs)) same
+    ∙ (find-put log_id held (log_id held) logs ∙ ap (λ b. if b then Some held else find_id log_id (log_id held) logs) (same_id (log_id held))))
 
 -- ---- slots
 
@@ -256,38 +261,7 @@ look_plays items r old new p worker g slots keeps there bots guilds logs used st
     (ap (λ b. if b then Some (Looks worker g) else None) there)
     refl refl refl refl start.0 start.1 steps
 
--- a log that is not kept is that of a guild without a head line
-pub undeclared : (old : KeptServer) (p : Server) (g : ℕ) → Keeps old p → is_some (find_id log_id g old.logs) ≡ false → contains g p.guilds ≡ false
-undeclared old p g keeps lacks = by_test (contains g p.guilds) (ap is_some (sym (keeps.logs g)) ∙ lacks)
-  where
-    by_test : (b : Bool) → is_some (if b then Some (log_with g (log p g)) else None) ≡ false → b ≡ false
-    by_test true h = absurd (cc)
-    by_test false h = refl
-
--- a look at it is no step, and an edit of it neither
-pub look_past : (old : KeptServer) (p : Server) (worker g : ℕ) (out : List Written) → Represents old p → is_some (find_id log_id g old.logs) ≡ false → out ≡ []
-    → (None ≡ line_lag p (line.Look worker g)) × Plays p (line.Look worker g) old out
-look_past old p worker g out stands lacks none =
-    let away : contains g p.guilds ≡ false = undeclared old p g stands.keeps lacks in (
-      ap (λ b. if b then lag_of worker g (log p g) (find_id worker_id worker (world p).workers) else None) (sym away),
-      plays_nothing p p (line.Look worker g) old out (ap (λ b. if b then Some (Looks worker g) else None) away) refl stands none,
-    )
-
-pub edit_past : (old : KeptServer) (p : Server) (g : ℕ) (e : Edit) (out : List Written) → Represents old p → is_some (find_id log_id g old.logs) ≡ false → out ≡ []
-    → (Some NotOpen ≡ refusal p g e) × Plays p (line.Edit g e) old out
-edit_past old p g e out stands lacks none =
-    let away : contains g p.guilds ≡ false = undeclared old p g stands.keeps lacks in (
-      ap (λ b. if b then verdict (state g (log p g)) e else Some NotOpen) (sym away),
-      plays_nothing p p (line.Edit g e) old out (ap (λ b. if b then Some (Edits g e) else None) away) refl stands none,
-    )
-
 -- ---- edits
-
--- why an edit is refused, by the record after the whole log
-pub refusal_known : (old : KeptServer) (p : Server) (g : ℕ) (e : Edit) (l : GuildLog) → Keeps old p → find_id log_id g old.logs ≡ Some l → verdict l.guild e ≡ refusal p g e
-refusal_known old p g e l keeps found =
-    let there = declared old p g l keeps found in
-    ap (λ (x : GuildLog). verdict x.guild e) there.1 ∙ ap (λ b. if b then verdict (state g (log p g)) e else Some NotOpen) (sym there.0)
 
 -- an edit is no step of a worker
 pub edit_plays : (old new : KeptServer) (p : Server) (g : ℕ) (e : Edit) (l : GuildLog) (held : GuildLog) (out : List Written) → Keeps old p

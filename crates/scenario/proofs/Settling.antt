@@ -12,18 +12,10 @@ use Rattle.scenario.specs.Lines.{whole_lines}
 use Rattle.scenario.specs.Transcript.{Ending, Whole, text_of, transcript, ending}
 use Rattle.gate_outside.specs.Streams.{AppendsFront, Carries, CarriesFront}
 use Rattle.scenario.specs.Played.{fault_of, FaultCause, AtFault, Ends, Leaves, Playing, Written, StopsAt, LeavesAt, Anything, Nothing}
-use Rattle.gate_outside.proofs.Fronts.{all_sent, all_front, front_sent, carries_front}
+use Rattle.gate_outside.proofs.Fronts.{all_sent, front_sent, carries_front}
 use Rattle.scenario.proofs.Bytes.{front_so_far}
 
 -- ---- at a fault
-
--- it was
-pub ends_sent : (fault : PlayFault) (got got0 got1 : Option (List ℕ)) (waits text : List ℕ) (end : Ending) → Appends got0 got1 waits → Leaves got got0 waits text end fault → Ends got got1 text end fault
-ends_sent Read got got0 got1 waits text end wrote h = h
-ends_sent Write got got0 got1 waits text end wrote h = front_sent got got0 got1 waits text h (all_front got0 got1 waits wrote)
-ends_sent (Line line f) got got0 got1 waits text end wrote h = (all_sent got got0 got1 waits text h.0 wrote, h.1)
-ends_sent Spent got got0 got1 waits text end wrote h = (front_sent got got0 got1 waits text h.0 (all_front got0 got1 waits wrote), h.1)
-ends_sent Memory got got0 got1 waits text end wrote h = front_sent got got0 got1 waits text h (all_front got0 got1 waits wrote)
 
 leaves_front : (fault : PlayFault) (got got0 : Option (List ℕ)) (waits text : List ℕ) (end : Ending) → Leaves got got0 waits text end fault → CarriesFront got got0 waits text
 leaves_front Read got got0 waits text end h = absurd h
@@ -32,7 +24,7 @@ leaves_front (Line line f) got got0 waits text end h = carries_front got got0 wa
 leaves_front Spent got got0 waits text end h = h.0
 leaves_front Memory got got0 waits text end h = h
 
--- that was refused
+-- what waits was refused
 pub front_ends : (refused : Fault) (got got0 got1 : Option (List ℕ)) (waits text : List ℕ) (end : Ending) → AppendsFront got0 got1 waits → CarriesFront got got0 waits text → Ends got got1 text end (fault_of refused)
 front_ends outside.Failed got got0 got1 waits text end front h = front_sent got got0 got1 waits text h front
 front_ends outside.Memory got got0 got1 waits text end front h = front_sent got got0 got1 waits text h front

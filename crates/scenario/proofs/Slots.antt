@@ -31,7 +31,7 @@ use Rattle.worker_core.specs.declared.io.Input.TheVariants as given
 use Rattle.worker_core.specs.InCode.{wire_text, wire_model}
 use Rattle.worker_core.specs.Outputs.{IsGiven, all_written}
 use Rattle.worker_core.specs.Represents.{FaultBy}
-use Rattle.worker_core.specs.Represents.{Represents as WorkerRepresents, StepsTo, Fails}
+use Rattle.worker_core.specs.Represents.{Represents as WorkerRepresents, StepsTo}
 use Rattle.worker_core.specs.declared.io.StepFault.{StepFault}
 use Rattle.worker_core.specs.declared.io.Output.{Output as Written}
 use Rattle.world_law.proofs.Worlds.{looked_seen}
@@ -326,10 +326,6 @@ module _ (gs : List ℕ) (n : ℕ) (old new : WorkerSlot) (w : Worker) (sits : S
       subst (λ (k : ℕ). SlotSteps gs n w (look_at g es k) new out) (is ∙ sits.cursors g) all
 
 module _ (gs : List ℕ) (n : ℕ) (old : WorkerSlot) (w : Worker) (sits : SlotRepresents gs n old w) (g at : ℕ) (es : List Edit) (is : at ≡ cursor_at g old.cursors) where
-  -- a fault of a look
-  pub look_fails : (fault : StepFault) → Fails w (look_at g es at) fault → SlotFails w (look_at g es (length (w.logs.seen g))) fault
-  look_fails fault fails = subst (λ (k : ℕ). SlotFails w (look_at g es k) fault) (is ∙ sits.cursors g) fails
-
   -- whether a look lags, by the cursor that is kept
   pub lag_is : (lag : Option Lagged) → lag ≡ (if lags es at then Some (record { worker = n; guild = g; base = base_of es; cursor = at }) else None) → lag ≡ lag_of n g es (Some w)
   lag_is lag found = found ∙ ap (λ (k : ℕ). if lags es k then Some (record { worker = n; guild = g; base = base_of es; cursor = k }) else None) (is ∙ sits.cursors g)

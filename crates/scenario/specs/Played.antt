@@ -120,25 +120,29 @@ room k = (1000001 - k.reader.lines) * 65538 - length k.part.items
 
 -- ---- a whole play
 
--- the whole of the source was read, and the sink got its transcript, which no line ends
-abbrev pub PlaysAll : (left0 left1 got0 got1 : Option (List ℕ)) → Type 0
-PlaysAll left0 left1 got0 got1 = (bytes : List ℕ) × Consumes left0 left1 bytes × IsAtEnd left1 × Appends got0 got1 (transcript bytes) × (ending bytes ≡ Whole)
+-- the whole of the source was read, and the sink got its transcript, which no line ends, after the bytes that waited
+-- there before
+abbrev pub PlaysAll : (left0 left1 got0 got1 : Option (List ℕ)) → (before : List ℕ) → Type 0
+PlaysAll left0 left1 got0 got1 before = (bytes : List ℕ) × Consumes left0 left1 bytes × IsAtEnd left1 × Appends got0 got1 (before ++ transcript bytes) × (ending bytes ≡ Whole)
 
--- the sink got the transcript of the whole lines that were read, none of which ends it
-abbrev pub PlaysLines : (left0 left1 got0 got1 : Option (List ℕ)) → Type 0
-PlaysLines left0 left1 got0 got1 = (bytes : List ℕ) × Consumes left0 left1 bytes × Appends got0 got1 (text_of (whole_lines bytes)) × (ending_of (whole_lines bytes) ≡ Whole)
+-- the sink got, after these, the transcript of the whole lines that were read, none of which ends it
+abbrev pub PlaysLines : (left0 left1 got0 got1 : Option (List ℕ)) → (before : List ℕ) → Type 0
+PlaysLines left0 left1 got0 got1 before = (bytes : List ℕ) × Consumes left0 left1 bytes × Appends got0 got1 (before ++ text_of (whole_lines bytes)) × (ending_of (whole_lines bytes) ≡ Whole)
 
--- the bytes that are left follow those that were read
-abbrev pub PlaysPart : (left0 left1 got0 got1 : Option (List ℕ)) → PlayFault → Type 0
-PlaysPart left0 left1 got0 got1 fault = (bytes : List ℕ) × Consumes left0 left1 bytes × StopsAt got0 got1 bytes (λ rest. left1 ≡ Some rest) fault
+-- the sink got so much of these and the transcript as the fault says; the bytes that are left follow those that were
+-- read
+abbrev pub PlaysPart : (left0 left1 got0 got1 : Option (List ℕ)) → (before : List ℕ) → PlayFault → Type 0
+PlaysPart left0 left1 got0 got1 before fault =
+    (bytes : List ℕ) × Consumes left0 left1 bytes
+    × ((rest : List ℕ) → left1 ≡ Some rest → Ends got0 got1 (before ++ transcript (bytes ++ rest)) (ending (bytes ++ rest)) fault)
 
 -- what a play that did not end well leaves
-abbrev pub PlaysTo : (left0 left1 got0 got1 : Option (List ℕ)) → PlayFault → Type 0
-PlaysTo left0 left1 got0 got1 Read = PlaysLines left0 left1 got0 got1
-PlaysTo left0 left1 got0 got1 Write = PlaysPart left0 left1 got0 got1 Write
-PlaysTo left0 left1 got0 got1 (Line line fault) = PlaysPart left0 left1 got0 got1 (Line line fault)
-PlaysTo left0 left1 got0 got1 Spent = PlaysPart left0 left1 got0 got1 Spent
-PlaysTo left0 left1 got0 got1 Memory = PlaysPart left0 left1 got0 got1 Memory
+abbrev pub PlaysTo : (left0 left1 got0 got1 : Option (List ℕ)) → (before : List ℕ) → PlayFault → Type 0
+PlaysTo left0 left1 got0 got1 before Read = PlaysLines left0 left1 got0 got1 before
+PlaysTo left0 left1 got0 got1 before Write = PlaysPart left0 left1 got0 got1 before Write
+PlaysTo left0 left1 got0 got1 before (Line line fault) = PlaysPart left0 left1 got0 got1 before (Line line fault)
+PlaysTo left0 left1 got0 got1 before Spent = PlaysPart left0 left1 got0 got1 before Spent
+PlaysTo left0 left1 got0 got1 before Memory = PlaysPart left0 left1 got0 got1 before Memory
 
 -- a fault of the source or the sink is answered exactly if its count rose
 abbrev pub PlayCause : (read0 read1 write0 write1 : ℕ) → Result (Unit {0}) PlayFault → Type 0

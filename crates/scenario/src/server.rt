@@ -129,7 +129,7 @@ impl Server {
             drop(log);
             return Err(AllocError);
         };
-        self.logs.put(log)?;
+        self.logs.replace(log);
         Ok(answer)
     }
 

@@ -11,7 +11,7 @@ returns-clause-run g c file is =
     let same : c.as_str.result.now ≡ file = word ∙ (ap string_bytes c.index-words-1.is ∙ (sym (get_or-map string_bytes c.args.words.now 1 c.index-words-1.result) ∙ second)) in (
       c.run-played.result,
       c.status_of.ensures,
-      λ none. subst (λ (f : List ℕ). Runs ((g.H.Dial.house_tale c.args.house.now).contents f) (g.H.Dial.house_tale c.args.house.now).sources (g.H.Dial.house_tale c.run-played.new.house).sources (g.H.Out.Sink.got c.args.sink.now) (g.H.Out.Sink.got c.run-played.new.sink) c.run-played.result) same (c.run-played.ensures.runs none),
+      subst (λ (f : List ℕ). Runs ((g.H.Dial.house_tale c.args.house.now).contents f) (g.H.Dial.house_tale c.args.house.now).sources (g.H.Dial.house_tale c.run-played.new.house).sources (g.H.Out.Sink.got c.args.sink.now) (g.H.Out.Sink.got c.run-played.new.sink) (g.H.Out.Sink.waits c.args.sink.now) c.run-played.result) same c.run-played.ensures.runs,
       subst (λ (f : List ℕ). AsksOnce (g.H.Dial.house_tale c.args.house.now).asks (g.H.Dial.house_tale c.run-played.new.house).asks f c.run-played.result) same c.run-played.ensures.asks,
       c.run-played.ensures.cause,
     )
@@ -25,5 +25,5 @@ returns-clause-fault g c file is =
       c.run-played.result,
       c.fault_of.ensures,
       c.status_of.ensures,
-      λ none. subst (λ (f : List ℕ). Runs ((g.H.Dial.house_tale c.args.house.now).contents f) (g.H.Dial.house_tale c.args.house.now).sources (g.H.Dial.house_tale c.run-played.new.house).sources (g.H.Out.Sink.got c.args.sink.now) (g.H.Out.Sink.got c.run-played.new.sink) c.run-played.result) same (c.run-played.ensures.runs none),
+      subst (λ (f : List ℕ). Runs ((g.H.Dial.house_tale c.args.house.now).contents f) (g.H.Dial.house_tale c.args.house.now).sources (g.H.Dial.house_tale c.run-played.new.house).sources (g.H.Out.Sink.got c.args.sink.now) (g.H.Out.Sink.got c.run-played.new.sink) (g.H.Out.Sink.waits c.args.sink.now) c.run-played.result) same c.run-played.ensures.runs,
     )

@@ -1,11 +1,11 @@
 use Rattle.std.proofs.Common.{◌≡◌, ◌++◌, ℕ, List, [], true}
 use Rattle.std.specs.Io.KnownBytes.{Consumes, IsAtEnd}
 use Rattle.scenario.specs.Played.{Written, Fits, room}
-use Rattle.scenario.proofs.playing.play.Given as goal
+use Rattle.scenario.proofs.playing.play_on.Given as goal
 
 abbrev pub invariant-loop-play : goal.invariant-loop-play
 invariant-loop-play g l = record {
-  plays : g.K.Sink.waits l.fn.sink ≡ [] → (bytes : List ℕ) × Consumes (g.S.Source.left l.fn.source) (g.S.Source.left l.source) (bytes ++ l.piece) × Written (g.K.Sink.got l.fn.sink) (g.K.Sink.got l.sink) (g.K.Sink.waits l.sink) l.play bytes;
+  plays : (bytes : List ℕ) × Consumes (g.S.Source.left l.fn.source) (g.S.Source.left l.source) (bytes ++ l.piece) × Written (g.K.Sink.got l.fn.sink) (g.K.Sink.got l.sink) (g.K.Sink.waits l.sink) l.play bytes;
   at_end : l.piece ≡ [] → IsAtEnd (g.S.Source.left l.source);
   ended : l.piece ≡ [] → g.S.Source.ended l.source ≡ true;
   fits : Fits l.play;
