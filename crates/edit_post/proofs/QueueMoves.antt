@@ -13,7 +13,7 @@ use Rattle.edit_post.proofs.Views.{Each, each_none, each_set, each_snoc, no, at_
 use Rattle.edit_post.specs.declared.request.Request.{Request}
 use Rattle.edit_post.specs.declared.queue_view.QueueView.{QueueView}
 use Rattle.edit_post.specs.Requests.{requests_of}
-use Rattle.edit_post.specs.QueueRule.{view_of, all_of, NumberedFrom, opening, spent, with_sender, new_sender, with_empty_take, put, joined, KeepsOrder, TakesInOrder}
+use Rattle.edit_post.specs.QueueRule.{view_of, all_of, NumberedFrom, opening, spent, with_sender, new_sender, put, took, joined, KeepsOrder, TakesInOrder}
 
 -- the test of `of`
 abbrev is_by : ℕ → Request → Bool
@@ -92,11 +92,15 @@ forks port v takes items views d at =
           (each_set G views port (with_sender v) (λ _. (mine.0, mine.1, ap (λ n. n + 1) mine.2)) (λ j u far e takes'. absurd (far ((d.taker j u e takes').0 ∙ sym mine.0))));
     }
 
--- a take counts itself
-pub counts : (port : ℕ) (v : QueueView) → v.takes ≡ true → Forks KeepsOrder port v (with_empty_take v) spent
-counts port v takes items views d at =
+-- the taker with any count of its takes that found nothing
+abbrev with_count : ℕ → QueueView → QueueView
+with_count n v = view_of v.sends v.sender v.sent v.takes v.made v.taken n
+
+-- the taker changes its count
+pub counts : (n port : ℕ) (v : QueueView) → v.takes ≡ true → Forks KeepsOrder port v (with_count n v) spent
+counts n port v takes items views d at =
     let mine = d.taker port v at takes in
-    let cut : List QueueView = set views port (with_empty_take v) in
+    let cut : List QueueView = set views port (with_count n v) in
     let F : ℕ → QueueView → Type 0 = Sends d.made d.sender_at d.taken items in
     let G : ℕ → QueueView → Type 0 = Takes d.taker_at d.made d.taken in record {
       taker_at = d.taker_at;
@@ -105,8 +109,8 @@ counts port v takes items views d at =
       taken = d.taken;
       numbered = d.numbered;
       unmade = d.unmade;
-      senders = each_snoc F cut spent (no refl) (each_set F views port (with_empty_take v) (λ sends. d.senders port v at sends) (λ j u far e. d.senders j u e));
-      taker = each_snoc G cut spent (no refl) (each_set G views port (with_empty_take v) (λ _. mine) (λ j u far e. d.taker j u e));
+      senders = each_snoc F cut spent (no refl) (each_set F views port (with_count n v) (λ sends. d.senders port v at sends) (λ j u far e. d.senders j u e));
+      taker = each_snoc G cut spent (no refl) (each_set G views port (with_count n v) (λ _. mine) (λ j u far e. d.taker j u e));
     }
 
 numbered_push : (taken items : List Request) (x : Request) → ((p : ℕ) → NumberedFrom 1 (all_of p taken items)) → x.number ≡ 1 + length (all_of x.sender taken items) → (p : ℕ) → NumberedFrom 1 (all_of p taken (items ++ x ∷ []))
@@ -156,14 +160,10 @@ next_number : (taken items : List Request) (x : Request) → ((p : ℕ) → Numb
 next_number taken items x h =
     let e = numbered_at 1 (requests_of x.sender taken) (requests_of x.sender items) x (subst (λ (l : List Request). NumberedFrom 1 l) (at_front taken items x) (h x.sender)) in omega arith
 
--- the taker after it took a request, with any count of its takes that found nothing
-abbrev took_and : ℕ → QueueView → Request → QueueView
-took_and n v x = view_of v.sends v.sender v.sent v.takes v.made (v.taken ++ x ∷ []) n
-
-pub pops : (n port : ℕ) (v : QueueView) → v.takes ≡ true → Pops KeepsOrder port v (λ x w. (w ≡ took_and n v x) × (x.sender < v.made) × (x.number ≡ length (requests_of x.sender v.taken) + 1))
-pops n port v takes x items views d at =
+pub pops : (port : ℕ) (v : QueueView) → v.takes ≡ true → Pops KeepsOrder port v (λ x w. (w ≡ took v x) × (x.sender < v.made) × (x.number ≡ length (requests_of x.sender v.taken) + 1))
+pops port v takes x items views d at =
     let mine = d.taker port v at takes in
-    let w : QueueView = took_and n v x in
+    let w : QueueView = took v x in
     let taken : List Request = d.taken ++ x ∷ [] in (
       w,
       record {

@@ -42,9 +42,9 @@ took v request = view_of v.sends v.sender v.sent v.takes v.made (v.taken ++ requ
 abbrev pub with_empty_take : QueueView → QueueView
 with_empty_take v = view_of v.sends v.sender v.sent v.takes v.made v.taken (v.empty_takes + 1)
 
--- the taker after a take that it had counted so, and that found a request after all
-abbrev pub took_after_all : QueueView → Request → QueueView
-took_after_all v request = view_of v.sends v.sender v.sent v.takes v.made (v.taken ++ request ∷ []) (v.empty_takes - 1)
+-- the taker with one such take less, where a request came after all
+abbrev pub without_empty_take : QueueView → QueueView
+without_empty_take v = view_of v.sends v.sender v.sent v.takes v.made v.taken (v.empty_takes - 1)
 
 -- the taker, which knows now what the sender sent
 abbrev pub joined : QueueView → QueueView → QueueView

@@ -1,8 +1,9 @@
 //! The queue of a post, under the rule that each sender's requests are taken in its order.
-ghost use Rattle.std.specs.Prelude.{◌≡◌, ◌++◌, ◌+◌, ◌<◌, true, false, length, MatchOption, MatchResult, IfOk, List};
+ghost use Rattle.std.specs.Prelude.{◌≡◌, ◌++◌, ◌+◌, ◌/◌, ◌<◌, true, false, length, MatchOption, MatchResult, IfOk, IfErr, List};
+ghost use Rattle.crossbeam_queue.specs.declared.seg_queue.Stage.TheVariants.{SawHead};
 ghost use Rattle.crossbeam_queue.specs.SegTies.{IsSegPassOf};
 ghost use Rattle.edit_post.specs.Requests.{requests_of};
-ghost use Rattle.edit_post.specs.QueueRule.{put, took, took_after_all, with_empty_take, joined, opening, spent, with_sender, new_sender, WasEmpty};
+ghost use Rattle.edit_post.specs.QueueRule.{put, took, with_empty_take, without_empty_take, joined, opening, spent, with_sender, new_sender, WasEmpty};
 
 use crate::queue_view::QueueView;
 use crate::request::Request;
@@ -42,16 +43,10 @@ impl Lesson<Request, QueueView> for Takes {
     ghost fact = { λ mine items. ⊤ };
 }
 
-// A take that has found nothing at first, and has counted itself.
-struct TakesAfterAll;
+// A look at the queue once a take has counted itself.
+struct Sees;
 
-impl Outcome<Request, QueueView> for TakesAfterAll {
-    ghost then = { λ before request after. (after ≡ took_after_all before request)
-        × (request.sender < before.made)
-        × (request.number ≡ length (requests_of request.sender before.taken) + 1) };
-}
-
-impl Lesson<Request, QueueView> for TakesAfterAll {
+impl Lesson<Request, QueueView> for Sees {
     ghost use Rattle.std.specs.Prelude.{◌≡◌, ℕ, List};
     ghost use mathlib.Core.Option.{some};
     ghost use lib.ListN.{get_elem?};
@@ -65,6 +60,14 @@ struct CountsItself;
 
 impl Split<QueueView> for CountsItself {
     ghost left = { with_empty_take };
+
+    ghost right = { λ _. spent };
+}
+
+struct TakesCountBack;
+
+impl Split<QueueView> for TakesCountBack {
+    ghost left = { without_empty_take };
 
     ghost right = { λ _. spent };
 }
@@ -131,9 +134,6 @@ pub fn send<R: Wait>(
 
 /// Removes the request at the front. `None` only if the queue was empty at one step of the call. It
 /// does not allocate.
-// Laid into a caller that reads a request's fields, each move of the request is cut at these fields, and
-// each then waits for the one before.
-#[inline(never)]
 pub fn take<R: Wait>(rt: &R, queue: &Queue, pass: &mut QueuePass) -> Option<Request>
     requires queue { IsSegPassOf queue.now pass.old }
     requires taker { pass.old.me.view.client.takes ≡ true }
@@ -143,28 +143,62 @@ pub fn take<R: Wait>(rt: &R, queue: &Queue, pass: &mut QueuePass) -> Option<Requ
         (λ r. (pass.new.me.view.client ≡ took pass.old.me.view.client r) × (r.sender < pass.old.me.view.client.made)
         × (r.number ≡ length (requests_of r.sender pass.old.me.view.client.taken) + 1)) }
 {
-    let found = queue.pop_as::<Takes, R>(rt, pass);
-    match &found {
-        Some(_) => found,
-        None => count_and_take(rt, queue, pass),
+    let mut head = queue.head(pass);
+    for _ in rt.forever() {
+        match try_take(rt, queue, pass, head) {
+            Ok(found @ Some(_)) => return found,
+            Ok(None) => {
+                if was_empty(queue, pass) {
+                    return None;
+                }
+                head = queue.head(pass);
+            }
+            Err(next) => head = next,
+        }
     }
+    unreachable!()
+}
+
+// One attempt at the position `head`, or the position to try next.
+// A request is large, and laid into a loop it would be moved once more for each way through the loop.
+#[inline(never)]
+fn try_take<R: Wait>(
+    rt: &R,
+    queue: &Queue,
+    pass: &mut QueuePass,
+    head: u64,
+) -> Result<Option<Request>, u64>
+    requires queue { IsSegPassOf queue.now pass.old }
+    requires head { (pass.old.me.view.stage ≡ SawHead) × (pass.old.me.view.at ≡ head / 2) × (head < 9223372036854775810) }
+    requires taker { pass.old.me.view.client.takes ≡ true }
+    ensures queue { IsSegPassOf queue.now pass.new }
+    ensures taken { IfOk result (λ found. MatchOption found
+        (pass.new.me.view.client ≡ pass.old.me.view.client)
+        (λ r. (pass.new.me.view.client ≡ took pass.old.me.view.client r) × (r.sender < pass.old.me.view.client.made)
+        × (r.number ≡ length (requests_of r.sender pass.old.me.view.client.taken) + 1))) }
+    ensures again { IfErr result (λ next. (pass.new.me.view.client ≡ pass.old.me.view.client)
+        × (pass.new.me.view.stage ≡ SawHead) × (pass.new.me.view.at ≡ next / 2) × (next < 9223372036854775810)) }
+{
+    queue.try_pop_from::<Takes, R>(rt, pass, head)
 }
 
 // Counts this take as one that finds nothing, and only then looks, so that the step at which the queue
-// was empty is known to be one of this call.
+// was empty is known to be one of this call. If a request has come, the count is taken back.
 #[cold]
 #[inline(never)]
-fn count_and_take<R: Wait>(rt: &R, queue: &Queue, pass: &mut QueuePass) -> Option<Request>
+fn was_empty(queue: &Queue, pass: &mut QueuePass) -> bool
     requires queue { IsSegPassOf queue.now pass.old }
     requires taker { pass.old.me.view.client.takes ≡ true }
     ensures queue { IsSegPassOf queue.now pass.new }
-    ensures taken { MatchOption result
-        ((pass.new.me.view.client ≡ with_empty_take pass.old.me.view.client) × WasEmpty pass.new.me.view.client)
-        (λ r. (pass.new.me.view.client ≡ took pass.old.me.view.client r) × (r.sender < pass.old.me.view.client.made)
-        × (r.number ≡ length (requests_of r.sender pass.old.me.view.client.taken) + 1)) }
+    ensures empty { result ≡ true → (pass.new.me.view.client ≡ with_empty_take pass.old.me.view.client) × WasEmpty pass.new.me.view.client }
+    ensures other { result ≡ false → pass.new.me.view.client ≡ pass.old.me.view.client }
 {
     drop(queue.another::<CountsItself>(pass));
-    queue.pop_as::<TakesAfterAll, R>(rt, pass)
+    if queue.is_empty_as::<Sees>(pass) {
+        return true;
+    }
+    drop(queue.another::<TakesCountBack>(pass));
+    false
 }
 
 /// Ends a sender's pass. What was taken of the sender, and then what the queue held of it at one step
