@@ -1,5 +1,5 @@
 -- One session more is told an entry, and one entry more is looked at.
-use Rattle.std.proofs.Common.{◌≡◌, ℕ, ◌+◌, ◌<◌, List, [], ◌∷◌, ◌++◌, Bool, true, false, Option, Some, None, length, map, take, drop, get_or, refl, sym, ap, ◌∙◌, append_assoc, arith}
+use Rattle.std.proofs.Common.{◌≡◌, ℕ, ◌+◌, ◌<◌, List, [], ◌∷◌, ◌++◌, Bool, true, false, Some, length, map, take, drop, get_or, refl, sym, ap, ◌∙◌, append_assoc, arith}
 use Rattle.std.specs.Prelude.{◌||◌, flat_map, slice_get, option_map}
 use Rattle.std.specs.List.{list_any}
 use Rattle.std.proofs.lemmas.List.{length-map, length-take-le, take-append-drop}
@@ -7,9 +7,7 @@ use Rattle.std.proofs.lemmas.Option.{get_or_from_slice_get, slice_get-map}
 use Rattle.guild_model.specs.Record.{Record}
 use Rattle.dispatch_types.specs.declared.dispatch.Dispatch.{Dispatch}
 use Rattle.dispatch_types.specs.declared.viewer.Viewer.{Viewer}
-use Rattle.std.specs.Option.{is_none}
-use Rattle.guild_model.specs.declared.verdict.Verdict.{Verdict}
-use Rattle.edit_apply.specs.Edits.{verdict, accepts, applied, after, after_verdict}
+use Rattle.edit_apply.specs.Edits.{accepts, after}
 use Rattle.edit_apply.specs.declared.Edit.{Edit}
 use Rattle.edit_events.specs.Due.{due, due_of_accepted}
 use Rattle.replay_ring.specs.Replay.{Replay}
@@ -53,13 +51,6 @@ viewers_stay s e (x ∷ xs) = ap (λ vs. x.viewer ∷ vs) (viewers_stay s e xs)
 pub due_accepted : (s : Record) (e : Edit) (v : Viewer) → accepts s e ≡ true → due_of_accepted s e v ≡ due s e v
 unfolding due
 due_accepted s e v accepted = simp accepted refl
-
-pub after_accepted : (s : Record) (e : Edit) → accepts s e ≡ true → after s e ≡ applied s e
-after_accepted s e accepted = made (verdict s e) accepted
-  where
-    made : (v : Option Verdict) → is_none v ≡ true → after_verdict v s e ≡ applied s e
-    made None fine = refl
-    made (Some v) fine = absurd (cc)
 
 due_refused : (s : Record) (e : Edit) (v : Viewer) → accepts s e ≡ false → due s e v ≡ []
 unfolding due

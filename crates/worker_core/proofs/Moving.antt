@@ -158,15 +158,6 @@ plain_reply (reply.Ask n ask) old new before out is done = absurd (cc is)
 plain_reply (reply.Presence n status) old new before out is done = absurd (cc is)
 plain_reply (reply.Voice n ask) old new before out is done = absurd (cc is)
 
-pub plain_fails : (r : Reply) (old : KeptWorker) (fault : StepFault) → is_plain r ≡ true → RepliesNot r old fault → FaultBy false fault
-plain_fails (reply.Send conn payload) old fault is done = done
-plain_fails (reply.Close conn code) old fault is done = done
-plain_fails (reply.Text conn text) old fault is done = done
-plain_fails (reply.Begin n) old fault is done = absurd (cc is)
-plain_fails (reply.Ask n ask) old fault is done = absurd (cc is)
-plain_fails (reply.Presence n status) old fault is done = absurd (cc is)
-plain_fails (reply.Voice n ask) old fault is done = absurd (cc is)
-
 -- the last of some replies
 pub plain_last : (before : List Reply) (r : Reply) → list_all is_plain (before ++ r ∷ []) ≡ true → (list_all is_plain before ≡ true) × (is_plain r ≡ true)
 plain_last [] r all = (refl, grind (arith, all))

@@ -48,9 +48,6 @@ abbrev pub puts : Record → List Edit → List Replica → List Replica
 puts s [] rs = rs
 puts s (e ∷ es) rs = puts (after s e) es (put_id replica_id (replica_of (after s e)) rs)
 
-after_id : (s : Record) (e : Edit) → (after s e).id ≡ s.id
-after_id s e = from_id s (e ∷ [])
-
 -- all that was put leaves the last
 pub puts_once : (es : List Edit) (s : Record) (rs : List Replica) → find_id replica_id s.id rs ≡ Some (replica_of s) → IsById replica_id rs → puts s es rs ≡ put_id replica_id (replica_of (state_from s es)) rs
 puts_once [] s rs found h = sym (put_same (replica_of s) rs found h)

@@ -23,14 +23,14 @@ use Rattle.dispatch_types.specs.declared.dispatch.Dispatch.{Dispatch}
 use Rattle.wishes.specs.Wishes.{presence_wish}
 use Rattle.replay_ring.specs.Replay.{Replay}
 use Rattle.session_core.specs.State.{State, Session}
-use Rattle.session_core.specs.Frames.{Want, Members, Presence, Voice}
+use Rattle.session_core.specs.Frames.{Members, Presence, Voice}
 use Rattle.worker_core.specs.declared.replica.Replica.{Replica}
 use Rattle.worker_core.specs.declared.io.Output.{Output as Written}
 use Rattle.worker_core.specs.declared.io.StepFault.{StepFault}
 use Rattle.worker_core.specs.declared.io.StepFault.TheVariants.{Spent}
 use Rattle.worker_core.specs.Telling.{FailsAt, TellsAt, further}
 use Rattle.worker_core.specs.Represents.{FaultBy}
-use Rattle.worker_core.specs.Replies.{Gives, GivesNot, greeted, wanted_sends, wanted_spends}
+use Rattle.worker_core.specs.Replies.{Gives, GivesNot, greeted, wanted_spends}
 use Rattle.worker_core.specs.InCode.{KeptMachine, KeptWorker, guild_of, in_code, replica_id, wire_text}
 use Rattle.world_law.specs.Outputs.{Output, sends}
 use Rattle.world_law.specs.Wants.{after_answer, answer_to, answered_by, change_first, is_numbered, numbered, presence_wishes, voice_wishes, want_sends, wished}
@@ -130,19 +130,9 @@ pub listed_is : (v : Viewer) (rs : List Replica)
 listed_is v rs = ap (λ (ids : List ℕ). if has_bit v.intents guilds then ids else []) (served_ids v rs)
 
 module _ (k : KeptWorker) (n : ℕ) (before : List Written) where
-  -- no session has the number
-  nobody_wishes : (want : Want) → numbered n k.machine.core.sessions ≡ None → before ≡ before ++ all_written (wanted_sends k.machine n want)
-  nobody_wishes want none = sym (ap (λ o. before ++ all_written (option_map_or (want_sends in_code k.machine want) o [])) none ∙ append_none before)
-
   no_viewer : (o : Option (Session Replay)) → option_map viewer_of o ≡ None → o ≡ None
   no_viewer None none = refl
   no_viewer (Some x) none = absurd (cc none)
-
-  pub nobody_sets : (status : Status) → option_map viewer_of (numbered n k.machine.core.sessions) ≡ None → Gives k n (Presence status) k before before
-  nobody_sets status none = (refl, (nobody_wishes (Presence status) (no_viewer (numbered n k.machine.core.sessions) none), never (numbered n k.machine.core.sessions)))
-
-  pub nobody_speaks : (ask : VoiceAsk) → option_map viewer_of (numbered n k.machine.core.sessions) ≡ None → Gives k n (Voice ask) k before before
-  nobody_speaks ask none = (refl, (nobody_wishes (Voice ask) (no_viewer (numbered n k.machine.core.sessions) none), never (numbered n k.machine.core.sessions)))
 
   by_viewer : (o : Option (Session Replay)) (v : Viewer) → option_map viewer_of o ≡ Some v → (f : Viewer → List Output) → f v ≡ option_map_or (λ x. f (viewer_of x)) o []
   by_viewer None v is f = absurd (cc is)

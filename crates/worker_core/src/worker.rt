@@ -245,6 +245,15 @@ impl Worker {
         self.replicas.replace(replica);
     }
 
+    /// For how many outputs of a look room is made: for none if it finds nothing, so that it does not
+    /// allocate.
+    fn room_for(&self, entries: &[Edit]) -> usize
+        ensures live { length (live self.now.machine.core) ≡ length self.now.machine.core.sessions }
+    {
+        let sessions = self.sessions.len();
+        if entries.is_empty() { 0 } else { sessions }
+    }
+
     /// Handles the entries of a guild, for its record and for each session.
     fn follow(&mut self, guild: &mut Guild, entries: &[Edit]) -> Result<Vec<Output>, StepFault>
         ensures guild { OnOk result (guild.new ≡ state_from guild.old entries.now) }
@@ -253,7 +262,7 @@ impl Worker {
         ensures spent { MatchResult result (λ _. kept_spends guild.old entries.now self.old.machine.core.sessions ≡ false) (FaultBy (kept_spends guild.old entries.now self.old.machine.core.sessions)) }
         ensures live { length (live self.old.machine.core) ≡ length self.old.machine.core.sessions }
     {
-        let mut out = Vec::with_capacity(self.alloc, self.sessions.len())?;
+        let mut out = Vec::with_capacity(self.alloc, self.room_for(entries))?;
         look(self.alloc, guild, entries, &mut self.sessions, &mut out)?;
         Ok(out)
     }
