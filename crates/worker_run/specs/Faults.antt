@@ -1,0 +1,22 @@
+-- The faults of what lies below, as faults of a worker.
+use Rattle.gate_outside.specs.declared.faults.Fault.{Fault}
+use Rattle.gate_outside.specs.declared.faults.Fault.TheVariants as outside
+use Rattle.edit_post.specs.declared.send_refused.SendRefused.{SendRefused}
+use Rattle.edit_post.specs.declared.send_refused.SendRefused.TheVariants as post
+use Rattle.worker_core.specs.declared.io.StepFault.{StepFault}
+use Rattle.worker_core.specs.declared.io.StepFault.TheVariants as step
+use Rattle.worker_run.specs.declared.fault.WorkFault.{WorkFault}
+use Rattle.worker_run.specs.declared.fault.WorkFault.TheVariants as fault
+
+abbrev pub by_step : StepFault → WorkFault
+by_step step.Spent = fault.Spent
+by_step step.Memory = fault.Memory
+
+abbrev pub by_post : SendRefused → WorkFault
+by_post post.Spent = fault.Spent
+by_post post.Memory = fault.Memory
+
+-- of a door alone
+abbrev pub by_door : Fault → WorkFault
+by_door outside.Failed = fault.Door
+by_door outside.Memory = fault.Memory

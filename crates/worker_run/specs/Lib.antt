@@ -1,0 +1,13 @@
+pub mod Faults
+pub mod Histories
+pub mod Hubs
+pub mod Looking
+pub mod Moves
+pub mod Notes
+pub mod Parts
+pub mod Running
+pub mod Stopping
+pub mod Turns
+pub mod Wishes
+pub mod Works
+pub mod Workers
