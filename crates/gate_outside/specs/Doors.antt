@@ -21,6 +21,16 @@ pub record DoorTale : Type 0 where
   -- the links that came back, in order, where it tells
   pub returned : Option (List ReturnedLink)
 
+-- what a door tells that could not be opened: it gives no link, and does not end
+abbrev pub failed_door : DoorTale
+failed_door = record {
+  given = 0;
+  ended = false;
+  accepts = Some 0;
+  waits = None;
+  returned = None;
+}
+
 -- no more links are given than the door tells
 abbrev pub WithinAll : ℕ → Option ℕ → Type 0
 WithinAll given None = ⊤

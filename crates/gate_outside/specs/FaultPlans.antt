@@ -1,5 +1,5 @@
 -- Which calls of an object in memory are to fail.
-use Rattle.std.specs.Prelude.{ℕ, List, Bool, ◌==◌}
+use Rattle.std.specs.Prelude.{ℕ, List, Bool, if◌then◌else◌, ◌==◌}
 use Rattle.std.specs.List.{list_any}
 use Rattle.gate_outside.specs.Causes.{one_more}
 
@@ -28,3 +28,7 @@ after_fault p = record p { faults = one_more p.faults }
 -- after a call that failed
 abbrev pub after_failed_call : Plan → Plan
 after_failed_call p = after_fault (after_call p)
+
+-- after the next call, which fails exactly if it is to fail
+abbrev pub after_next : Plan → Plan
+after_next p = if fails p then after_failed_call p else after_call p

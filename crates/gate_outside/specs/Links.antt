@@ -22,6 +22,16 @@ pub record LinkTale : Type 0 where
   -- the texts that it was sent, and the code of its own close, where it tells
   pub sent : Option (List Sending)
 
+-- what a link tells that could not be opened: nothing comes, nothing goes out, and it is never closed
+abbrev pub failed_link : LinkTale
+failed_link = record {
+  own_code = None;
+  gave_text = false;
+  waits = None;
+  gave = None;
+  sent = None;
+}
+
 -- a link before its first call
 pub record IsNewLink (tale : LinkTale) (faults : ℕ) : Type 0 where
   pub open_yet : tale.own_code ≡ None

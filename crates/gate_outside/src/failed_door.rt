@@ -1,5 +1,8 @@
 //! A door on which every call fails.
-ghost use Rattle.std.specs.Prelude.{◌≡◌, None, Some, false};
+ghost use Rattle.std.specs.Prelude.{◌≡◌};
+ghost use Rattle.gate_outside.specs.Causes.{FaultHasCause, FailsOnce};
+ghost use Rattle.gate_outside.specs.Doors.{Accepts, GivesNew, failed_door};
+ghost use Rattle.gate_outside.specs.Links.{failed_link};
 
 use crate::accepted::Accepted;
 use crate::doors::Door;
@@ -40,17 +43,16 @@ impl FailedDoor {
 impl Door for FailedDoor {
     type Wire = FailedLink;
 
-    ghost tale = { λ _. record {
-      given = 0;
-      ended = false;
-      accepts = Some 0;
-      waits = None;
-      returned = None;
-    } };
+    ghost tale = { λ _. failed_door };
 
     ghost faults = { λ d. d };
 
-    fn accept(&mut self) -> Result<Accepted<FailedLink>, Fault> {
+    fn accept(&mut self) -> Result<Accepted<FailedLink>, Fault>
+        ensures tale { Accepts failed_door failed_door result }
+        ensures new_link { GivesNew (λ _. failed_link) (λ l. l) result }
+        ensures cause { FaultHasCause self.old self.new result }
+        ensures fails { FailsOnce self.old self.new result }
+    {
         self.faults = self.faults.saturating_add(1);
         Err(Fault::Failed)
     }

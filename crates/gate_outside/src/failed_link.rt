@@ -1,5 +1,7 @@
 //! A connection on which every call fails.
-ghost use Rattle.std.specs.Prelude.{◌≡◌, None, false};
+ghost use Rattle.std.specs.Prelude.{◌≡◌};
+ghost use Rattle.gate_outside.specs.Causes.{FaultHasCause, FailsOnce};
+ghost use Rattle.gate_outside.specs.Links.{Receives, Sends, Closes, failed_link};
 
 use crate::faults::Fault;
 use crate::incoming::Incoming;
@@ -37,27 +39,33 @@ impl FailedLink {
 }
 
 impl Link for FailedLink {
-    ghost tale = { λ _. record {
-      own_code = None;
-      gave_text = false;
-      waits = None;
-      gave = None;
-      sent = None;
-    } };
+    ghost tale = { λ _. failed_link };
 
     ghost faults = { λ l. l };
 
-    fn recv(&mut self) -> Result<Incoming, Fault> {
+    fn recv(&mut self) -> Result<Incoming, Fault>
+        ensures tale { Receives failed_link failed_link result }
+        ensures cause { FaultHasCause self.old self.new result }
+        ensures fails { FailsOnce self.old self.new result }
+    {
         self.faults = self.faults.saturating_add(1);
         Err(Fault::Failed)
     }
 
-    fn send(&mut self, _text: &str) -> Result<(), Fault> {
+    fn send(&mut self, _text: &str) -> Result<(), Fault>
+        ensures tale { Sends failed_link failed_link _text.now result }
+        ensures cause { FaultHasCause self.old self.new result }
+        ensures fails { FailsOnce self.old self.new result }
+    {
         self.faults = self.faults.saturating_add(1);
         Err(Fault::Failed)
     }
 
-    fn close(&mut self, _code: u16) -> Result<(), Fault> {
+    fn close(&mut self, _code: u16) -> Result<(), Fault>
+        ensures tale { Closes failed_link failed_link _code result }
+        ensures cause { FaultHasCause self.old self.new result }
+        ensures fails { FailsOnce self.old self.new result }
+    {
         self.faults = self.faults.saturating_add(1);
         Err(Fault::Failed)
     }

@@ -1,11 +1,14 @@
 //! A house in memory.
 ghost use Rattle.std.specs.Prelude.{◌≡◌, ◌≤◌, Ok, Some, IfOk, OnOk, OnErr};
 ghost use Rattle.std.specs.Option.{option_copied, option_map};
+ghost use Rattle.gate_outside.specs.Causes.{FaultHasCause};
 ghost use Rattle.gate_outside.specs.Clocks.{IsNewClock};
+ghost use Rattle.gate_outside.specs.Dials.{Dials, HangsUp};
 ghost use Rattle.gate_outside.specs.Doors.{IsNewDoor};
 ghost use Rattle.gate_outside.specs.Houses.{AsksSource, AsksDoor, AsksClock, GivesOwn, PutsBack, returned_door};
+ghost use Rattle.gate_outside.specs.Links.{IsNewLink};
 ghost use Rattle.gate_outside.specs.MemHouses.{new_house, house_tale_of, bytes_of, file_of, given_for, kept_source, with_ask, with_network, with_source, with_clock, Asks, AsksNetwork, Keeps};
-ghost use Rattle.gate_outside.specs.StdHouses.{network_state};
+ghost use Rattle.gate_outside.specs.StdHouses.{network_state, with_dial_of};
 ghost use Rattle.gate_outside.specs.declared.asked.Asked.TheVariants as asked;
 
 use crate::asked::Asked;
@@ -125,11 +128,22 @@ impl<N: Network + Drop> Dial for MemHouse<N> {
 
     ghost house_tale = { house_tale_of };
 
-    fn dial(&mut self, url: &str) -> Result<N::Wire, Fault> {
+    fn dial(&mut self, url: &str) -> Result<N::Wire, Fault>
+        ensures tale { Dials self.old.network.dial self.new.network.dial url.now result }
+        ensures new_link { IfOk result (λ l. IsNewLink (N.Wire.tale l) (N.Wire.faults l)) }
+        ensures cause { FaultHasCause self.old.network.dial_faults self.new.network.dial_faults result }
+        ensures house { house_tale_of self.new ≡ house_tale_of self.old }
+        ensures exact { self.new ≡ with_network self.old (with_dial_of self.old.network self.new.network) }
+    {
         self.network.dial(url)
     }
 
-    fn back(&mut self, wire: N::Wire) {
+    fn back(&mut self, wire: N::Wire)
+        ensures tale { HangsUp self.old.network.dial self.new.network.dial (N.Wire.tale wire) (N.Wire.faults wire) }
+        ensures faults { self.new.network.dial_faults ≡ self.old.network.dial_faults }
+        ensures house { house_tale_of self.new ≡ house_tale_of self.old }
+        ensures exact { self.new ≡ with_network self.old (with_dial_of self.old.network self.new.network) }
+    {
         self.network.back(wire);
     }
 }

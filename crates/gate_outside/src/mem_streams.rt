@@ -1,11 +1,11 @@
 //! A source and a sink in memory, each in a form whose calls fail by a plan and in a form that never
 //! fails.
-ghost use Rattle.std.specs.Prelude.{◌≡◌, ◌<◌, ◌≤◌, [], ◌++◌, false, length, min, Some, Ok, IfOk, OnOk};
+ghost use Rattle.std.specs.Prelude.{◌≡◌, ◌<◌, ◌≤◌, [], ◌++◌, false, length, min, Some, Ok, IfOk, OnOk, OnErr};
 ghost use Rattle.std.specs.Io.{ReadsAtMost};
-ghost use Rattle.std.specs.Io.KnownBytes.{ReadConsumes};
+ghost use Rattle.std.specs.Io.KnownBytes.{Appends, ReadConsumes};
 ghost use Rattle.gate_outside.specs.Causes.{HasCause, FaultHasCause};
 ghost use Rattle.gate_outside.specs.FaultPlans.{fresh};
-ghost use Rattle.gate_outside.specs.Streams.{EndsOnce, Takes};
+ghost use Rattle.gate_outside.specs.Streams.{EndsOnce, Carries, Takes};
 ghost use Rattle.gate_outside.specs.MemStreams.{Reads, Writes};
 
 use crate::fault_plan::FaultPlan;
@@ -238,7 +238,12 @@ impl Sink for MemSink {
         Ok(count)
     }
 
-    fn flush(&mut self) -> Result<(), Fault> {
+    fn flush(&mut self) -> Result<(), Fault>
+        ensures ok { OnOk result (Appends (Some self.old.got) (Some self.new.got) []) }
+        ensures err { OnErr result (Carries (Some self.old.got) (Some self.new.got) [] []) }
+        ensures cause { FaultHasCause self.old.plan.faults self.new.plan.faults result }
+        ensures exact { (result ≡ Ok tt) × (self.new ≡ self.old) }
+    {
         Ok(())
     }
 }
@@ -304,7 +309,12 @@ impl Sink for SureSink {
         Ok(from.len())
     }
 
-    fn flush(&mut self) -> Result<(), Fault> {
+    fn flush(&mut self) -> Result<(), Fault>
+        ensures ok { OnOk result (Appends (Some self.old) (Some self.new) []) }
+        ensures err { OnErr result (Carries (Some self.old) (Some self.new) [] []) }
+        ensures cause { FaultHasCause 0 0 result }
+        ensures exact { (result ≡ Ok tt) × (self.new ≡ self.old) }
+    {
         Ok(())
     }
 }

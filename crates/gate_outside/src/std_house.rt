@@ -1,7 +1,13 @@
 //! A house over the system.
-ghost use Rattle.std.specs.Prelude.{◌≡◌, None};
-ghost use Rattle.gate_outside.specs.Houses.{PutsBack, returned_source, returned_door};
-ghost use Rattle.gate_outside.specs.StdHouses.{network_state, real_tale};
+ghost use Rattle.std.specs.Prelude.{◌≡◌, None, Ok, IfOk};
+ghost use Rattle.gate_outside.specs.Causes.{FaultHasCause};
+ghost use Rattle.gate_outside.specs.Clocks.{IsNewClock};
+ghost use Rattle.gate_outside.specs.Dials.{Dials, HangsUp};
+ghost use Rattle.gate_outside.specs.Doors.{IsNewDoor};
+ghost use Rattle.gate_outside.specs.Houses.{AsksSource, AsksDoor, AsksClock, PutsBack, returned_source, returned_door};
+ghost use Rattle.gate_outside.specs.Links.{IsNewLink};
+ghost use Rattle.gate_outside.specs.StdHouses.{network_state, real_tale, with_dial_of, after_ask, Retakes};
+ghost use Rattle.gate_outside.specs.StdStreams.{new_input};
 
 use crate::back::Back;
 use crate::buffered_sink::BufferedSink;
@@ -68,11 +74,22 @@ impl<R: Files + Input + Print + MachineTime + Copy + Drop, N: Network + Drop> Di
 
     ghost house_tale = { real_tale };
 
-    fn dial(&mut self, url: &str) -> Result<N::Wire, Fault> {
+    fn dial(&mut self, url: &str) -> Result<N::Wire, Fault>
+        ensures tale { Dials self.old.network.dial self.new.network.dial url.now result }
+        ensures new_link { IfOk result (λ l. IsNewLink (N.Wire.tale l) (N.Wire.faults l)) }
+        ensures cause { FaultHasCause self.old.network.dial_faults self.new.network.dial_faults result }
+        ensures house { real_tale self.new ≡ real_tale self.old }
+        ensures exact { self.new ≡ record self.old { network = with_dial_of self.old.network self.new.network } }
+    {
         self.network.dial(url)
     }
 
-    fn back(&mut self, wire: N::Wire) {
+    fn back(&mut self, wire: N::Wire)
+        ensures tale { HangsUp self.old.network.dial self.new.network.dial (N.Wire.tale wire) (N.Wire.faults wire) }
+        ensures faults { self.new.network.dial_faults ≡ self.old.network.dial_faults }
+        ensures house { real_tale self.new ≡ real_tale self.old }
+        ensures exact { self.new ≡ record self.old { network = with_dial_of self.old.network self.new.network } }
+    {
         self.network.back(wire);
     }
 }
@@ -87,7 +104,13 @@ impl<R: Files + Input + Print + MachineTime + Copy + Drop, N: Network + Drop> Ho
 
     type Time = MachineClock<R>;
 
-    fn source(&mut self, name: &str) -> Result<FileSource<R::File, R::Reader>, Fault> {
+    fn source(&mut self, name: &str) -> Result<FileSource<R::File, R::Reader>, Fault>
+        ensures fresh { IfOk result (λ s. s ≡ new_input) }
+        ensures house { AsksSource (real_tale self.old) (real_tale self.new) name.now result }
+        ensures dial { self.new.network.dial ≡ self.old.network.dial }
+        ensures dial_faults { self.new.network.dial_faults ≡ self.old.network.dial_faults }
+        ensures exact { self.new ≡ after_ask self.old result }
+    {
         if name == STANDARD_INPUT {
             return Ok(FileSource::standard_input(self.runtime.reader()));
         }
@@ -103,11 +126,23 @@ impl<R: Files + Input + Print + MachineTime + Copy + Drop, N: Network + Drop> Ho
         }
     }
 
-    fn door(&mut self, port: u16, accepts: u32) -> Result<N::Gate, Fault> {
+    fn door(&mut self, port: u16, accepts: u32) -> Result<N::Gate, Fault>
+        ensures fresh { IfOk result (λ d. IsNewDoor accepts (N.Gate.tale d) (N.Gate.faults d)) }
+        ensures house { AsksDoor (real_tale self.old) (real_tale self.new) port accepts result }
+        ensures dial { self.new.network.dial ≡ self.old.network.dial }
+        ensures dial_faults { self.new.network.dial_faults ≡ self.old.network.dial_faults }
+        ensures exact { self.new ≡ record self.old { network = self.new.network } }
+    {
         self.network.door(port, accepts)
     }
 
-    fn clock(&mut self) -> Result<MachineClock<R>, AllocError> {
+    fn clock(&mut self) -> Result<MachineClock<R>, AllocError>
+        ensures fresh { IfOk result (λ c. IsNewClock (record { latest = c; moments = None })) }
+        ensures house { AsksClock (real_tale self.old) (real_tale self.new) result }
+        ensures dial { self.new.network.dial ≡ self.old.network.dial }
+        ensures dial_faults { self.new.network.dial_faults ≡ self.old.network.dial_faults }
+        ensures exact { (result ≡ Ok 0) × (self.new ≡ self.old) }
+    {
         Ok(MachineClock::new(self.runtime))
     }
 
@@ -119,6 +154,7 @@ impl<R: Files + Input + Print + MachineTime + Copy + Drop, N: Network + Drop> Ho
             (real_tale self.old) (real_tale self.new) part }
         ensures dial { self.new.network.dial ≡ self.old.network.dial }
         ensures dial_faults { self.new.network.dial_faults ≡ self.old.network.dial_faults }
+        ensures exact { Retakes self.old self.new part }
     {
         match part {
             Back::Source(source) => {

@@ -1,6 +1,11 @@
 //! Sources and sinks over the system. Contracts see their counts, and no bytes.
-ghost use Rattle.std.specs.Prelude.{◌≡◌, [], None};
-ghost use Rattle.gate_outside.specs.StdStreams.{new_input};
+ghost use Rattle.std.specs.Prelude.{◌≡◌, ◌<◌, ◌≤◌, [], length, None, Ok, IfOk, OnOk, OnErr, IsOkUnless};
+ghost use Rattle.std.specs.Io.{ReadsAtMost};
+ghost use Rattle.std.specs.Io.KnownBytes.{Appends, ReadConsumes};
+ghost use Rattle.gate_outside.specs.Causes.{HasCause, FaultHasCause, count_after};
+ghost use Rattle.gate_outside.specs.StdStreams.{new_input, after_read};
+ghost use Rattle.gate_outside.specs.Streams.{EndsOnce, Carries, Takes};
+ghost use Rattle.gate_outside.specs.declared.faults.Fault.TheVariants as fault;
 
 use crate::faults::{Failed, Fault};
 use crate::streams::{Sink, Source};
@@ -72,7 +77,13 @@ impl<F: Read + Drop, I: Read + Drop> Source for FileSource<F, I> {
 
     ghost faults = { λ s. s.faults };
 
-    fn read(&mut self, into: &mut [u8]) -> Result<usize, Failed> {
+    fn read(&mut self, into: &mut [u8]) -> Result<usize, Failed>
+        ensures bound { ReadsAtMost result into.new }
+        ensures bytes { ReadConsumes None None result into.new }
+        ensures end { EndsOnce self.old.ended self.new.ended result into.new }
+        ensures cause { HasCause self.old.faults self.new.faults result }
+        ensures exact { self.new ≡ after_read self.old (length into.old) result }
+    {
         if self.ended {
             return Ok(0);
         }
@@ -131,7 +142,14 @@ impl<P: Print + Drop> Sink for StdoutSink<P> {
 
     ghost faults = { λ s. s };
 
-    fn write(&mut self, from: &[u8]) -> Result<usize, Fault> {
+    fn write(&mut self, from: &[u8]) -> Result<usize, Fault>
+        ensures bound { IfOk result (λ n. n ≤ length from.now) }
+        ensures some { IfOk result (λ n. 0 < length from.now → 0 < n) }
+        ensures bytes { Takes None None [] [] result from.now }
+        ensures cause { FaultHasCause self.old self.new result }
+        ensures refused { IsOkUnless result fault.Failed }
+        ensures exact { self.new ≡ count_after self.old result }
+    {
         if let Ok(count) = self.output.write_some(from) {
             if count > 0 || from.is_empty() {
                 return Ok(count);
@@ -141,7 +159,12 @@ impl<P: Print + Drop> Sink for StdoutSink<P> {
         Err(Fault::Failed)
     }
 
-    fn flush(&mut self) -> Result<(), Fault> {
+    fn flush(&mut self) -> Result<(), Fault>
+        ensures ok { OnOk result (Appends None None []) }
+        ensures err { OnErr result (Carries None None [] []) }
+        ensures cause { FaultHasCause self.old self.new result }
+        ensures exact { (result ≡ Ok tt) × (self.new ≡ self.old) }
+    {
         Ok(())
     }
 }

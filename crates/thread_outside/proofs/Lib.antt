@@ -1,4 +1,5 @@
 pub mod Views
+pub mod FlagMoves
 pub mod LaneMoves
 pub mod CallMoves
 pub mod CallSteps

@@ -16,7 +16,7 @@ use Rattle.gate_outside.specs.Links.{ReturnedLink}
 use Rattle.thread_outside.specs.declared.call_view.CallView.{CallView}
 use Rattle.thread_outside.specs.CallLists.{CallState, ends_in, has_ended}
 use Rattle.thread_outside.specs.CallRule.{WasEmpty}
-use Rattle.thread_outside.specs.Lanes.{LaneEnds, new_ends}
+use Rattle.thread_outside.specs.Lanes.{LaneId, LaneEnds, new_ends}
 use Rattle.thread_outside.specs.MemLinks.{LinkState, new_link, kept_link}
 
 -- which queue a door takes from, how many dials put there, what it took, and how often it took nothing
@@ -148,7 +148,7 @@ after_dialled d url e = record {
 
 -- a call of `dial` gives the one end and puts the other; out of memory leaves all as it was
 abbrev pub DialsDoor : DoorDialState → DoorDialState → List ℕ → Result LinkState Fault → Type 0
-DialsDoor old new url (Ok link) = (here there : SegId Global) × ((link ≡ new_link None (Some (new_ends here there)) []) × (new ≡ after_dialled old url (new_ends there here)))
+DialsDoor old new url (Ok link) = (here there : LaneId) × ((link ≡ new_link None (Some (new_ends here there)) []) × (new ≡ after_dialled old url (new_ends there here)))
 DialsDoor old new url (Err Failed) = ⊥
 DialsDoor old new url (Err Memory) = new ≡ old
 

@@ -5,10 +5,12 @@ use Rattle.std.specs.declared.option.Option.{Option}
 use Rattle.std.specs.declared.option.Option.TheVariants.{Some, None}
 use mathlib.Core.Option.{some}
 use lib.ListN.{get_elem?}
+use Rattle.atomic_table.specs.Seated.{TableId}
 use Rattle.crossbeam_queue.specs.SegTies.{SegId}
 use Rattle.gate_outside.specs.declared.faults.Fault.{Fault}
 use Rattle.gate_outside.specs.declared.faults.Fault.TheVariants.{Failed, Memory}
 use Rattle.gate_outside.specs.declared.sending.Sending.{Sending}
+use Rattle.gate_outside.specs.declared.sending.Sending.TheVariants as sending
 use Rattle.thread_outside.specs.declared.lane_view.LaneView.{LaneView}
 
 abbrev pub view_of : Bool → List Sending → Bool → List Sending → ℕ → LaneView
@@ -61,37 +63,58 @@ pub record KeepsAll (items : List Sending) (views : List LaneView) : Type 0 wher
 abbrev pub WasEmpty : LaneView → Type 0
 WasEmpty v = (views : List LaneView) × (port : ℕ) × KeepsAll [] views × (get_elem? views port ≡ some v)
 
--- which lane an end takes from, which it puts into, and what it knows of them
+-- which lane it is: its queue, and the flag that is up once the end that puts has left
+pub record LaneId : Type 0 where
+  pub queue : SegId Global
+  pub flag : TableId
+
+-- which lane an end takes from, which it puts into, what it knows of them, and whether it has found that the other
+-- end has left
 pub record LaneEnds : Type 0 where
-  pub from : SegId Global
-  pub to : SegId Global
+  pub from : LaneId
+  pub to : LaneId
   pub came : LaneView
   pub went : LaneView
+  pub is_left : Bool
 
 -- an end before its first call
-abbrev pub new_ends : SegId Global → SegId Global → LaneEnds
-new_ends from to = record { from = from; to = to; came = taker opening; went = putter opening }
+abbrev pub new_ends : LaneId → LaneId → LaneEnds
+new_ends from to = record { from = from; to = to; came = taker opening; went = putter opening; is_left = false }
 
 abbrev pub came_on : LaneEnds → Sending → LaneEnds
-came_on e x = record { from = e.from; to = e.to; came = after_take e.came x; went = e.went }
+came_on e x = record { from = e.from; to = e.to; came = after_take e.came x; went = e.went; is_left = e.is_left }
 
 abbrev pub came_none : LaneEnds → LaneEnds
-came_none e = record { from = e.from; to = e.to; came = with_empty_take e.came; went = e.went }
+came_none e = record { from = e.from; to = e.to; came = with_empty_take e.came; went = e.went; is_left = e.is_left }
 
 abbrev pub went_on : LaneEnds → Sending → LaneEnds
-went_on e x = record { from = e.from; to = e.to; came = e.came; went = after_put e.went x }
+went_on e x = record { from = e.from; to = e.to; came = e.came; went = after_put e.went x; is_left = e.is_left }
+
+abbrev pub found_left : LaneEnds → LaneEnds
+found_left e = record { from = e.from; to = e.to; came = e.came; went = e.went; is_left = true }
 
 -- an end takes what waits first; it takes nothing, and fails, only if the lane was empty at one step of the call,
--- which it counted before
+-- which it counted before; it fails only if it has found that the other end has left
 abbrev pub TakesLane : Option LaneEnds → Option LaneEnds → Result (Option Sending) Fault → Type 0
 TakesLane None new result = new ≡ None
 TakesLane (Some e) new (Ok None) = (new ≡ Some (came_none e)) × WasEmpty (with_empty_take e.came)
 TakesLane (Some e) new (Ok (Some x)) = new ≡ Some (came_on e x)
-TakesLane (Some e) new (Err Failed) = (new ≡ Some (came_none e)) × WasEmpty (with_empty_take e.came)
+TakesLane (Some e) new (Err Failed) = (new ≡ Some (found_left (came_none e))) × WasEmpty (with_empty_take e.came)
 TakesLane (Some e) new (Err Memory) = new ≡ Some e
+
+-- a text goes to an end that is not known to have left, a close code to any
+abbrev pub MayGo : LaneEnds → Sending → Type 0
+MayGo e (sending.Text text) = e.is_left ≡ false
+MayGo e (sending.Close code) = Unit {0}
+
+-- a text alone is refused, and only if the other end is found to have left
+abbrev pub RefusesLane : LaneEnds → Option LaneEnds → Sending → Type 0
+RefusesLane e new (sending.Text text) = new ≡ Some (found_left e)
+RefusesLane e new (sending.Close code) = ⊥
 
 -- an end puts at the back; a refusal puts nothing
 abbrev pub PutsLane : Option LaneEnds → Option LaneEnds → Sending → Result (Unit {0}) Fault → Type 0
 PutsLane None new x result = new ≡ None
-PutsLane (Some e) new x (Ok u) = new ≡ Some (went_on e x)
-PutsLane (Some e) new x (Err fault) = new ≡ Some e
+PutsLane (Some e) new x (Ok u) = MayGo e x × (new ≡ Some (went_on e x))
+PutsLane (Some e) new x (Err Failed) = RefusesLane e new x
+PutsLane (Some e) new x (Err Memory) = new ≡ Some e

@@ -1,4 +1,6 @@
+pub mod Flags
 pub mod Lanes
+pub mod EndInside
 pub mod Peers
 pub mod MemLinks
 pub mod Shelves

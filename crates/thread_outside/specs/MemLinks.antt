@@ -8,10 +8,9 @@ use Rattle.gate_outside.specs.declared.faults.Fault.{Fault}
 use Rattle.gate_outside.specs.declared.faults.Fault.TheVariants.{Failed, Memory}
 use Rattle.gate_outside.specs.declared.incoming.Incoming.{Incoming}
 use Rattle.gate_outside.specs.declared.sending.Sending.{Sending}
+use Rattle.gate_outside.specs.declared.sending.Sending.TheVariants as sending
 use Rattle.gate_outside.specs.Links.{LinkTale, ReturnedLink, returned_link, given_by, gave_text_after}
-use Rattle.crossbeam_queue.specs.SegTies.{SegId}
-use Rattle.std.specs.declared.alloc.Global.{Global}
-use Rattle.thread_outside.specs.Lanes.{LaneEnds, WasEmpty, new_ends, came_on, came_none, went_on}
+use Rattle.thread_outside.specs.Lanes.{LaneId, LaneEnds, WasEmpty, MayGo, new_ends, came_on, came_none, went_on, found_left}
 use Rattle.thread_outside.specs.Peers.{first_turn}
 
 -- a link in memory; a script alone tells the turns that are still to come, and an end that another may hold tells its lanes
@@ -44,7 +43,7 @@ new_link turns lane failing = record {
 
 -- two links before their first calls, of which each takes from the lane that the other puts into
 abbrev pub ArePaired : LinkState → LinkState → Type 0
-ArePaired near far = (here there : SegId Global) × ((near ≡ new_link None (Some (new_ends here there)) []) × (far ≡ new_link None (Some (new_ends there here)) []))
+ArePaired near far = (here there : LaneId) × ((near ≡ new_link None (Some (new_ends here there)) []) × (far ≡ new_link None (Some (new_ends there here)) []))
 
 -- what waits at the next call of a script
 abbrev pub waiting : List (Option Sending) → List Sending
@@ -64,9 +63,27 @@ tale_of s = record {
 abbrev pub after_fault_of : LinkState → LinkState
 after_fault_of s = record s { plan = after_failed_call s.plan }
 
--- a call fails if it is to fail, or if the other end is no script
-abbrev pub Fails : LinkState → LinkState → Type 0
-Fails old new = ((fails old.plan ≡ true) ⊎ (old.turns ≡ None)) × (new ≡ after_fault_of old)
+-- a lane whose other end is found to have left
+abbrev pub lane_left : Option LaneEnds → Option LaneEnds
+lane_left lane = option_map found_left lane
+
+-- a lane refuses a text alone
+abbrev pub MayRefuse : Option LaneEnds → Sending → Type 0
+MayRefuse None x = Unit {0}
+MayRefuse (Some e) (sending.Text text) = Unit {0}
+MayRefuse (Some e) (sending.Close code) = ⊥
+
+-- after a call that failed since the other end has left
+abbrev pub after_refusal : LinkState → LinkState
+after_refusal s = record s { lane = lane_left s.lane; plan = after_failed_call s.plan }
+
+-- the other end, which is no script, refuses what goes out
+abbrev pub Refuses : LinkState → LinkState → Sending → Type 0
+Refuses old new x = (old.turns ≡ None) × MayRefuse old.lane x × (new ≡ after_refusal old)
+
+-- a call fails if it is to fail, or if the other end refuses what goes out
+abbrev pub Fails : LinkState → LinkState → Sending → Type 0
+Fails old new x = ((fails old.plan ≡ true) × (new ≡ after_fault_of old)) ⊎ Refuses old new x
 
 -- nothing waited on the lane at one step of the call that its end has counted last
 abbrev pub FoundEmpty : Option LaneEnds → Type 0
@@ -93,9 +110,9 @@ after_given s turn = record {
 
 -- after a call of `recv` that found nothing and failed
 abbrev pub after_empty_fault : LinkState → LinkState
-after_empty_fault s = record s { lane = lane_after s.lane None; plan = after_failed_call s.plan }
+after_empty_fault s = record s { lane = lane_left (lane_after s.lane None); plan = after_failed_call s.plan }
 
--- a call of `recv` fails if it is to fail, or if the other end is no script and nothing waited
+-- a call of `recv` fails if it is to fail, or if the other end, which is no script, has left and nothing waited
 abbrev pub RecvFails : LinkState → LinkState → Type 0
 RecvFails old new = ((fails old.plan ≡ true) × (new ≡ after_fault_of old))
     ⊎ ((old.turns ≡ None) × (new ≡ after_empty_fault old) × FoundEmpty new.lane)
@@ -124,16 +141,21 @@ after_put s x own = record {
   plan = after_call s.plan;
 }
 
+-- a text goes to an end that is not known to have left
+abbrev pub MayGoOut : Option LaneEnds → Sending → Type 0
+MayGoOut None x = Unit {0}
+MayGoOut (Some e) x = MayGo e x
+
 -- something goes out to the other end
 abbrev pub GoesOut : LinkState → LinkState → Sending → Result (Unit {0}) Fault → Type 0
-GoesOut old new x (Ok u) = new ≡ after_put old x old.own_code
-GoesOut old new x (Err Failed) = (old.turns ≡ None) × (new ≡ after_fault_of old)
+GoesOut old new x (Ok u) = MayGoOut old.lane x × (new ≡ after_put old x old.own_code)
+GoesOut old new x (Err Failed) = Refuses old new x
 GoesOut old new x (Err Memory) = new ≡ old
 
 -- a call of `send` or `close` on a link that this end has not closed
 abbrev pub PutsOpen : LinkState → LinkState → Sending → Option ℕ → Result (Unit {0}) Fault → Type 0
-PutsOpen old new x own (Ok u) = (fails old.plan ≡ false) × (new ≡ after_put old x own)
-PutsOpen old new x own (Err Failed) = Fails old new
+PutsOpen old new x own (Ok u) = (fails old.plan ≡ false) × MayGoOut old.lane x × (new ≡ after_put old x own)
+PutsOpen old new x own (Err Failed) = Fails old new x
 PutsOpen old new x own (Err Memory) = new ≡ old
 
 -- a call of `send` or `close`; after the link's own close no call is counted and nothing changes

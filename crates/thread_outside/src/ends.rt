@@ -1,9 +1,9 @@
 //! The two lanes of an end in memory.
-ghost use Rattle.std.specs.Prelude.{◌≡◌, Some, None, IfOk};
-ghost use Rattle.thread_outside.specs.Lanes.{new_ends, TakesLane, PutsLane};
+ghost use Rattle.std.specs.Prelude.{◌≡◌, Some, None, IfOk, MatchBool};
+ghost use Rattle.thread_outside.specs.Lanes.{new_ends, MayGo, RefusesLane, TakesLane, PutsLane};
 ghost use Rattle.thread_outside.specs.Peers.{KeepsCopy};
 
-use crate::lane::{Lane, LanePass};
+use crate::lane::{Lane, Putting, Taking};
 use crate::twice::Twice;
 use gate_outside::faults::Fault;
 use gate_outside::sending::Sending;
@@ -11,17 +11,16 @@ use std::alloc::{AllocError, Global};
 use std::marker::Model;
 use std::sync::{Arc, Wait};
 
-/// The lane that an end takes from and the lane that it puts into, with its passes.
+/// The lane that an end takes from and the lane that it puts into, with its rights.
 pub(crate) struct Ends {
     from: Arc<Lane, Global>,
     to: Arc<Lane, Global>,
-    takes: LanePass,
-    puts: LanePass,
+    takes: Taking,
+    puts: Putting,
 }
 
 impl Model for Ends {
-    ghost use Rattle.std.specs.Prelude.{◌≡◌, true};
-    ghost use Rattle.crossbeam_queue.specs.SegTies.{IsSegPassOf};
+    ghost use Rattle.thread_outside.specs.EndInside.{Takes, Puts};
     ghost use Rattle.thread_outside.specs.Lanes.{LaneEnds};
 
     ghost Value = { LaneEnds };
@@ -29,12 +28,12 @@ impl Model for Ends {
     ghost view = { λ e. record {
       from = e.from.value;
       to = e.to.value;
-      came = e.takes.me.view.client;
-      went = e.puts.me.view.client;
+      came = e.takes.pass.me.view.client;
+      went = e.puts.pass.me.view.client;
+      is_left = e.takes.seat.me.0.found;
     } };
 
-    ghost invariant = { λ e. IsSegPassOf e.from.value e.takes × IsSegPassOf e.to.value e.puts
-        × (e.takes.me.view.client.takes ≡ true) × (e.puts.me.view.client.puts ≡ true) };
+    ghost invariant = { λ e. Takes e.from.value e.takes × Puts e.to.value e.puts };
 }
 
 impl Drop for Ends {
@@ -43,9 +42,10 @@ impl Drop for Ends {
             from: _,
             to,
             takes: _,
-            puts: _,
+            puts,
         } = self;
-        to.leave();
+        let mut seat = puts.seat;
+        to.leave(&mut seat);
     }
 }
 
@@ -70,14 +70,6 @@ pub(crate) fn joined_ends(alloc: Global) -> Result<(Ends, Ends), AllocError>
     Ok((near, far))
 }
 
-// Whether it is a text.
-fn is_text(sending: &Sending) -> bool {
-    match sending {
-        Sending::Text(_) => true,
-        Sending::Close(_) => false,
-    }
-}
-
 impl Ends {
     // Takes what waits first, and adds a copy of it to the list.
     pub(crate) fn take<R: Wait>(
@@ -90,15 +82,27 @@ impl Ends {
     {
         taken.reserve(1)?;
         // Asked before the lane: what was put before the other end went is found below.
-        let left = self.from.is_left();
-        match self.from.take(runtime, &mut self.takes) {
+        let left = self.from.may_be_left();
+        match self.from.take(runtime, &mut self.takes.pass) {
             Some(twice) => {
                 let (given, kept) = twice.into_parts();
                 taken.push_reserved(kept);
                 Ok(Some(given))
             }
-            None if left => Err(Fault::Failed),
+            None if left && self.from.is_left(&mut self.takes.seat) => Err(Fault::Failed),
             None => Ok(None),
+        }
+    }
+
+    // Whether what goes out is refused: a text, if the other end has left.
+    fn refuses(&mut self, sending: &Sending) -> bool
+        ensures { MatchBool result
+            (RefusesLane self.old (Some self.new) sending.now)
+            ((self.new ≡ self.old) × MayGo self.old sending.now) }
+    {
+        match sending {
+            Sending::Text(_) => self.from.is_left(&mut self.takes.seat),
+            Sending::Close(_) => false,
         }
     }
 
@@ -111,11 +115,11 @@ impl Ends {
     ) -> Result<(), Fault>
         ensures { PutsLane (Some self.old) (Some self.new) sending result }
     {
-        if is_text(&sending) && self.from.is_left() {
+        if self.refuses(&sending) {
             return Err(Fault::Failed);
         }
         let twice = Twice::new(alloc, sending)?;
-        match self.to.put(runtime, &mut self.puts, twice) {
+        match self.to.put(runtime, &mut self.puts.pass, twice) {
             Ok(()) => Ok(()),
             Err(_) => Err(Fault::Memory),
         }

@@ -1,23 +1,24 @@
 //! Notes that are kept.
 ghost use Rattle.std.specs.Prelude.{◌≡◌, [], Some};
 
+use collections::Duplicate;
 use gate_outside::notes::Notes;
 use std::alloc::{AllocError, Global};
 
-/// Keeps a clone of each input that is noted, for inputs whose clones equal them.
+/// Keeps a copy of each input that is noted.
 #[derive(Drop)]
-pub struct KeptNotes<I: Clone> {
+pub struct KeptNotes<I: Duplicate> {
+    alloc: Global,
     notes: Vec<I>,
-    ghost equal: { (x y : I) → I.is_clone x y → y ≡ x },
 }
 
-impl<I: Clone> KeptNotes<I> {
+impl<I: Duplicate> KeptNotes<I> {
     /// No notes yet.
     pub fn new(alloc: Global) -> KeptNotes<I>
-        requires { (x y : I) → I.is_clone x y → y ≡ x }
         ensures { result.notes.items ≡ [] }
     {
         KeptNotes {
+            alloc,
             notes: Vec::new(alloc),
         }
     }
@@ -30,11 +31,11 @@ impl<I: Clone> KeptNotes<I> {
     }
 }
 
-impl<I: Clone> Notes<I> for KeptNotes<I> {
+impl<I: Duplicate + Drop> Notes<I> for KeptNotes<I> {
     ghost noted = { λ n. Some n.notes.items };
 
     fn note(&mut self, input: &I) -> Result<(), AllocError> {
-        let input = input.clone()?;
+        let input = input.duplicate(self.alloc)?;
         self.notes.push(input)?;
         Ok(())
     }

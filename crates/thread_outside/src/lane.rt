@@ -1,15 +1,16 @@
 //! What goes one way between two ends in memory.
-ghost use Rattle.std.specs.Prelude.{◌≡◌, true, MatchOption, MatchResult, IfOk};
+ghost use Rattle.std.specs.Prelude.{◌≡◌, true, false, [], MatchBool, MatchOption, MatchResult, IfOk};
 ghost use Rattle.crossbeam_queue.specs.SegTies.{IsSegPassOf};
+ghost use Rattle.thread_outside.specs.Flags.{whole, leaver, finder, leaving, view_of};
 ghost use Rattle.thread_outside.specs.Lanes.{opening, putter, taker, spent, after_put, after_take, with_empty_take, took_after_all, WasEmpty};
 
+use crate::flag::{self, Flag, FlagSeat};
 use crate::lane_view::LaneView;
 use crate::twice::Twice;
 use crossbeam_queue::protocol::{Lesson, Outcome, Protocol, Split};
 use crossbeam_queue::{RuledSegQueue, SegPass};
 use std::alloc::{AllocError, Global};
 use std::marker::Model;
-use std::sync::atomic::{AtomicBool, Ordering};
 use std::sync::{Arc, Wait};
 
 // The rule of a lane.
@@ -77,42 +78,69 @@ impl Split<LaneView> for Parts {
 /// The right of one end to put into a lane, or to take from it.
 pub(crate) type LanePass = SegPass<Twice, LaneView>;
 
-// What waits for one end, and whether the end that puts it there is gone. A clause sees its queue.
+// What the end that puts holds of a lane: its pass, and the seat by which it leaves.
+#[derive(Drop)]
+pub(crate) struct Putting {
+    pub(crate) pass: LanePass,
+    pub(crate) seat: FlagSeat,
+}
+
+// What the end that takes holds of a lane: its pass, and the seat by which it finds that the other left.
+#[derive(Drop)]
+pub(crate) struct Taking {
+    pub(crate) pass: LanePass,
+    pub(crate) seat: FlagSeat,
+}
+
+// What waits for one end, and the flag that is up once the end that puts it there has left. A clause
+// sees its name.
 pub(crate) struct Lane {
     waiting: RuledSegQueue<Twice, LaneView, All>,
-    gone: AtomicBool,
+    flag: Flag,
 }
 
 impl Model for Lane {
-    ghost use Rattle.std.specs.declared.alloc.Global.{Global};
-    ghost use Rattle.crossbeam_queue.specs.SegTies.{SegId};
+    ghost use Rattle.std.specs.Prelude.{◌≡◌};
+    ghost use Rattle.thread_outside.specs.Lanes.{LaneId};
 
-    ghost Value = { SegId Global };
+    ghost Value = { LaneId };
 
-    ghost view = { λ l. l.waiting };
+    ghost view = { λ l. record {
+      queue = l.waiting;
+      flag = l.flag.shared.table_id;
+    } };
+
+    ghost invariant = { λ l. l.flag.shared.table_id.words ≡ 1 };
 }
 
 impl Drop for Lane {
     fn drop(self) {
-        let Self { waiting, gone: _ } = self;
+        let Self { waiting, flag: _ } = self;
         waiting.destroy();
     }
 }
 
 impl Lane {
-    // An empty lane, which two ends may share, the pass of the end that puts, and that of the end that
-    // takes.
-    pub(crate) fn open(alloc: Global) -> Result<(Arc<Lane, Global>, LanePass, LanePass), AllocError>
-        ensures lane { IfOk result (λ r. IsSegPassOf r.0.value r.1 × IsSegPassOf r.0.value r.2) }
-        ensures views { IfOk result (λ r. (r.1.me.view.client ≡ putter opening) × (r.2.me.view.client ≡ taker opening)) }
+    // An empty lane, which two ends may share, the rights of the end that puts, and those of the end
+    // that takes.
+    pub(crate) fn open(alloc: Global) -> Result<(Arc<Lane, Global>, Putting, Taking), AllocError>
+        ensures queue { IfOk result (λ r. IsSegPassOf r.0.value.queue r.1.pass × IsSegPassOf r.0.value.queue r.2.pass) }
+        ensures views { IfOk result (λ r. (r.1.pass.me.view.client ≡ putter opening) × (r.2.pass.me.view.client ≡ taker opening)) }
+        ensures flag { IfOk result (λ r. (r.1.seat.table_id ≡ r.0.value.flag) × (r.2.seat.table_id ≡ r.0.value.flag)) }
+        ensures seats { IfOk result (λ r. (r.1.seat.me ≡ (leaver whole, [])) × (r.2.seat.me ≡ (finder whole, []))) }
     {
+        let (flag, leaves, finds) = flag::open(alloc)?;
         let (waiting, mut puts) = RuledSegQueue::with_rule(alloc)?;
         let takes = waiting.another::<Parts>(&mut puts);
-        let lane = Lane {
-            waiting,
-            gone: AtomicBool::new(false),
+        let lane = Arc::new(alloc, Lane { waiting, flag })?;
+        let puts = Putting {
+            pass: puts,
+            seat: leaves,
         };
-        let lane = Arc::new(alloc, lane)?;
+        let takes = Taking {
+            pass: takes,
+            seat: finds,
+        };
         Ok((lane, puts, takes))
     }
 
@@ -123,9 +151,9 @@ impl Lane {
         pass: &mut LanePass,
         sending: Twice,
     ) -> Result<(), Twice>
-        requires lane { IsSegPassOf self.now pass.old }
+        requires lane { IsSegPassOf self.now.queue pass.old }
         requires puts { pass.old.me.view.client.puts ≡ true }
-        ensures lane { IsSegPassOf self.now pass.new }
+        ensures lane { IsSegPassOf self.now.queue pass.new }
         ensures put { MatchResult result (λ _. pass.new.me.view.client ≡ after_put pass.old.me.view.client sending) (λ back. (back ≡ sending) × (pass.new.me.view.client ≡ pass.old.me.view.client)) }
     {
         self.waiting.push_as::<Puts, R>(runtime, pass, sending)
@@ -133,9 +161,9 @@ impl Lane {
 
     // Takes what waits first. `None` only if nothing waited at one step of the call.
     pub(crate) fn take<R: Wait>(&self, runtime: &R, pass: &mut LanePass) -> Option<Twice>
-        requires lane { IsSegPassOf self.now pass.old }
+        requires lane { IsSegPassOf self.now.queue pass.old }
         requires takes { pass.old.me.view.client.takes ≡ true }
-        ensures lane { IsSegPassOf self.now pass.new }
+        ensures lane { IsSegPassOf self.now.queue pass.new }
         ensures taken { MatchOption result
             ((pass.new.me.view.client ≡ with_empty_take pass.old.me.view.client)
             × WasEmpty pass.new.me.view.client)
@@ -150,9 +178,9 @@ impl Lane {
     // Counts this take as one that finds nothing, and only then looks, so that the step at which the
     // lane was empty is known to be one of this call.
     fn count_and_take<R: Wait>(&self, runtime: &R, pass: &mut LanePass) -> Option<Twice>
-        requires lane { IsSegPassOf self.now pass.old }
+        requires lane { IsSegPassOf self.now.queue pass.old }
         requires takes { pass.old.me.view.client.takes ≡ true }
-        ensures lane { IsSegPassOf self.now pass.new }
+        ensures lane { IsSegPassOf self.now.queue pass.new }
         ensures taken { MatchOption result
             ((pass.new.me.view.client ≡ with_empty_take pass.old.me.view.client)
             × WasEmpty pass.new.me.view.client)
@@ -163,12 +191,28 @@ impl Lane {
     }
 
     // Says that nothing more will be put.
-    pub(crate) fn leave(&self) {
-        self.gone.store(true, Ordering::SeqCst);
+    pub(crate) fn leave(&self, leaves: &mut FlagSeat)
+        requires flag { leaves.old.table_id ≡ self.now.flag }
+        requires leaves { (leaves.old.me.0.puts ≡ true) × (leaves.old.me.0.takes ≡ false) }
+        ensures { leaves.new.me ≡ (leaving leaves.old.me.0, leaves.old.me.1) }
+    {
+        flag::leave(&self.flag, leaves);
     }
 
-    // Whether nothing more will be put.
-    pub(crate) fn is_left(&self) -> bool {
-        self.gone.load(Ordering::SeqCst)
+    // Whether nothing more will be put, which the end that takes then knows.
+    pub(crate) fn is_left(&self, finds: &mut FlagSeat) -> bool
+        requires flag { finds.old.table_id ≡ self.now.flag }
+        requires finds { (finds.old.me.0.takes ≡ true) × (finds.old.me.0.puts ≡ false) }
+        ensures flag { finds.new.table_id ≡ finds.old.table_id }
+        ensures found { MatchBool result
+            (finds.new.me ≡ (view_of false finds.old.me.0.left true true, finds.old.me.1))
+            ((finds.new.me ≡ finds.old.me) × (finds.old.me.0.found ≡ false)) }
+    {
+        flag::is_up(&self.flag, finds)
+    }
+
+    // Whether it may be that nothing more will be put.
+    pub(crate) fn may_be_left(&self) -> bool {
+        flag::may_be_up(&self.flag)
     }
 }

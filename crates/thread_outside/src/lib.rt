@@ -11,6 +11,8 @@ pub mod dialled_door;
 pub mod door_content;
 pub mod door_dial;
 mod ends;
+mod flag;
+pub mod flag_view;
 pub mod kept_notes;
 mod lane;
 pub mod lane_end;

@@ -1,11 +1,14 @@
 //! A network in memory, some of whose asks for doors fail.
 ghost use Rattle.std.specs.Prelude.{◌≡◌, ◌≤◌, IfOk};
 ghost use Rattle.gate_outside.specs.Causes.{FaultHasCause};
+ghost use Rattle.gate_outside.specs.Dials.{Dials, HangsUp};
 ghost use Rattle.gate_outside.specs.Doors.{IsNewDoor};
 ghost use Rattle.gate_outside.specs.Houses.{AsksDoor, PutsDoor};
+ghost use Rattle.gate_outside.specs.Links.{IsNewLink};
 ghost use Rattle.gate_outside.specs.declared.faults.Fault.TheVariants as fault;
-ghost use Rattle.thread_outside.specs.MemDials.{dial_tale};
+ghost use Rattle.thread_outside.specs.MemDials.{dial_tale, after_back, Opens};
 ghost use Rattle.thread_outside.specs.MemDoors.{door_tale};
+ghost use Rattle.thread_outside.specs.MemLinks.{tale_of};
 ghost use Rattle.thread_outside.specs.MemNetworks.{new_mem_network, doors_of, kept_door, after_failed_ask, with_door, GivesDoor};
 
 use crate::door_content::DoorContent;
@@ -90,11 +93,23 @@ impl<P: Peer + Drop> Dial for MemNetwork<P> {
 
     ghost house_tale = { doors_of };
 
-    fn dial(&mut self, url: &str) -> Result<MemLink<P>, Fault> {
+    fn dial(&mut self, url: &str) -> Result<MemLink<P>, Fault>
+        ensures tale { Dials (dial_tale self.old.dial) (dial_tale self.new.dial) url.now result }
+        ensures new_link { IfOk result (λ l. IsNewLink (tale_of l) l.plan.faults) }
+        ensures cause { FaultHasCause self.old.dial.plan.faults self.new.dial.plan.faults result }
+        ensures house { doors_of self.new ≡ doors_of self.old }
+        ensures opens { Opens self.old.dial self.new.dial url.now result }
+        ensures exact { self.new ≡ record self.old { dial = self.new.dial } }
+    {
         self.dial.dial(url)
     }
 
-    fn back(&mut self, wire: MemLink<P>) {
+    fn back(&mut self, wire: MemLink<P>)
+        ensures tale { HangsUp (dial_tale self.old.dial) (dial_tale self.new.dial) (tale_of wire) wire.plan.faults }
+        ensures faults { self.new.dial.plan.faults ≡ self.old.dial.plan.faults }
+        ensures house { doors_of self.new ≡ doors_of self.old }
+        ensures exact { self.new ≡ record self.old { dial = after_back self.old.dial wire } }
+    {
         self.dial.back(wire);
     }
 }

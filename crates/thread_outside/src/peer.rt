@@ -18,13 +18,14 @@ pub trait Peer {
 
     /// Takes what waits first, or nothing, and adds a copy of it to the list. A refusal changes
     /// nothing, and a script never fails. An end that another may hold takes nothing, or fails, only
-    /// if nothing waited at one step of the call.
+    /// if nothing waited at one step of the call, and fails only if it found that the other has left.
     fn take(&mut self, taken: &mut Vec<Sending>) -> Result<Option<Sending>, Fault>
         ensures turn { TakesTurn (turns self.old) (turns self.new) result }
         ensures lane { TakesLane (lane self.old) (lane self.new) result }
         ensures copy { KeepsCopy taken.old.items taken.new.items result };
 
-    /// Puts what goes out. A refusal puts nothing, and a script refuses nothing.
+    /// Puts what goes out. A refusal puts nothing, and a script refuses nothing. An end that another
+    /// may hold refuses a text alone, if it finds that the other has left, and then each.
     fn put(&mut self, sending: Sending) -> Result<(), Fault>
         ensures turns { Puts (turns self.old) (turns self.new) result }
         ensures lane { PutsLane (lane self.old) (lane self.new) sending result };

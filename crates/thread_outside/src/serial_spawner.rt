@@ -2,7 +2,8 @@
 ghost use Rattle.std.specs.Prelude.{◌≡◌, ◌<◌, true, false, IfOk, IfErr, OnOk, OnErr};
 ghost use Rattle.gate_outside.specs.FaultPlans.{fresh, fails};
 ghost use Rattle.gate_outside.specs.Causes.{HasCause};
-ghost use Rattle.gate_outside.specs.Spawners.{no_starts, after_start};
+ghost use Rattle.gate_outside.specs.Spawners.{no_starts, after_start, after_finish};
+ghost use Rattle.thread_outside.specs.Teams.{started, finished};
 
 use crate::start_count::StartCount;
 use gate_outside::fault_plan::FaultPlan;
@@ -66,6 +67,7 @@ impl<T: Task> Spawner<T> for SerialSpawner {
         ensures cause { HasCause self.old.plan.faults self.new.plan.faults result }
         ensures ok { OnOk result (fails self.old.plan ≡ false) }
         ensures err { OnErr result (fails self.old.plan ≡ true) }
+        ensures exact { self.new ≡ started self.old }
     {
         self.count.start();
         if self.plan.fails() {
@@ -76,7 +78,12 @@ impl<T: Task> Spawner<T> for SerialSpawner {
         Ok(task)
     }
 
-    fn finish(&mut self, held: T) -> T::Done {
+    fn finish(&mut self, held: T) -> T::Done
+        ensures gives { T.gives held result }
+        ensures starts { self.new.starts ≡ after_finish self.old.starts }
+        ensures faults { self.new.plan.faults ≡ self.old.plan.faults }
+        ensures exact { self.new ≡ finished self.old }
+    {
         self.count.finish();
         held.run()
     }

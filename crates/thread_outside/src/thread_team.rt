@@ -1,6 +1,6 @@
 //! A team of threads.
 ghost use Rattle.std.specs.Prelude.{◌≡◌, IfOk, IfErr};
-ghost use Rattle.gate_outside.specs.Causes.{HasCause};
+ghost use Rattle.gate_outside.specs.Causes.{HasCause, count_after};
 ghost use Rattle.gate_outside.specs.Spawners.{after_start, after_finish};
 ghost use Rattle.thread_outside.specs.Teams.{new_team};
 
@@ -54,6 +54,7 @@ impl<R: Threads + Drop> ThreadTeam<R> {
         ensures back { IfErr result (λ t. t ≡ task) }
         ensures starts { self.new.starts ≡ after_start self.old.starts }
         ensures cause { HasCause self.old.faults self.new.faults result }
+        ensures faults { self.new.faults ≡ count_after self.old.faults result }
     {
         self.count.start();
         match begin(&self.runtime, self.alloc, task) {
