@@ -3,7 +3,8 @@ use Rattle.std.proofs.Common.{◌≡◌, ℕ, ◌+◌, ◌<◌, false, List, [],
 use Rattle.std.proofs.lemmas.List.{map-append, take_more}
 use Rattle.guild_hub.specs.Logs.{published}
 use Rattle.guild_hub.specs.Writes.{Publishing, publishing}
-use Rattle.guild_actor.specs.Acts.{AreNew, guilds_of, new_writer}
+use Rattle.guild_actor.specs.Acts.{AreNew, new_writer}
+use Rattle.guild_places.specs.Places.{guilds_of}
 
 abbrev Writer : Type 0
 Writer = ℕ × Publishing

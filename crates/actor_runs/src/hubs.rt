@@ -1,6 +1,7 @@
 //! A hub for each guild.
 ghost use Rattle.std.specs.Prelude.{◌≡◌, IfOk};
-ghost use Rattle.guild_actor.specs.Acts.{AreNew, guilds_of};
+ghost use Rattle.guild_actor.specs.Acts.{AreNew};
+ghost use Rattle.guild_places.specs.Places.{guilds_of};
 
 use guild_hub::HubWriter;
 use snowflake_id::Snowflake;

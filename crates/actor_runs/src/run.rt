@@ -1,6 +1,7 @@
 //! Four senders and an actor.
 ghost use Rattle.std.specs.Prelude.{◌≡◌, [], All, IfOk};
-ghost use Rattle.guild_actor.specs.Acts.{AreDistinct, AreNew, guilds_of};
+ghost use Rattle.guild_actor.specs.Acts.{AreNew};
+ghost use Rattle.guild_places.specs.Places.{AreDistinct, guilds_of};
 
 use crate::hubs;
 use crate::senders::{self, Sender};

@@ -1,10 +1,11 @@
 -- How the counts of strays and of full logs go on with a request.
-use Rattle.std.proofs.Common.{◌≡◌, ◌≢◌, ℕ, zero, suc, ◌+◌, ◌-◌, ◌<◌, ◌==◌, ◌||◌, Bool, true, false, not, List, [], ◌∷◌, ◌++◌, length, cond, eqb, get_or, true≢false, not-suc-le-zero, add-zero, sym, refl, ap, ap₂, ◌∙◌, subst, ⊎_elim, arith, length-append}
+use Rattle.std.proofs.Common.{◌≡◌, ◌≢◌, ℕ, zero, suc, ◌+◌, ◌-◌, ◌<◌, ◌==◌, Bool, true, false, not, List, [], ◌∷◌, ◌++◌, length, cond, get_or, not-suc-le-zero, add-zero, sym, refl, ap, ap₂, ◌∙◌, subst, arith, length-append}
 use Rattle.std.specs.List.{filter}
 use Rattle.std.proofs.lemmas.List.Elements.{filter-append}
-use Rattle.std.proofs.lemmas.Bool.Decides.{eqb_tells}
 use Rattle.edit_post.specs.declared.request.Request.{Request}
-use Rattle.guild_actor.specs.Acts.{refused_of, most, has_guild, strays_of, full_of, AreDistinct}
+use Rattle.guild_actor.specs.Acts.{refused_of, most, strays_of, full_of}
+use Rattle.guild_places.specs.Places.{has_guild, AreDistinct}
+use Rattle.guild_places.proofs.Guilds.{apart, unlike, first_of, rest_of}
 use Rattle.guild_actor.proofs.Edits.{edits_other}
 
 one : (b : Bool) (r : Request) → length (cond (not b) (r ∷ []) []) ≡ cond b 0 1
@@ -23,24 +24,6 @@ strays_none guilds rs r e = strays_more guilds rs r ∙ ap (λ b. strays_of guil
 pub strays_one : (guilds : List ℕ) (rs : List Request) (r : Request) → has_guild r.guild guilds ≡ false → strays_of guilds (rs ++ r ∷ []) ≡ strays_of guilds rs + 1
 strays_one guilds rs r e = strays_more guilds rs r ∙ ap (λ b. strays_of guilds rs + cond b 0 1) e
 
--- a guild that is not that of the request
-pub apart : (guild g : ℕ) → (guild == g) ≡ false → g ≢ guild
-apart guild g e same = ⊎_elim (λ (t : (eqb guild g ≡ true) × (guild ≡ g)). absurd (true≢false (sym t.0 ∙ e))) (λ (t : (eqb guild g ≡ false) × (guild ≢ g)). absurd (t.1 (sym same))) (eqb_tells guild g)
-
-pub first_of : (b c : Bool) → (b || c) ≡ false → b ≡ false
-first_of false c e = refl
-first_of true c e = absurd (true≢false e)
-
-pub rest_of : (b c : Bool) → (b || c) ≡ false → c ≡ false
-rest_of false c e = e
-rest_of true c e = absurd (true≢false e)
-
--- a guild that stands there is none that does not
-pub unlike : (g : ℕ) (gs : List ℕ) (place d : ℕ) → has_guild g gs ≡ false → place < length gs → get_or gs place d ≢ g
-unlike g [] place d none lt same = absurd (not-suc-le-zero lt)
-unlike g (x ∷ xs) zero d none lt same = apart g x (first_of (g == x) (has_guild g xs) none) same
-unlike g (x ∷ xs) (suc place) d none lt same = unlike g xs place d (rest_of (g == x) (has_guild g xs) none) (omega (arith, lt)) same
-
 refused_other : (g : ℕ) (rs : List Request) (r : Request) → g ≢ r.guild → refused_of g (rs ++ r ∷ []) ≡ refused_of g rs
 refused_other g rs r n = ap (λ l. length l - most) (edits_other g rs r n)
 
@@ -48,7 +31,7 @@ refused_other g rs r n = ap (λ l. length l - most) (edits_other g rs r n)
 pub full_stays : (guilds : List ℕ) (rs : List Request) (r : Request) → has_guild r.guild guilds ≡ false → full_of guilds (rs ++ r ∷ []) ≡ full_of guilds rs
 full_stays [] rs r e = refl
 full_stays (g ∷ gs) rs r e =
-    ap₂ (λ a b. a + b) (refused_other g rs r (apart r.guild g (first_of (r.guild == g) (has_guild r.guild gs) e))) (full_stays gs rs r (rest_of (r.guild == g) (has_guild r.guild gs) e))
+    ap₂ (λ a b. a + b) (refused_other g rs r (apart r.guild g (first_of (g == r.guild) (has_guild r.guild gs) e))) (full_stays gs rs r (rest_of (g == r.guild) (has_guild r.guild gs) e))
 
 -- a request whose guild refuses so many more
 pub full_more : (guilds : List ℕ) (rs : List Request) (r : Request) (place d n : ℕ) → AreDistinct guilds → place < length guilds → get_or guilds place d ≡ r.guild

@@ -4,11 +4,13 @@ use Rattle.std.proofs.lemmas.Bool.Decides.{Decides-eqb}
 use Rattle.edit_post.specs.declared.request.Request.{Request}
 use Rattle.guild_hub.specs.Logs.{published, with_entry}
 use Rattle.guild_hub.specs.Writes.{publishing}
-use Rattle.guild_actor.specs.Acts.{entries_of, refused_of, most, has_guild, strays_of, full_of, counted, guilds_of, AreDistinct, new_writer}
+use Rattle.guild_actor.specs.Acts.{entries_of, refused_of, most, strays_of, full_of, counted, new_writer}
+use Rattle.guild_places.specs.Places.{has_guild, guilds_of, AreDistinct}
 use Rattle.guild_actor.specs.Desks.{Holding, holding, writer_after, held_after, edited, Publishes}
 use Rattle.guild_actor.proofs.Edits.{entries_room, refused_room, entries_full, refused_full}
 use Rattle.guild_actor.proofs.Counts.{strays_none, strays_one, full_stays, full_more}
-use Rattle.guild_actor.proofs.Writers.{Writer, stays, one_more, many, guilds_after, new_after, guild_of_place}
+use Rattle.guild_actor.proofs.Writers.{Writer, stays, one_more, guilds_after, new_after}
+use Rattle.guild_places.proofs.Guilds.{many, guild_of_place}
 
 -- a count that goes on
 pub counted_more : (n : ℕ) → min (counted n + 1) (2 ^ 64 - 1) ≡ counted (n + 1)
@@ -21,8 +23,8 @@ writer_at rs (w ∷ ws) (suc place) d y lt = writer_at rs ws place d y (omega (a
 
 has_at : (gs : List ℕ) (place d : ℕ) (g : ℕ) → place < length gs → get_or gs place d ≡ g → has_guild g gs ≡ true
 has_at [] place d g lt at = absurd (not-suc-le-zero lt)
-has_at (x ∷ xs) zero d g lt at = ap (λ b. b || has_guild g xs) ((Decides-eqb g x).1 (sym at))
-has_at (x ∷ xs) (suc place) d g lt at = ap (λ b. (g == x) || b) (has_at xs place d g (omega (arith, lt)) at) ∙ or_true (g == x)
+has_at (x ∷ xs) zero d g lt at = ap (λ b. b || has_guild g xs) ((Decides-eqb x g).1 at)
+has_at (x ∷ xs) (suc place) d g lt at = ap (λ b. (x == g) || b) (has_at xs place d g (omega (arith, lt)) at) ∙ or_true (x == g)
   where
     or_true : (b : Bool) → (b || true) ≡ true
     or_true true = refl

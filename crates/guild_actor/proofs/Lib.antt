@@ -1,6 +1,5 @@
 pub mod Edits
 pub mod Counts
-pub mod Places
 pub mod Writers
 pub mod Delivery
 pub mod OneEdit

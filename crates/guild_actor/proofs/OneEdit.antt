@@ -6,7 +6,8 @@ use Rattle.guild_hub.specs.declared.writer.HubRefused.{HubRefused}
 use Rattle.guild_hub.specs.declared.writer.HubRefused.TheVariants.{Full, Memory}
 use Rattle.guild_hub.specs.Logs.{with_entry}
 use Rattle.guild_hub.specs.Writes.{Publishing, publishing, Refuses}
-use Rattle.guild_actor.specs.Acts.{most, guilds_of}
+use Rattle.guild_actor.specs.Acts.{most}
+use Rattle.guild_places.specs.Places.{guilds_of}
 use Rattle.guild_actor.specs.Desks.{Publishes, Tells, edited, logs_of}
 use Rattle.guild_actor.proofs.Writers.{Writer}
 

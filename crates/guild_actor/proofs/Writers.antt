@@ -8,17 +8,14 @@ use Rattle.edit_post.proofs.Merging.{filtered, mapped}
 use Rattle.edit_apply.specs.declared.Edit.{Edit}
 use Rattle.guild_hub.specs.Logs.{Published, published}
 use Rattle.guild_hub.specs.Writes.{Publishing, publishing}
-use Rattle.guild_actor.specs.Acts.{edits_of, most, has_guild, guilds_of, AreDistinct, new_writer, sealed_log}
+use Rattle.guild_actor.specs.Acts.{edits_of, most, new_writer, sealed_log}
+use Rattle.guild_places.specs.Places.{has_guild, guilds_of, AreDistinct}
 use Rattle.guild_actor.specs.Desks.{writer_after, log_sealed}
 use Rattle.guild_actor.proofs.Edits.{edits_other}
-use Rattle.guild_actor.proofs.Counts.{apart, first_of, rest_of, unlike}
+use Rattle.guild_places.proofs.Guilds.{apart, first_of, rest_of, unlike, many}
 
 abbrev pub Writer : Type 0
 Writer = ℕ × Publishing
-
-pub many : (ws : List Writer) → length (guilds_of ws) ≡ length ws
-many [] = refl
-many (w ∷ ws) = ap suc (many ws)
 
 module _ (rs : List Request) (r : Request) where
   same : (w : Writer) → w.0 ≢ r.guild → writer_after rs w ≡ writer_after (rs ++ r ∷ []) w
@@ -27,7 +24,7 @@ module _ (rs : List Request) (r : Request) where
   -- a request for another guild
   pub stays : (ws : List Writer) → has_guild r.guild (guilds_of ws) ≡ false → map (writer_after rs) ws ≡ map (writer_after (rs ++ r ∷ [])) ws
   stays [] none = refl
-  stays (w ∷ ws) none = ap₂ (λ x xs. x ∷ xs) (same w (apart r.guild w.0 (first_of (r.guild == w.0) (has_guild r.guild (guilds_of ws)) none))) (stays ws (rest_of (r.guild == w.0) (has_guild r.guild (guilds_of ws)) none))
+  stays (w ∷ ws) none = ap₂ (λ x xs. x ∷ xs) (same w (apart r.guild w.0 (first_of (w.0 == r.guild) (has_guild r.guild (guilds_of ws)) none))) (stays ws (rest_of (w.0 == r.guild) (has_guild r.guild (guilds_of ws)) none))
 
   -- a request for the guild at a place
   pub one_more : (ws : List Writer) (place d : ℕ) (y : Writer) → AreDistinct (guilds_of ws) → place < length ws → get_or (guilds_of ws) place d ≡ r.guild
@@ -37,12 +34,6 @@ module _ (rs : List Request) (r : Request) where
   one_more (w ∷ ws) (suc place) d y distinct lt at e =
       ap₂ (λ x xs. x ∷ xs) (same w (λ q. unlike w.0 (guilds_of ws) place d distinct.0 (omega (arith, lt, many ws)) (at ∙ sym q)))
       (one_more ws place d y distinct.1 (omega (arith, lt)) at e)
-
--- a guild by its place
-pub guild_of_place : (ws : List Writer) (place : ℕ) (d : ℕ) (y : Writer) → place < length ws → get_or (guilds_of ws) place d ≡ (get_or ws place y).0
-guild_of_place [] place d y lt = absurd (not-suc-le-zero lt)
-guild_of_place (w ∷ ws) zero d y lt = refl
-guild_of_place (w ∷ ws) (suc place) d y lt = guild_of_place ws place d y (omega (arith, lt))
 
 pub guilds_after : (rs : List Request) (ws : List Writer) → guilds_of (map (writer_after rs) ws) ≡ guilds_of ws
 guilds_after rs [] = refl

@@ -1,6 +1,7 @@
 -- What an actor publishes of the requests that it takes.
-use Rattle.std.specs.Prelude.{◌≡◌, ℕ, ◌+◌, ◌-◌, ◌^◌, ◌==◌, Bool, true, false, not, min, List, [], ◌∷◌, map, take, length}
-use Rattle.std.specs.List.{filter, list_any}
+use Rattle.std.specs.Prelude.{◌≡◌, ℕ, ◌+◌, ◌-◌, ◌^◌, ◌==◌, true, false, not, min, List, [], ◌∷◌, map, take, length}
+use Rattle.std.specs.List.{filter}
+use Rattle.guild_places.specs.Places.{has_guild}
 use Rattle.edit_apply.specs.declared.Edit.{Edit}
 use Rattle.edit_post.specs.declared.request.Request.{Request}
 use Rattle.guild_hub.specs.Logs.{Published, published}
@@ -22,9 +23,6 @@ entries_of guild requests = take most (edits_of guild requests)
 abbrev pub refused_of : ℕ → List Request → ℕ
 refused_of guild requests = length (edits_of guild requests) - most
 
-abbrev pub has_guild : ℕ → List ℕ → Bool
-has_guild guild guilds = list_any (λ g. guild == g) guilds
-
 -- how many requests are for none of these guilds
 abbrev pub strays_of : List ℕ → List Request → ℕ
 strays_of guilds requests = length (filter (λ (r : Request). not (has_guild r.guild guilds)) requests)
@@ -37,14 +35,6 @@ full_of (g ∷ gs) requests = refused_of g requests + full_of gs requests
 -- a count that stands still at the end of its type
 abbrev pub counted : ℕ → ℕ
 counted n = min n (2 ^ 64 - 1)
-
--- no guild stands there twice
-abbrev pub AreDistinct : List ℕ → Type 0
-AreDistinct [] = Unit {0}
-AreDistinct (g ∷ gs) = (has_guild g gs ≡ false) × AreDistinct gs
-
-abbrev pub guilds_of : {W : Type 0} → List (ℕ × W) → List ℕ
-guilds_of writers = map (λ w. w.0) writers
 
 abbrev pub new_writer : ℕ × Publishing → ℕ × Publishing
 new_writer w = (w.0, publishing (published w.1.log.hub [] false) w.1.mark false)

@@ -6,7 +6,8 @@ use Rattle.guild_hub.specs.Logs.{Published, published, with_entry, with_seal}
 use Rattle.guild_hub.specs.declared.writer.HubRefused.{HubRefused}
 use Rattle.guild_hub.specs.declared.writer.HubRefused.TheVariants.{Full, Memory}
 use Rattle.guild_hub.specs.Writes.{Publishing, publishing}
-use Rattle.guild_actor.specs.Acts.{most, entries_of, strays_of, full_of, counted, guilds_of}
+use Rattle.guild_actor.specs.Acts.{most, entries_of, strays_of, full_of, counted}
+use Rattle.guild_places.specs.Places.{guilds_of}
 
 pub record Holding : Type 0 where
   pub writers : List (ℕ × Publishing)

@@ -4,7 +4,8 @@ ghost use Rattle.std.specs.Prelude.{◌≡◌, ◌++◌, ◌∷◌, [], List, �
 ghost use Rattle.edit_post.specs.declared.request.Request.{Request};
 ghost use Rattle.edit_post.specs.Merge.{Merge};
 ghost use Rattle.edit_post.specs.Post.{HasEnded, ended_lists};
-ghost use Rattle.guild_actor.specs.Acts.{AreDistinct, AreNew, guilds_of, edits_of, sealed_log, strays_of, full_of, counted};
+ghost use Rattle.guild_actor.specs.Acts.{AreNew, edits_of, sealed_log, strays_of, full_of, counted};
+ghost use Rattle.guild_places.specs.Places.{AreDistinct, guilds_of};
 ghost use Rattle.guild_actor.specs.Desks.{held_after, logs_of};
 
 use crate::desk::Desk;

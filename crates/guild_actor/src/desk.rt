@@ -3,13 +3,14 @@
 ghost use Rattle.std.specs.Prelude.{◌≡◌, ◌++◌, ◌∷◌, [], List, ℕ, false, All, OnOk, OnErr, IfOk};
 ghost use Rattle.edit_post.specs.declared.request.Request.{Request};
 ghost use Rattle.guild_hub.specs.Writes.{Publishing};
-ghost use Rattle.guild_actor.specs.Acts.{AreDistinct, AreNew, guilds_of};
+ghost use Rattle.guild_actor.specs.Acts.{AreNew};
+ghost use Rattle.guild_places.specs.Places.{AreDistinct, guilds_of};
 ghost use Rattle.guild_actor.specs.Desks.{held_after, logs_of};
 
-use crate::index;
 use crate::publishing::publish_at;
 use edit_post::Request;
 use guild_hub::HubWriter;
+use guild_places::{index_of, place_of};
 use indexmap::IndexSet;
 use snowflake_id::Snowflake;
 use std::alloc::{AllocError, Global};
@@ -27,7 +28,7 @@ pub struct Desk<R: Wait + Drop> {
 
 impl<R: Wait + Drop> Model for Desk<R> {
     ghost use Rattle.std.specs.Prelude.{◌≡◌};
-    ghost use Rattle.guild_actor.specs.Acts.{AreDistinct, guilds_of};
+    ghost use Rattle.guild_places.specs.Places.{AreDistinct, guilds_of};
     ghost use Rattle.guild_actor.specs.Desks.{Holding, holding};
 
     ghost Value = { Holding };
@@ -43,7 +44,7 @@ impl<R: Wait + Drop> Desk<R> {
         requires { AreDistinct (guilds_of writers.items) × AreNew writers.items }
         ensures { IfOk result (λ desk. desk ≡ held_after writers.items []) }
     {
-        let index = index::index_of(alloc, &writers)?;
+        let index = index_of(alloc, &writers)?;
         Ok(Desk {
             writers,
             index,
@@ -59,7 +60,7 @@ impl<R: Wait + Drop> Desk<R> {
         ensures ok { OnOk result ((requests : List Request) (writers : List (ℕ × Publishing)) → self.old ≡ held_after writers requests → self.new ≡ held_after writers (requests ++ request ∷ [])) }
         ensures err { OnErr result (logs_of self.new.writers ≡ logs_of self.old.writers) }
     {
-        let Some(place) = index::place_of(&self.index, request.guild) else {
+        let Some(place) = place_of(&self.index, request.guild) else {
             drop(request);
             self.strays = self.strays.saturating_add(1);
             return Ok(());

@@ -4,7 +4,6 @@
 
 mod acting;
 mod desk;
-mod index;
 mod publishing;
 mod report;
 mod seals;

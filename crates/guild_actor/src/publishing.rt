@@ -2,7 +2,7 @@
 
 ghost use Rattle.std.specs.Prelude.{◌≡◌, ◌<◌, ℕ, true, false, length, slice_index_or, Ok, IfOk, IfErr, OnErr};
 ghost use Rattle.guild_hub.specs.Writes.{Publishing};
-ghost use Rattle.guild_actor.specs.Acts.{guilds_of};
+ghost use Rattle.guild_places.specs.Places.{guilds_of};
 ghost use Rattle.guild_actor.specs.Desks.{Publishes, Tells, logs_of};
 
 use edit_apply::Edit;

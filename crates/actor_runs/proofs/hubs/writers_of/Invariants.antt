@@ -1,5 +1,6 @@
 use Rattle.std.proofs.Common.{◌≡◌, take}
-use Rattle.guild_actor.specs.Acts.{AreNew, guilds_of}
+use Rattle.guild_actor.specs.Acts.{AreNew}
+use Rattle.guild_places.specs.Places.{guilds_of}
 use Rattle.actor_runs.proofs.hubs.writers_of.Given as goal
 
 abbrev pub invariant-loop-guild : goal.invariant-loop-guild
