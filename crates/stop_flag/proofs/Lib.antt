@@ -1,0 +1,3 @@
+pub mod FlagMoves
+pub mod Looking
+pub mod Stopping

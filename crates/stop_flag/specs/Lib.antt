@@ -1,0 +1,4 @@
+pub mod Ended
+pub mod FlagRule
+pub mod Flags
+pub mod Inside
