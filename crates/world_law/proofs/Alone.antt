@@ -71,7 +71,7 @@ pub record Leaves (f : Session Sent → List (Session Sent)) : Type 0 where
   pub numbers : (above made : ℕ) (x : Session Sent) (rest : List (Session Sent)) → above < x.number → Ascend x.number made rest → Ascend above made (f x ++ rest)
 
 module _ (f : Session Sent → List (Session Sent)) (leaves : Leaves f) where
-  each_off : (conn : ℕ) (xs : List (Session Sent)) → AreOff conn xs → AreOff conn (flat_map f xs)
+  pub each_off : (conn : ℕ) (xs : List (Session Sent)) → AreOff conn xs → AreOff conn (flat_map f xs)
   each_off conn [] off = tt
   each_off conn (x ∷ xs) off = off_join conn (f x) (flat_map f xs) (leaves.off conn x off.0) (each_off conn xs off.1)
 
@@ -117,14 +117,14 @@ module _ (f : Session Sent → Session Sent) (keeps : Keeps f) where
   map_alone : (conn : ℕ) (xs : List (Session Sent)) → IsAlone conn xs → IsAlone conn (map f xs)
   map_alone conn xs alone = subst (IsAlone conn) (map_each f xs) (each_alone (one_of f) (keeps_leave f keeps) conn xs alone)
 
-  map_off : (conn : ℕ) (xs : List (Session Sent)) → AreOff conn xs → AreOff conn (map f xs)
+  pub map_off : (conn : ℕ) (xs : List (Session Sent)) → AreOff conn xs → AreOff conn (map f xs)
   map_off conn xs off = subst (AreOff conn) (map_each f xs) (each_off (one_of f) (keeps_leave f keeps) conn xs off)
 
   map_number : (above made : ℕ) (xs : List (Session Sent)) → Ascend above made xs → Ascend above made (map f xs)
   map_number above made xs up = subst (Ascend above made) (map_each f xs) (each_number (one_of f) (keeps_leave f keeps) above made xs up)
 
   -- also where the first that passes a test is changed
-  first_off : (p : Session Sent → Bool) (conn : ℕ) (xs : List (Session Sent)) → AreOff conn xs → AreOff conn (change_first p f xs)
+  pub first_off : (p : Session Sent → Bool) (conn : ℕ) (xs : List (Session Sent)) → AreOff conn xs → AreOff conn (change_first p f xs)
   first_off p conn [] off = tt
   first_off p conn (x ∷ xs) off = by_test (p x) (first_off p conn xs off.1)
     where
@@ -151,7 +151,7 @@ module _ (f : Session Sent → Session Sent) (keeps : Keeps f) where
 
 -- ---- one session
 
-entry_keeps : (text : ℕ → Dispatch → List ℕ) (logs : Logs) (g : ℕ) (s : Record) (e : Edit) → Keeps (after_entry (in_model text) logs g s e)
+pub entry_keeps : (text : ℕ → Dispatch → List ℕ) (logs : Logs) (g : ℕ) (s : Record) (e : Edit) → Keeps (after_entry (in_model text) logs g s e)
 entry_keeps text logs g s e = record { off = λ conn x off. by_condition conn x x.condition off; number = λ x. number_of x (is_live x.condition) }
   where
     by_condition : (conn : ℕ) (x : Session Sent) (condition : Condition) → IsOff conn (record x { condition = condition }) → IsOff conn (after_entry (in_model text) logs g s e (record x { condition = condition }))
@@ -163,10 +163,10 @@ entry_keeps text logs g s e = record { off = λ conn x off. by_condition conn x 
     number_of x true = refl
     number_of x false = refl
 
-answer_keeps : (text : ℕ → Dispatch → List ℕ) (w : Worker) (ask : Ask) → Keeps (after_answer (in_model text) w ask)
+pub answer_keeps : (text : ℕ → Dispatch → List ℕ) (w : Worker) (ask : Ask) → Keeps (after_answer (in_model text) w ask)
 answer_keeps text w ask = record { off = λ conn x off. off; number = λ x. refl }
 
-released_keeps : (c now : ℕ) → Keeps (released c (Detached now))
+pub released_keeps : (c now : ℕ) → Keeps (released c (Detached now))
 released_keeps c now = record { off = λ conn x off. by_test conn x (is_on c x.condition) off; number = λ x. number_of x (is_on c x.condition) }
   where
     by_test : (conn : ℕ) (x : Session Sent) (b : Bool) → IsOff conn x → IsOff conn (if b then record x { condition = Detached now } else x)
@@ -178,7 +178,7 @@ released_keeps c now = record { off = λ conn x off. by_test conn x (is_on c x.c
     number_of x false = refl
 
 -- a session that ends by a test
-ending_leaves : (last : Cursors) (p : Session Sent → Bool) → Leaves (λ x. if p x then ended_at last x else x ∷ [])
+pub ending_leaves : (last : Cursors) (p : Session Sent → Bool) → Leaves (λ x. if p x then ended_at last x else x ∷ [])
 ending_leaves last p = record {
   off = λ conn x off. by_off conn x (p x) off;
   alone = λ conn x. by_alone conn x (p x);
@@ -243,7 +243,7 @@ module _ (conn number : ℕ) where
       by_test true = refl
       by_test false = refl
 
-  others_off : (other : ℕ) → (conn == other) ≡ false → (xs : List (Session Sent)) → AreOff other xs → AreOff other (map (joined conn number) xs)
+  pub others_off : (other : ℕ) → (conn == other) ≡ false → (xs : List (Session Sent)) → AreOff other xs → AreOff other (map (joined conn number) xs)
   others_off other differ [] off = tt
   others_off other differ (x ∷ xs) off = (joined_off other differ x off.0, others_off other differ xs off.1)
 
@@ -318,7 +318,7 @@ IsFree conn s (Resumes number older seq held) = AreOff conn s.sessions
 IsFree conn s (Wants number want) = Unit {0}
 
 -- no session is found on it
-none_on : (conn : ℕ) (xs : List (Session Sent)) → option_map (λ (x : Session Sent). x.number) (find (λ (x : Session Sent). is_on conn x.condition) xs) ≡ None → AreOff conn xs
+pub none_on : (conn : ℕ) (xs : List (Session Sent)) → option_map (λ (x : Session Sent). x.number) (find (λ (x : Session Sent). is_on conn x.condition) xs) ≡ None → AreOff conn xs
 none_on conn [] none = tt
 none_on conn (x ∷ xs) none = by_test (is_on conn x.condition) refl none (none_on conn xs)
   where

@@ -17,3 +17,4 @@ pub mod Replays
 pub mod Resumes
 pub mod GoesOn
 pub mod Sends
+pub mod Connections

@@ -235,6 +235,7 @@ each_worker_holds text bots guilds number url logs inputs are =
     let first : Worker = first_worker bots guilds number url in
     let old : Stays logs (all_taken text first inputs) = all_stay text logs inputs first are (worker_stays logs bots guilds number url) in
     record {
+      alone = old.sound.alone;
       folds = worker_holds logs (all_taken text first inputs) old;
       entries = worker_entries logs (all_taken text first inputs) old;
       messages = worker_messages logs (all_taken text first inputs) old;

@@ -14,3 +14,4 @@ pub mod Sends
 pub mod Entries
 pub mod Resumes
 pub mod TheLaw
+pub mod Connections

@@ -11,6 +11,7 @@ use Rattle.world_law.specs.Inputs.{Input, Look, Rebase, Open, Frame, Lost, Close
 use Rattle.world_law.specs.World.{Step, run, first_world}
 use Rattle.world_law.specs.Folds.{SessionHolds}
 use Rattle.world_law.specs.Sends.{IsAlone, EachSendHolds}
+use Rattle.world_law.specs.Connections.{EachOutputHolds}
 use Rattle.world_law.specs.Entries.{SessionEntriesHold, MessagesHold}
 use Rattle.world_law.specs.Resumes.{EachResumeHolds}
 
@@ -63,6 +64,7 @@ module _ (text : ℕ → Dispatch → List ℕ) where
   all_taken w (i ∷ is) = all_taken (taken (in_model text) w i) is
 
 pub record WorkerHolds (logs : ℕ → List Edit) (w : Worker) : Type 0 where
+  pub alone : (conn : ℕ) → IsAlone conn w.core.sessions
   pub folds : OfSessions SessionHolds logs w
   pub entries : OfSessions SessionEntriesHold logs w
   pub messages : OfSessions MessagesHold logs w
@@ -81,6 +83,8 @@ pub record TheLaw : Type 0 where
   pub sends : EachSendHolds
   -- and has at most one session
   pub connections : EachConnectionHolds
+  -- nothing goes out for a connection that is not open
+  pub outputs : EachOutputHolds
   -- each entry made exactly what it owed
   pub entries : EachEntryHolds
   -- a message comes exactly if it is shown
