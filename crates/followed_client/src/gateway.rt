@@ -61,7 +61,7 @@ impl Gateway {
                 self.put_sent(conn, Arrival::Text(text))
             }
             Output::Close(conn, code) => self.put_sent(conn, Arrival::Closed(code)),
-            Output::Wish(guild, edit) => self.edit(guild, edit),
+            Output::Wish(guild, wished) => self.edit(guild, wished.into_edit()),
         }
     }
 

@@ -1,10 +1,10 @@
 -- What lines make of the server.
-use Rattle.std.proofs.Common.{◌≡◌, ℕ, List, [], ◌∷◌, ◌++◌, Bool, true, false, Option, Some, None, IsSome, Result, MatchResult, if◌then◌else◌, length, refl, sym, ap, ◌∙◌, subst, arith}
-use Rattle.std.specs.Prelude.{◌==◌, ◌||◌, is_some, option_map}
+use Rattle.std.proofs.Common.{◌≡◌, ℕ, List, [], ◌∷◌, ◌++◌, Bool, true, false, Option, Some, None, Result, MatchResult, if◌then◌else◌, length, refl, sym, ap, ◌∙◌, subst, arith}
+use Rattle.std.specs.Prelude.{◌==◌, nat_eq, ◌||◌, is_some, option_map}
 use Rattle.std.proofs.lemmas.Bool.{eqb-true}
 use Rattle.std.proofs.lemmas.Bool.Decides.{nat_tests}
+use Rattle.indexmap.specs.IndexMap.{get}
 use Rattle.collections.specs.ById.{find_id, has_id, put_id, put_all}
-use Rattle.collections.proofs.Finds.{find-put, key-found}
 use Rattle.collections.proofs.Has.{has-put}
 use Rattle.guild_model.specs.Record.{own_id}
 use Rattle.dispatch_types.specs.Fold.{contains}
@@ -16,18 +16,16 @@ use Rattle.worker_core.specs.Outputs.{all_written}
 use Rattle.worker_core.specs.Represents.{FaultBy}
 use Rattle.world_law.specs.Model.{Worker, seen_with}
 use Rattle.world_law.specs.World.{World, Step, Edits, Looks, Opens, Frames, Loses, Leaves, Ticks, look_at, stepped, run}
-use Rattle.world_law.specs.Inputs.{Input, Look, Open, Frame, Lost, Closed, Tick}
+use Rattle.world_law.specs.Inputs.{Input, Open, Frame, Lost, Closed, Tick}
 use Rattle.world_law.specs.World.{first_world}
 use Rattle.worker_core.specs.declared.io.StepFault.{StepFault}
 use Rattle.worker_core.specs.declared.io.Output.{Output as Written}
-use Rattle.world_law.proofs.Folds.{same_id}
-use Rattle.world_law.proofs.Logs.{from_id, state_id}
 use Rattle.scenario.specs.declared.guild_log.GuildLog.{GuildLog}
 use Rattle.scenario.specs.declared.opened.Opened.{Opened}
 use Rattle.scenario.specs.declared.worker_slot.WorkerSlot.{WorkerSlot}
 use Rattle.scenario.specs.declared.server.Server.{Server as KeptServer}
 use Rattle.scenario.specs.Server.{Server, first_workers, world, given, for_worker, step_of, with_step, with_line, noted, opened_id, log, step_sends, step_spends}
-use Rattle.scenario.specs.Represents.{log_id, log_with, added, SlotsRepresent, guilds_of, HasSlotsOnceStepped, IsFull, Keeps, Represents, all_moved, all_sends, any_spends, SlotsStep, SlotsFail, Plays, PlaysNot, Gives}
+use Rattle.scenario.specs.Represents.{log_with, added, SlotsRepresent, guilds_of, HasSlotsOnceStepped, IsFull, Keeps, Represents, all_moved, all_sends, any_spends, SlotsStep, SlotsFail, Plays, PlaysNot, Gives}
 use Rattle.scenario.proofs.Latest.{log_more}
 use Rattle.scenario.proofs.Slots.{by_result}
 use Rattle.scenario.proofs.Worlds.{stepped_workers, world_step, edit_sends, edit_spends}
@@ -72,16 +70,6 @@ pub contains_all : (id : ℕ) (gs : List ℕ) → contains id gs ≡ true → co
 contains_all id gs h = contains_found id (put_all own_id [] gs) ∙ has_all gs [] id h
 
 -- ---- logs
-
-pub log_keyed : (g : ℕ) (es : List Edit) → log_id (log_with g es) ≡ g
-log_keyed g es = state_id g es
-
--- while a log is out, the one held in its place keeps that place
-pub place_kept : (logs : List GuildLog) (held l : GuildLog) (e : Edit) → find_id log_id (log_id held) logs ≡ Some l → IsSome (find_id log_id (log_id (added l e)) (put_id log_id held logs))
-place_kept logs held l e found =
-    let same : log_id (added l e) ≡ log_id held = from_id l.guild (e ∷ []) ∙ key-found log_id (log_id held) logs l found in
-    ap is_some (ap (λ n. find_id log_id n (put_id log_id held logs)) same
-    ∙ (find-put log_id held (log_id held) logs ∙ ap (λ b. if b then Some held else find_id log_id (log_id held) logs) (same_id (log_id held))))
 
 -- ---- slots
 
@@ -175,7 +163,7 @@ open_plays items r old new p worker conn slots keeps unused bots guilds logs use
       bots = bots ∙ keeps.bots;
       guilds = guilds ∙ keeps.guilds;
       used = used ∙ ap (put_id opened_id o) keeps.used;
-      logs = λ g. ap (find_id log_id g) logs ∙ keeps.logs g;
+      logs = λ g. ap (λ ls. get nat_eq ls g) logs ∙ keeps.logs g;
     })
     (ap (λ b. if b then None else Some (Opens worker conn)) unknown)
     (ap (λ b. if b then p else q) unknown)
@@ -193,7 +181,7 @@ give_plays items r old new p line worker i slots keeps gives bots guilds logs us
       bots = bots ∙ keeps.bots;
       guilds = guilds ∙ keeps.guilds;
       used = used ∙ keeps.used;
-      logs = λ g. ap (find_id log_id g) logs ∙ keeps.logs g;
+      logs = λ g. ap (λ ls. get nat_eq ls g) logs ∙ keeps.logs g;
     })
     gives.is_step gives.notes refl refl gives.logs start.0 start.1
     (subst (λ (f : Worker → Option Input). MatchResult r (λ out. SlotsStep (guilds_of p) f (world p).workers new.slots.items (items out)) (SlotsFail f (world p).workers)) (sym gives.gives) steps)
@@ -241,7 +229,7 @@ if_some : (b : Bool) (l m : GuildLog) → (if b then Some m else None) ≡ Some 
 if_some true l m e = (refl, cc)
 if_some false l m e = absurd (cc)
 
-pub declared : (old : KeptServer) (p : Server) (g : ℕ) (l : GuildLog) → Keeps old p → find_id log_id g old.logs ≡ Some l → (contains g p.guilds ≡ true) × (l ≡ log_with g (log p g))
+pub declared : (old : KeptServer) (p : Server) (g : ℕ) (l : GuildLog) → Keeps old p → get nat_eq old.logs g ≡ Some l → (contains g p.guilds ≡ true) × (l ≡ log_with g (log p g))
 declared old p g l keeps found = if_some (contains g p.guilds) l (log_with g (log p g)) (sym (keeps.logs g) ∙ found)
 
 pub look_plays : {V : Type 0} (items : V → List Written) (r : Result V StepFault) (old new : KeptServer) (p : Server) (worker g : ℕ) (slots : List WorkerSlot) → Keeps old p
@@ -256,7 +244,7 @@ look_plays items r old new p worker g slots keeps there bots guilds logs used st
       bots = bots ∙ keeps.bots;
       guilds = guilds ∙ keeps.guilds;
       used = used ∙ keeps.used;
-      logs = λ h. ap (find_id log_id h) logs ∙ keeps.logs h;
+      logs = λ h. ap (λ ls. get nat_eq ls h) logs ∙ keeps.logs h;
     })
     (ap (λ b. if b then Some (Looks worker g) else None) there)
     refl refl refl refl start.0 start.1 steps
@@ -264,18 +252,16 @@ look_plays items r old new p worker g slots keeps there bots guilds logs used st
 -- ---- edits
 
 -- an edit is no step of a worker
-pub edit_plays : (old new : KeptServer) (p : Server) (g : ℕ) (e : Edit) (l : GuildLog) (held : GuildLog) (out : List Written) → Keeps old p
-    → find_id log_id g old.logs ≡ Some l → log_id held ≡ g
+pub edit_plays : (old new : KeptServer) (p : Server) (g : ℕ) (e : Edit) (l : GuildLog) (out : List Written) → Keeps old p
+    → get nat_eq old.logs g ≡ Some l
     → new.bots ≡ old.bots → new.guilds ≡ old.guilds → new.used ≡ old.used
-    → new.logs ≡ put_id log_id (added l e) (put_id log_id held old.logs)
+    → ((h : ℕ) → get nat_eq new.logs h ≡ (if g == h then Some (added l e) else get nat_eq old.logs h))
     → IsFull new.slots.items × SlotsRepresent (guilds_of p) 0 new.slots.items (world p).workers → out ≡ [] → Plays p (line.Edit g e) new out
-edit_plays old new p g e l held out keeps found at bots guilds used logs start none =
+edit_plays old new p g e l out keeps found bots guilds used logs start none =
     let there = declared old p g l keeps found in
     let es : List Edit = log p g in
     let s : Step = Edits g e in
-    let next : GuildLog = log_with g (es ++ e ∷ []) in
-    let put : new.logs ≡ put_id log_id next (put_id log_id held old.logs) =
-    logs ∙ ap (λ (x : GuildLog). put_id log_id x (put_id log_id held old.logs)) (ap (λ (x : GuildLog). added x e) there.1 ∙ log_more g es e) in
+    let next : added l e ≡ log_with g (es ++ e ∷ []) = ap (λ (x : GuildLog). added x e) there.1 ∙ log_more g es e in
     let is : (world (with_step (Some s) p)).logs ≡ seen_with (world p).logs g e = ap (λ (m : World). m.logs) (world_step p s) in
     let workers : (world (with_step (Some s) p)).workers ≡ (world p).workers = ap (λ (m : World). m.workers) (world_step p s) in
     plays_step p p (line.Edit g e) s new out
@@ -286,9 +272,7 @@ edit_plays old new p g e l held out keeps found at bots guilds used logs start n
         bots = bots ∙ keeps.bots;
         guilds = guilds ∙ keeps.guilds;
         used = used ∙ keeps.used;
-        logs = λ h. ap (find_id log_id h) put ∙ (find-put log_id next h (put_id log_id held old.logs)
-            ∙ (ap (λ n. if n == h then Some next else find_id log_id h (put_id log_id held old.logs)) (log_keyed g (es ++ e ∷ []))
-            ∙ (by_guild next h (g == h) refl there.0 ∙ ap (λ (all : ℕ → List Edit). if contains h p.guilds then Some (log_with h (all h)) else None) (sym is))));
+        logs = λ h. logs h ∙ (by_guild h (g == h) refl there.0 next ∙ ap (λ (all : ℕ → List Edit). if contains h p.guilds then Some (log_with h (all h)) else None) (sym is));
       };
       slots = has_slots (new.slots.items) start.0 (subst (λ ws. SlotsRepresent (guilds_of p) 0 new.slots.items ws) (sym workers) start.1);
     })
@@ -299,15 +283,14 @@ edit_plays old new p g e l held out keeps found at bots guilds used logs start n
     has_slots [] full sit = absurd full
     has_slots (k ∷ ks) full sit = (longer p.steps (Edits g e), sit)
 
-    by_guild : (next : GuildLog) (h : ℕ) (b : Bool) → (g == h) ≡ b → contains g p.guilds ≡ true
-        → (if b then Some (log_with g (log p g ++ e ∷ [])) else find_id log_id h (put_id log_id held old.logs))
+    by_guild : (h : ℕ) (b : Bool) → (g == h) ≡ b → contains g p.guilds ≡ true → added l e ≡ log_with g (log p g ++ e ∷ [])
+        → (if b then Some (added l e) else get nat_eq old.logs h)
         ≡ (if contains h p.guilds then Some (log_with h (if b then log p h ++ e ∷ [] else log p h)) else None)
-    by_guild next h true same there =
+    by_guild h true same there next =
         let one : g ≡ h = eqb-true g h same in
-        ap (λ n. Some (log_with n (log p n ++ e ∷ []))) one ∙ ap (λ b. if b then Some (log_with h (log p h ++ e ∷ [])) else None) (sym (ap (λ n. contains n p.guilds) (sym one) ∙ there))
-    by_guild next h false apart there =
-        find-put log_id held h old.logs ∙ (ap (λ n. if n == h then Some held else find_id log_id h old.logs) at
-        ∙ (ap (λ b. if b then Some held else find_id log_id h old.logs) apart ∙ keeps.logs h))
+        ap Some next ∙ (ap (λ n. Some (log_with n (log p n ++ e ∷ []))) one
+        ∙ ap (λ b. if b then Some (log_with h (log p h ++ e ∷ [])) else None) (sym (ap (λ n. contains n p.guilds) (sym one) ∙ there)))
+    by_guild h false apart there next = keeps.logs h
 
 pub is_none : {A : Type 0} (o : Option A) → is_some o ≡ false → o ≡ None
 is_none None e = refl
@@ -331,8 +314,9 @@ no_items (x ∷ xs) e = absurd (omega (arith, e))
 fresh_log : (p : Server) (g : ℕ) → length p.steps ≡ 0 → log p g ≡ []
 fresh_log p g e = ap (λ (ss : List Step). (run wire_text (first_world p.bots p.guilds first_workers) ss).logs g) (no_items p.steps e)
 
-pub guild_plays : (old new : KeptServer) (p : Server) (g : ℕ) (out : List Written) → Represents old p → old.slots.items ≡ [] → find_id log_id g old.logs ≡ None
-    → new.bots ≡ old.bots → new.guilds ≡ old.guilds ++ g ∷ [] → new.used ≡ old.used → new.logs ≡ put_id log_id (log_with g []) old.logs → new.slots.items ≡ old.slots.items
+pub guild_plays : (old new : KeptServer) (p : Server) (g : ℕ) (out : List Written) → Represents old p → old.slots.items ≡ [] → get nat_eq old.logs g ≡ None
+    → new.bots ≡ old.bots → new.guilds ≡ old.guilds ++ g ∷ [] → new.used ≡ old.used
+    → ((h : ℕ) → get nat_eq new.logs h ≡ (if g == h then Some (log_with g []) else get nat_eq old.logs h)) → new.slots.items ≡ old.slots.items
     → out ≡ [] → Plays p (line.Guild g) new out
 guild_plays old new p g out stands empty unknown bots guilds used logs slots none =
     let fresh : length p.steps ≡ 0 = subst (λ ks. HasSlotsOnceStepped ks p) empty stands.slots in
@@ -345,9 +329,7 @@ guild_plays old new p g out stands empty unknown bots guilds used logs slots non
         bots = bots ∙ stands.keeps.bots;
         guilds = guilds ∙ ap (λ gs. gs ++ g ∷ []) stands.keeps.guilds;
         used = used ∙ stands.keeps.used;
-        logs = λ h. ap (find_id log_id h) logs ∙ (find-put log_id (log_with g []) h old.logs
-            ∙ (ap (λ n. if n == h then Some (log_with g []) else find_id log_id h old.logs) (log_keyed g []) ∙ (by_guild h (g == h) refl fresh
-            ∙ ap (λ b. if b then Some (log_with h (log q h)) else None) (sym (contains_more h p.guilds g)))));
+        logs = λ h. logs h ∙ (by_guild h (g == h) refl fresh ∙ ap (λ b. if b then Some (log_with h (log q h)) else None) (sym (contains_more h p.guilds g)));
       };
       slots = subst (λ ks. HasSlotsOnceStepped ks q) (sym (slots ∙ empty)) fresh;
     })
@@ -358,7 +340,7 @@ guild_plays old new p g out stands empty unknown bots guilds used logs slots non
     if_none false m e = refl
 
     by_guild : (h : ℕ) (b : Bool) → (g == h) ≡ b → length p.steps ≡ 0
-        → (if b then Some (log_with g []) else find_id log_id h old.logs)
+        → (if b then Some (log_with g []) else get nat_eq old.logs h)
         ≡ (if (contains h p.guilds || b) then Some (log_with h (log (record p { guilds = p.guilds ++ g ∷ [] }) h)) else None)
     by_guild h true same fresh =
         let q : Server = record p { guilds = p.guilds ++ g ∷ [] } in

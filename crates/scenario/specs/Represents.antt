@@ -1,6 +1,7 @@
 -- Which servers the code's server represents.
-use Rattle.std.specs.Prelude.{◌≡◌, ℕ, ◌+◌, ◌==◌, List, [], ◌∷◌, ◌++◌, length, map, flat_map, drop, nat_lt, Bool, false, Option, Some, None, if◌then◌else◌, true}
+use Rattle.std.specs.Prelude.{◌≡◌, ℕ, ◌+◌, ◌==◌, List, [], ◌∷◌, ◌++◌, length, map, flat_map, drop, nat_eq, nat_lt, Bool, false, Option, Some, None, if◌then◌else◌, true}
 use Rattle.std.specs.List.{list_any}
+use Rattle.indexmap.specs.IndexMap.{get}
 use Rattle.collections.specs.ById.{find_id, put_all}
 use Rattle.guild_model.specs.Record.{own_id}
 use Rattle.dispatch_types.specs.Fold.{contains}
@@ -27,9 +28,6 @@ use Rattle.scenario.specs.declared.server.Answer.{Answer}
 use Rattle.scenario.specs.declared.server.Server.{Server as KeptServer}
 use Rattle.scenario.specs.Server.{Server, world, step_of, noted, with_line, line_sends, given as given_to, for_worker, step_spends, given_sends, given_spends}
 use Rattle.scenario.specs.Transcript.{line_refusal, line_lag}
-
-abbrev pub log_id : GuildLog → ℕ
-log_id l = l.guild.id
 
 -- a log with the record after it, and its latest entries
 abbrev pub log_with : ℕ → List Edit → GuildLog
@@ -93,7 +91,7 @@ pub record Keeps (k : KeptServer) (p : Server) : Type 0 where
   pub bots : k.bots ≡ p.bots
   pub guilds : k.guilds ≡ p.guilds
   pub used : k.used ≡ p.used
-  pub logs : (g : ℕ) → find_id log_id g k.logs ≡ log_of p g
+  pub logs : (g : ℕ) → get nat_eq k.logs g ≡ log_of p g
 
 -- before or after any line
 pub record Represents (k : KeptServer) (p : Server) : Type 0 where

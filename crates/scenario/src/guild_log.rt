@@ -6,7 +6,7 @@ ghost use Rattle.world_law.specs.Inputs.{Rebase};
 ghost use Rattle.worker_core.specs.Outputs.{IsGiven};
 ghost use Rattle.scenario.specs.Represents.{log_with, over, counted_in, added};
 
-use collections::{Keyed, Seq};
+use collections::Seq;
 use edit_apply::{Edit, judge, make};
 use guild_model::{Guild, Verdict};
 use snowflake_id::Snowflake;
@@ -39,14 +39,6 @@ pub struct GuildLog {
     pub guild: Guild,
     pub count: usize,
     pub latest: Latest,
-}
-
-impl Keyed for GuildLog {
-    ghost key = { λ l. l.guild.id };
-
-    fn key(&self) -> u64 {
-        self.guild.id.0
-    }
 }
 
 // Makes an accepted edit, which stays as it is.

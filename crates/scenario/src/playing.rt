@@ -20,8 +20,8 @@ fn play_on<S: Source, K: Sink>(alloc: Global, source: &mut S, sink: &mut K) -> R
     ensures ended { OnOk result (S.ended source.new ≡ true) }
     ensures cause { PlayCause (S.faults source.old) (S.faults source.new) (K.faults sink.old) (K.faults sink.new) result }
 {
-    let mut play = FileRunner::new(alloc);
     let mut piece = Piece::new(alloc)?;
+    let mut play = FileRunner::new(alloc);
     piece.fill(source)?;
     while !piece.bytes().is_empty() {
         play.feed(sink, piece.bytes())?;

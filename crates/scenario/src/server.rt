@@ -17,6 +17,7 @@ use collections::{ById, Seq, Text};
 use edit_apply::Edit;
 use edit_text::Line;
 use guild_model::Verdict;
+use indexmap::IndexMap;
 use session_core::Bot;
 use snowflake_id::Snowflake;
 use std::alloc::{AllocError, Global};
@@ -29,7 +30,7 @@ pub struct Server {
     alloc: Global,
     bots: Seq<Bot>,
     guilds: Seq<Snowflake>,
-    logs: ById<GuildLog>,
+    logs: IndexMap<u64, GuildLog>,
     used: ById<Opened>,
     slots: Vec<WorkerSlot>,
 }
@@ -72,7 +73,7 @@ impl Server {
             alloc,
             bots: Seq::new(alloc),
             guilds: Seq::new(alloc),
-            logs: ById::new(alloc),
+            logs: IndexMap::new(alloc),
             used: ById::new(alloc),
             slots: Vec::new(alloc),
         }
@@ -90,10 +91,10 @@ impl Server {
     fn add_guild(&mut self, id: Snowflake) -> Result<(), AllocError>
         ensures { OnOk result ((p : ModelServer) → Represents self.old p → Plays p (line.Guild id) self.new []) }
     {
-        if !self.slots.is_empty() || self.logs.contains(id.0) {
+        if !self.slots.is_empty() || self.logs.contains_key(&id.0) {
             return Ok(());
         }
-        self.logs.insert(GuildLog::new(self.alloc, id))?;
+        drop(self.logs.insert(id.0, GuildLog::new(self.alloc, id))?);
         self.guilds.push(id)
     }
 
@@ -116,21 +117,16 @@ impl Server {
         ensures answer { IfOk result (λ answer. (p : ModelServer) → Represents self.old p → answer ≡ refusal p guild edit) }
         ensures plays { OnOk result ((p : ModelServer) → Represents self.old p → Plays p (line.Edit guild edit) self.new []) }
     {
-        if !self.logs.contains(guild.0) {
+        let Some(log) = self.logs.get_mut(&guild.0) else {
             drop(edit);
             return Ok(Some(Verdict::NotOpen));
-        }
-        let Ok(()) = self.start() else {
+        };
+        let (bots, guilds) = (self.bots.as_slice(), self.guilds.as_slice());
+        let Ok(()) = start(self.alloc, &mut self.slots, bots, guilds) else {
             drop(edit);
             return Err(AllocError);
         };
-        let mut log = self.logs.exchange(GuildLog::new(self.alloc, guild));
-        let Ok(answer) = log.add(self.alloc, edit) else {
-            drop(log);
-            return Err(AllocError);
-        };
-        self.logs.replace(log);
-        Ok(answer)
+        log.add(self.alloc, edit)
     }
 
     /// Adds a wish to the log of its guild at once, and says why it is refused, if it is.
@@ -139,8 +135,8 @@ impl Server {
         ensures follows { OnOk result ((p : ModelServer) → Represents self.old p → Represents self.new (follow p output.now)) }
     {
         match output {
-            Output::Wish(guild, edit) => {
-                let edit = edit.copy(self.alloc)?;
+            Output::Wish(guild, wished) => {
+                let edit = wished.edit().copy(self.alloc)?;
                 self.edit(*guild, edit)
             }
             Output::Send(..) | Output::Close(..) => Ok(None),
@@ -150,11 +146,11 @@ impl Server {
     fn look(&mut self, worker: u8, guild: Snowflake) -> Result<Answer, StepFault>
         ensures { (p : ModelServer) → Represents self.old p → MatchResult result (λ a. Answers p (line.Look worker guild) self.new a) (PlaysNot p (line.Look worker guild)) }
     {
-        if !self.logs.contains(guild.0) {
+        if !self.logs.contains_key(&guild.0) {
             return Ok(Answer::sends(Vec::new(self.alloc)));
         }
         self.start()?;
-        let Some(log) = self.logs.get(guild.0) else {
+        let Some(log) = self.logs.get(&guild.0) else {
             return Ok(Answer::sends(Vec::new(self.alloc)));
         };
         let lagged = worker_slot::lag(self.slots.as_slice(), worker, guild, log);

@@ -1,12 +1,12 @@
 //! Appends transcript lines, each whole or not at all.
 ghost use Rattle.std.specs.Prelude.{◌≡◌, ◌++◌, ◌∷◌, [], is_ok, codes, decimal, if◌then◌else◌};
-ghost use Rattle.scenario.specs.Texts.{fault_number, fault_name, limit_of, refused_text, refused_line, lagged_line, lagged_text, stop_line, written_line};
+ghost use Rattle.scenario.specs.Texts.{fault_number, fault_name, limit_of, refused_line, lagged_line, stop_line, written_line};
 
 use crate::lagged::Lagged;
 use edit_text::LineFault;
 use guild_model::Verdict;
 use itoa::Buffer;
-use payload_text::{Payload, append_all};
+use payload_text::{Payload, Pieces, append_all};
 use std::alloc::AllocError;
 use worker_core::Output;
 
@@ -24,21 +24,22 @@ fn put_close(text: &mut Vec<u8>, conn: u32, code: u16) -> Result<(), AllocError>
     put_line(text, "close ", u64::from(conn), buffer.format(code))
 }
 
+fn put_pieces(text: &mut Vec<u8>, conn: u32, sent: Pieces<'_>) -> Result<(), AllocError>
+    ensures { text.new.items ≡ (if is_ok result then text.old.items ++ (codes "send " ++ (decimal conn ++ (32 ∷ ((sent.entry.head.now ++ (sent.entry.number.now ++ sent.entry.tail.now)) ++ 10 ∷ [])))) else text.old.items) }
+{
+    let mut buffer = Buffer::new();
+    let conn = buffer.format(conn);
+    append_all(
+        text,
+        &["send ", conn, " ", sent.head, sent.number, sent.tail, "\n"],
+    )
+}
+
 fn put_send(text: &mut Vec<u8>, conn: u32, sent: &Payload) -> Result<(), AllocError>
     ensures { text.new.items ≡ (if is_ok result then text.old.items ++ (codes "send " ++ (decimal conn ++ (32 ∷ (sent.now ++ 10 ∷ [])))) else text.old.items) }
 {
     let mut buffer = Buffer::new();
-    let before = text.len();
-    append_all(text, &["send ", buffer.format(conn), " "])?;
-    if let Err(error) = sent.append(text) {
-        text.truncate(before);
-        return Err(error);
-    }
-    if let Err(error) = append_all(text, &["\n"]) {
-        text.truncate(before);
-        return Err(error);
-    }
-    Ok(())
+    put_pieces(text, conn, sent.pieces(&mut buffer))
 }
 
 /// Appends the line of an output.
@@ -48,8 +49,9 @@ pub fn put_output(text: &mut Vec<u8>, output: &Output) -> Result<(), AllocError>
     match output {
         Output::Send(conn, sent) => put_send(text, *conn, sent),
         Output::Close(conn, code) => put_close(text, *conn, *code),
-        Output::Wish(guild, edit) => {
-            put_line(text, "wish ", guild.0, edit_text::name_of(edit).text())
+        Output::Wish(guild, wished) => {
+            let name = edit_text::name_of(wished.edit());
+            put_line(text, "wish ", guild.0, name.text())
         }
     }
 }
@@ -63,7 +65,8 @@ fn limit_of(verdict: Verdict) -> Option<u32>
     }
 }
 
-fn put_refused(text: &mut Vec<u8>, line: u64, verdict: Verdict) -> Result<(), AllocError>
+/// Appends the line of an edit that is refused, with the number of its line.
+pub fn put_refused(text: &mut Vec<u8>, line: u64, verdict: Verdict) -> Result<(), AllocError>
     ensures { text.new.items ≡ (if is_ok result then text.old.items ++ refused_line line verdict else text.old.items) }
 {
     let mut line_buffer = Buffer::new();
@@ -84,21 +87,8 @@ fn put_refused(text: &mut Vec<u8>, line: u64, verdict: Verdict) -> Result<(), Al
     }
 }
 
-/// Appends the line of an edit that is refused, if it is, with the number of its line.
-pub fn put_refusal(
-    text: &mut Vec<u8>,
-    line: u64,
-    refusal: Option<Verdict>,
-) -> Result<(), AllocError>
-    ensures { text.new.items ≡ (if is_ok result then text.old.items ++ refused_text line refusal else text.old.items) }
-{
-    match refusal {
-        None => Ok(()),
-        Some(verdict) => put_refused(text, line, verdict),
-    }
-}
-
-fn put_lag(text: &mut Vec<u8>, lag: Lagged) -> Result<(), AllocError>
+/// Appends the line of a look that lags.
+pub fn put_lag(text: &mut Vec<u8>, lag: Lagged) -> Result<(), AllocError>
     ensures { text.new.items ≡ (if is_ok result then text.old.items ++ lagged_line lag else text.old.items) }
 {
     let mut worker_buffer = Buffer::new();
@@ -113,16 +103,6 @@ fn put_lag(text: &mut Vec<u8>, lag: Lagged) -> Result<(), AllocError>
         text,
         &["lagged ", worker, " ", guild, " ", base, " ", cursor, "\n"],
     )
-}
-
-/// Appends the line of a look, if it lags.
-pub fn put_lagged(text: &mut Vec<u8>, lagged: Option<Lagged>) -> Result<(), AllocError>
-    ensures { text.new.items ≡ (if is_ok result then text.old.items ++ lagged_text lagged else text.old.items) }
-{
-    match lagged {
-        None => Ok(()),
-        Some(lag) => put_lag(text, lag),
-    }
 }
 
 fn number_of(fault: LineFault) -> u8

@@ -3,14 +3,14 @@ ghost use Rattle.std.specs.Prelude.{◌++◌, MatchResult, OnOk, OnErr};
 ghost use Rattle.gate_outside.specs.Causes.{FaultHasCause};
 ghost use Rattle.gate_outside.specs.Streams.{Carries, CarriesFront};
 ghost use Rattle.scenario.specs.Server.{Server as ModelServer, follow, followed};
-ghost use Rattle.scenario.specs.Texts.{written_line, refused_text, lagged_text, stop_line};
+ghost use Rattle.scenario.specs.Texts.{written_line, refused_line, refused_text, lagged_line, lagged_text, stop_line};
 ghost use Rattle.scenario.specs.Transcript.{head_text, output_text, outputs_text};
 ghost use Rattle.scenario.specs.Represents.{Represents};
 ghost use Rattle.scenario.specs.Played.{answer_text};
 
 use crate::lagged::Lagged;
 use crate::server::{Answer, Server};
-use crate::texts::{put_lagged, put_output, put_refusal, put_stop};
+use crate::texts::{put_lag, put_output, put_refused, put_stop};
 use edit_text::LineFault;
 use gate_outside::faults::Fault;
 use gate_outside::streams::{Sink, write_all};
@@ -37,7 +37,23 @@ fn write_output<K: Sink>(sink: &mut K, text: &mut Vec<u8>, output: &Output) -> R
     write_line(sink, text.as_slice())
 }
 
-// Writes the line of an edit that is refused, if it is, with the number of its line.
+// Writes the line of an edit that is refused, with the number of its line.
+fn write_refused<K: Sink>(
+    sink: &mut K,
+    text: &mut Vec<u8>,
+    line: u64,
+    verdict: Verdict,
+) -> Result<(), Fault>
+    ensures ok { OnOk result (Carries (K.got sink.old) (K.got sink.new) (K.waits sink.new) (K.waits sink.old ++ refused_line line verdict)) }
+    ensures err { OnErr result (CarriesFront (K.got sink.old) (K.got sink.new) (K.waits sink.new) (K.waits sink.old ++ refused_line line verdict)) }
+    ensures cause { FaultHasCause (K.faults sink.old) (K.faults sink.new) result }
+{
+    text.clear();
+    put_refused(text, line, verdict)?;
+    write_line(sink, text.as_slice())
+}
+
+// The same of an edit that may be refused.
 fn write_refusal<K: Sink>(
     sink: &mut K,
     text: &mut Vec<u8>,
@@ -48,15 +64,24 @@ fn write_refusal<K: Sink>(
     ensures err { OnErr result (CarriesFront (K.got sink.old) (K.got sink.new) (K.waits sink.new) (K.waits sink.old ++ refused_text line refusal)) }
     ensures cause { FaultHasCause (K.faults sink.old) (K.faults sink.new) result }
 {
-    if refusal.is_none() {
-        return Ok(());
+    match refusal {
+        None => Ok(()),
+        Some(verdict) => write_refused(sink, text, line, verdict),
     }
+}
+
+// Writes the line of a look that lags.
+fn write_lag<K: Sink>(sink: &mut K, text: &mut Vec<u8>, lag: Lagged) -> Result<(), Fault>
+    ensures ok { OnOk result (Carries (K.got sink.old) (K.got sink.new) (K.waits sink.new) (K.waits sink.old ++ lagged_line lag)) }
+    ensures err { OnErr result (CarriesFront (K.got sink.old) (K.got sink.new) (K.waits sink.new) (K.waits sink.old ++ lagged_line lag)) }
+    ensures cause { FaultHasCause (K.faults sink.old) (K.faults sink.new) result }
+{
     text.clear();
-    put_refusal(text, line, refusal)?;
+    put_lag(text, lag)?;
     write_line(sink, text.as_slice())
 }
 
-// Writes the line of a look that lags, if it does.
+// The same of a look that may lag.
 fn write_lagged<K: Sink>(
     sink: &mut K,
     text: &mut Vec<u8>,
@@ -66,12 +91,10 @@ fn write_lagged<K: Sink>(
     ensures err { OnErr result (CarriesFront (K.got sink.old) (K.got sink.new) (K.waits sink.new) (K.waits sink.old ++ lagged_text lagged)) }
     ensures cause { FaultHasCause (K.faults sink.old) (K.faults sink.new) result }
 {
-    if lagged.is_none() {
-        return Ok(());
+    match lagged {
+        None => Ok(()),
+        Some(lag) => write_lag(sink, text, lag),
     }
-    text.clear();
-    put_lagged(text, lagged)?;
-    write_line(sink, text.as_slice())
 }
 
 /// Writes the line of a refused line, which ends the transcript.

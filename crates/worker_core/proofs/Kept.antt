@@ -25,7 +25,7 @@ use Rattle.session_core.specs.Rate.{is_rated, frame_counted}
 use Rattle.session_core.specs.Ends.{is_final, lost, all_gone, left_of, left, client_closed, kept_for, expired, ticked, silent_of, connection_number, all_ended, ended_if_live, session_conns}
 use Rattle.world_law.specs.Keeping.{Cursors}
 use Rattle.world_law.specs.Model.{Seen, Worker, cursors, record_of, replay, seen_with}
-use Rattle.world_law.specs.Sent.{Sent, ended_at, told}
+use Rattle.world_law.specs.Sent.{Sent, ended_at}
 use Rattle.world_law.specs.Looks.{after_entry, entry_sends}
 use Rattle.world_law.proofs.Lists.{append_none, map_join}
 use Rattle.world_law.proofs.Entered.{batch, told_entry}

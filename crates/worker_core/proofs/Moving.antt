@@ -25,7 +25,6 @@ use Rattle.replay_ring.specs.Replay.{Replay, fresh, texts_after}
 use Rattle.worker_core.specs.declared.replica.Replica.{Replica}
 use Rattle.worker_core.specs.declared.io.Output.{Output as Written}
 use Rattle.worker_core.specs.declared.io.StepFault.{StepFault}
-use Rattle.worker_core.specs.declared.io.StepFault.TheVariants.{Spent}
 use Rattle.worker_core.proofs.Putting.{all_live, AreLive, look_sends_is, look_spends_is, looked_is, put_twice, puts_once}
 use Rattle.world_law.specs.Outputs.{Closes, Says, Sends, sends}
 use Rattle.worker_core.specs.Represents.{Fails, FaultBy, Represents, StepsTo, Takes, TakesCounted, TakesNot}

@@ -1,15 +1,16 @@
 //! What a worker is given, what it sends, and why it stops.
 
-ghost use Rattle.std.specs.Prelude.{◌≡◌, [], ◌∷◌, ◌++◌, OnOk};
+ghost use Rattle.std.specs.Prelude.{◌≡◌, [], ◌∷◌, ◌++◌, IfOk, OnOk};
 ghost use Rattle.worker_core.specs.Represents.{may_end_by};
 
-use collections::{Seq, Text};
+use crate::wished_edit::WishedEdit;
+use collections::{Duplicate, Seq, Text};
 use edit_apply::Edit;
 use guild_model::Guild;
 use payload_text::Payload;
 use session_core::{SessionFault, Spent};
 use snowflake_id::Snowflake;
-use std::alloc::AllocError;
+use std::alloc::{AllocError, Global};
 
 /// What comes to a worker.
 #[derive(Drop)]
@@ -43,6 +44,36 @@ impl Input {
     }
 }
 
+// Copies of entries.
+fn copies_of(alloc: Global, entries: &[Edit]) -> Result<Seq<Edit>, AllocError>
+    ensures { IfOk result (λ copies. copies ≡ entries.now) }
+{
+    let mut copies = Vec::with_capacity(alloc, entries.len())?;
+    for entry in entries {
+        copies.push(entry.copy(alloc)?)?;
+    }
+    Ok(Seq::from_vec(copies))
+}
+
+impl Duplicate for Input {
+    fn duplicate(&self, alloc: Global) -> Result<Input, AllocError> {
+        Ok(match self {
+            Input::Look(guild, entries) => {
+                Input::Look(*guild, copies_of(alloc, entries.as_slice())?)
+            }
+            Input::Rebase(guild, base, basis, entries) => {
+                let entries = copies_of(alloc, entries.as_slice())?;
+                Input::Rebase(*guild, *base, basis.copy(alloc)?, entries)
+            }
+            Input::Open(conn) => Input::Open(*conn),
+            Input::Frame(conn, text) => Input::Frame(*conn, text.copy(alloc)?),
+            Input::Lost(conn) => Input::Lost(*conn),
+            Input::Closed(conn, code) => Input::Closed(*conn, *code),
+            Input::Tick(now) => Input::Tick(*now),
+        })
+    }
+}
+
 /// What a worker sends.
 #[derive(Drop)]
 pub enum Output {
@@ -52,7 +83,7 @@ pub enum Output {
     Close(u32, u16),
     /// The edit that a client asks for when it updates its presence or voice state (Gateway Events,
     /// Update Presence and Update Voice State). The caller may add it to the guild's log.
-    Wish(Snowflake, Edit),
+    Wish(Snowflake, WishedEdit),
 }
 
 /// Why a worker is finished.

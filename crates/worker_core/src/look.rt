@@ -97,17 +97,18 @@ pub fn look(
     alloc: Global,
     guild: &mut Guild,
     entries: &[Edit],
+    recipients: &Recipients,
     sessions: &mut Sessions,
     out: &mut Vec<Output>,
 ) -> Result<(), StepFault>
+    requires { Picks recipients.now.viewers.items recipients.now.whose.items (map viewer_of sessions.old.sessions) }
     ensures guild { OnOk result (guild.new ≡ state_from guild.old entries.now) }
     ensures sessions { OnOk result (sessions.new ≡ with_sessions (kept_looked guild.old entries.now sessions.old.sessions) sessions.old) }
     ensures out { OnOk result (out.new.items ≡ out.old.items ++ all_written (kept_sends guild.old entries.now sessions.old.sessions)) }
     ensures spent { MatchResult result (λ _. kept_spends guild.old entries.now sessions.old.sessions ≡ false) (FaultBy (kept_spends guild.old entries.now sessions.old.sessions)) }
 {
-    let recipients = Recipients::of(alloc, sessions)?;
     for entry in entries {
-        enter(alloc, guild, entry, &recipients, sessions, out)?;
+        enter(alloc, guild, entry, recipients, sessions, out)?;
     }
     Ok(())
 }

@@ -8,26 +8,33 @@ ghost use Rattle.worker_core.specs.InCode.{replica_id};
 
 use crate::io::{Output, put};
 use crate::replica::Replica;
+use crate::wished_edit::WishedEdit;
 use dispatch_types::Viewer;
 use edit_apply::Edit;
 use gateway_frames::VoiceAsk;
 use guild_model::Status;
 use snowflake_id::Snowflake;
-use std::alloc::AllocError;
+use std::alloc::{AllocError, Global};
 use wishes::{presence_wish, voice_wish};
 
 // Adds a wish, if there is one.
-fn put_wish(out: &mut Vec<Output>, guild: Snowflake, wish: Option<Edit>) -> Result<(), AllocError>
+fn put_wish(
+    alloc: Global,
+    out: &mut Vec<Output>,
+    guild: Snowflake,
+    wish: Option<Edit>,
+) -> Result<(), AllocError>
     ensures { OnOk result (out.new.items ≡ out.old.items ++ all_written (wished guild wish)) }
 {
     match wish {
-        Some(edit) => put(out, Output::Wish(guild, edit)),
+        Some(edit) => put(out, Output::Wish(guild, WishedEdit::new(alloc, edit)?)),
         None => Ok(()),
     }
 }
 
 /// Adds a wish for each guild in which a client sets the status of its bot.
 pub fn wish_presence(
+    alloc: Global,
     replicas: &[Replica],
     viewer: &Viewer,
     status: Status,
@@ -37,13 +44,14 @@ pub fn wish_presence(
 {
     for replica in replicas {
         let wish = presence_wish(&replica.guild, viewer, status);
-        put_wish(out, replica.guild.id, wish)?;
+        put_wish(alloc, out, replica.guild.id, wish)?;
     }
     Ok(())
 }
 
 /// Adds the wish of a client that moves its bot to a voice channel, or out of it.
 pub fn wish_voice(
+    alloc: Global,
     replica: &Replica,
     viewer: &Viewer,
     ask: &VoiceAsk,
@@ -52,5 +60,5 @@ pub fn wish_voice(
     ensures { OnOk result (out.new.items ≡ out.old.items ++ all_written (wished (replica_id replica.now) (voice_wish replica.now.guild viewer.now ask.now))) }
 {
     let wish = voice_wish(&replica.guild, viewer, ask);
-    put_wish(out, replica.guild.id, wish)
+    put_wish(alloc, out, replica.guild.id, wish)
 }

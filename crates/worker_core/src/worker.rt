@@ -35,6 +35,7 @@ use crate::io::{Input, Output, StepFault, put};
 use crate::look::{apply_each, look};
 use crate::made::{Made, counted_more, live_dispatches};
 use crate::ready::{guild_creates, ready_guilds};
+use crate::recipients::Recipients;
 use crate::replica::Replica;
 use crate::tell::tell;
 use crate::wish::{wish_presence, wish_voice};
@@ -63,6 +64,8 @@ pub struct Worker {
     past: u64,
     replicas: ById<Replica>,
     sessions: Sessions,
+    /// The viewers of the sessions, as of the last look.
+    recipients: Recipients,
 }
 
 impl Model for Worker {
@@ -100,6 +103,7 @@ impl Worker {
             past: 0,
             replicas,
             sessions: Sessions::new(alloc, number, bots),
+            recipients: Recipients::none(alloc),
         })
     }
 
@@ -263,7 +267,15 @@ impl Worker {
         ensures live { length (live self.old.machine.core) ≡ length self.old.machine.core.sessions }
     {
         let mut out = Vec::with_capacity(self.alloc, self.room_for(entries))?;
-        look(self.alloc, guild, entries, &mut self.sessions, &mut out)?;
+        self.recipients.update(self.alloc, &self.sessions)?;
+        look(
+            self.alloc,
+            guild,
+            entries,
+            &self.recipients,
+            &mut self.sessions,
+            &mut out,
+        )?;
         Ok(out)
     }
 
@@ -481,7 +493,7 @@ impl Worker {
         ensures { OnOk result (Gives self.now session (Presence status) self.now out.old.items out.new.items) }
     {
         match self.viewer_of(session) {
-            Some(viewer) => wish_presence(self.replicas(), &viewer, status, out),
+            Some(viewer) => wish_presence(self.alloc, self.replicas(), &viewer, status, out),
             None => Ok(()),
         }
     }
@@ -496,7 +508,7 @@ impl Worker {
         ensures { OnOk result (Gives self.now session (Voice ask.now) self.now out.old.items out.new.items) }
     {
         match (self.viewer_of(session), self.replica(ask.guild)) {
-            (Some(viewer), Some(replica)) => wish_voice(replica, &viewer, ask, out),
+            (Some(viewer), Some(replica)) => wish_voice(self.alloc, replica, &viewer, ask, out),
             _ => Ok(()),
         }
     }

@@ -1,6 +1,6 @@
 use Rattle.std.proofs.lemmas.Result.{err_from_is_err_and}
 use Rattle.gate_outside.proofs.Fronts.{carries_part}
-use Rattle.scenario.proofs.Plays.{plays_after, plays_none, cause_none}
+use Rattle.scenario.proofs.Plays.{plays_after, plays_none}
 use Rattle.scenario.proofs.playing.play.Goals as goal
 
 pub returns-in_err-flush-clause-plays : goal.returns-in_err-flush-clause-plays

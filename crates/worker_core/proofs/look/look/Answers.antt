@@ -25,7 +25,7 @@ returns-in_err-enter-clause-spent c =
     let lt : i < length es = omega arith in
     let rest = rest_dropped es i e lt (sym c.entry-item.is) in
     let fault : StepFault = c.in_err-enter.field-0.0 in
-    let p = err_from_is_err_and c.from_residual-in_err-enter.result c.from_residual-in_err-enter.ensures.1 in
+    let p = err_from_is_err_and c.from_residual.result c.from_residual.ensures.1 in
     rw p.1 (subst (λ (f : StepFault). FaultBy (kept_spends c.args.guild.now es c.args.sessions.now.sessions) f) (sym p.2)
     (subst (λ b. FaultBy b fault) c.loop-entry.invariant.spent
     (subst (λ (ds : List Edit). FaultBy (kept_spends g ds c.loop-entry.sessions.sessions) fault) (sym rest)
@@ -44,7 +44,7 @@ loop-entry-preserved c =
     let told = c.in_ok-enter.ensures.told in
     let now = c.in_ok-enter.ensures.guild in
     record {
-      recipients = subst (λ (vs : List Viewer). Picks c.in_ok-recipients.recipients.viewers.items c.in_ok-recipients.recipients.whose.items vs)
+      recipients = subst (λ (vs : List Viewer). Picks c.args.recipients.now.viewers.items c.args.recipients.now.whose.items vs)
           (sym (ap (λ (n : State Replay). map viewer_of n.sessions) told.0 ∙ viewers_stay g e s.sessions)) c.loop-entry.invariant.recipients;
       guild = ap (λ h. state_from h later) now ∙ (ap (state_from g) (sym rest) ∙ c.loop-entry.invariant.guild);
       sessions = ap (λ h. with_sessions (kept_looked h later c.enter.new.sessions.sessions) c.enter.new.sessions) now
