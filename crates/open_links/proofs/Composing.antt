@@ -1,16 +1,18 @@
 -- What callers know of open links over many events.
-use Rattle.std.proofs.Common.{◌≡◌, ℕ, ◌<◌, List, [], ◌∷◌, ◌++◌, Bool, true, false, ◌||◌, Option, length, refl, sym, ap, subst, arith, append_assoc, append-nil}
+use Rattle.std.proofs.Common.{◌≡◌, ℕ, ◌<◌, List, [], ◌∷◌, ◌++◌, Bool, true, false, ◌||◌, Option, length, refl, sym, ap, ◌∙◌, subst, arith, append_assoc, append-nil}
 use Rattle.std.specs.Prelude.{◌==◌, All}
 use Rattle.std.proofs.lemmas.Bool.{eqb-true}
 use Rattle.std.proofs.lemmas.List.Elements.{All-head, All-tail, All-nil}
 use Rattle.gate_outside.specs.declared.sending.Sending.TheVariants as sending
+use Rattle.gate_outside.specs.Doors.{DoorTale}
 use Rattle.gate_outside.specs.Links.{ReturnedLink}
 use Rattle.open_links.specs.declared.heard.Word.TheVariants as word
-use Rattle.open_links.specs.Courses.{Events, Comes, Loses, course, is_over, opens_any}
+use Rattle.open_links.specs.Courses.{Events, Comes, Loses, course, is_over, only_gives}
 use Rattle.open_links.specs.Links.{Held, no_held, Holding, no_links, is_among, has_conn, MeetsHeld, Meets, AllMeet}
-use Rattle.open_links.specs.Calls.{GoesBy, MovesBy, Says, is_done}
+use Rattle.open_links.specs.Calls.{GoesBy, MovesBy, Says, IsSameDoor, is_done}
 use Rattle.open_links.specs.Steps.{AllMeetHeld}
 use Rattle.open_links.proofs.Losing.{done_stands, done_follows}
+use Rattle.open_links.proofs.Happened.{gives_open_none, gives_in_place}
 use Rattle.open_links.proofs.Meeting.{with_none, meets_more}
 use Rattle.open_links.proofs.Fields.{over_held, not_open_come, not_open_lost}
 
@@ -28,6 +30,7 @@ goes_by_moves more a b x f = λ es before m. f es before x m
 -- before the first link nothing has happened
 pub meets_first : (before : Option (List ReturnedLink)) → Meets [] no_links before before
 meets_first before = record {
+  in_place = tt;
   held = All-nil (λ (l : Held). MeetsHeld (course l.conn []) l);
   ascend = tt;
   conns = [];
@@ -54,10 +57,11 @@ closed_is_over es old new before now conn code s m =
     let at = done_stands conn new.links s.1 in
     over_held (es ++ (conn, Comes (sending.Close code)) ∷ []) conn at.0 new.links no_held (s.0 es before now m).held at.1.stands (not_open_come es conn code)
 
--- without open links nothing matters that happens, but for a connection that opens
-pub none_moves : (more : Events) (h : Holding) → h.links ≡ [] → opens_any more ≡ false → MovesBy more h h
-none_moves more h e none = meets_more more h h none refl (record {
+-- without open links nothing matters that is given out
+pub none_moves : (more : Events) (h : Holding) → h.links ≡ [] → only_gives more ≡ true → MovesBy more h h
+none_moves more h e gives = meets_more more h h (gives_open_none more gives) refl (record {
   conns = refl;
+  in_place = λ es all. gives_in_place es more gives;
   meet = λ es all. subst (λ (ls : List Held). AllMeetHeld (es ++ more) ls) (sym e) (All-nil (λ (l : Held). MeetsHeld (course l.conn (es ++ more)) l));
 })
 
@@ -84,8 +88,23 @@ none_all_over es h before now e m conn lt = among_all (λ conn. is_over (course 
 -- and all links came back
 pub none_all_meet : (es : Events) (h : Holding) (before now : Option (List ReturnedLink)) → h.links ≡ [] → Meets es h before now → AllMeet es h.count before now
 none_all_meet es h before now e m = record {
+  in_place = m.in_place;
   conns = m.conns;
   back = m.back;
   each = all_returned es h before now e m;
   once = omega (arith, m.once, ap length e);
+  later = m.later;
+}
+
+-- ---- doors that take links back
+
+pub same_door : (d : DoorTale) → IsSameDoor d d
+same_door d = record { given = refl; ended = refl; accepts = refl; waits = refl }
+
+pub same_doors : (a b c : DoorTale) → IsSameDoor a b → IsSameDoor b c → IsSameDoor a c
+same_doors a b c first later = record {
+  given = later.given ∙ first.given;
+  ended = later.ended ∙ first.ended;
+  accepts = later.accepts ∙ first.accepts;
+  waits = later.waits ∙ first.waits;
 }

@@ -1,15 +1,15 @@
 -- What becomes of open links, by their fields.
-use Rattle.std.proofs.Common.{◌≡◌, ℕ, ◌+◌, List, [], ◌∷◌, ◌++◌, true, false, ◌||◌, Option, get_or, refl, sym, ap, ◌∙◌, subst}
+use Rattle.std.proofs.Common.{◌≡◌, ℕ, ◌+◌, List, [], ◌∷◌, ◌++◌, true, false, Option, get_or, refl, sym, ap, ◌∙◌, subst}
 use Rattle.std.specs.List.{remove}
 use Rattle.gate_outside.specs.declared.sending.Sending.TheVariants as sending
 use Rattle.gate_outside.specs.Links.{ReturnedLink, IsNewLink}
 use Rattle.open_links.specs.declared.heard.Word.{Word}
 use Rattle.open_links.specs.declared.heard.Word.TheVariants as word
-use Rattle.open_links.specs.Courses.{Event, Events, Opens, Comes, Gives, Loses, Course, Unopened, Open, Over, is_open, is_over, opens_any, moved, course}
+use Rattle.open_links.specs.Courses.{Events, Opens, Comes, Gives, Loses, Course, Unopened, Open, Over, is_opened, is_open, is_over, moved, course}
 use Rattle.open_links.specs.Links.{Held, Holding, AreNumbered, as_returned, with_more}
 use Rattle.open_links.specs.Calls.{GoesBy, MovesBy, EndsBy, Says}
 use Rattle.open_links.specs.Steps.{AllMeetHeld, AllFollow, AllHear, StandsAt}
-use Rattle.open_links.proofs.Happened.{course-append, moves_own}
+use Rattle.open_links.proofs.Happened.{opens_any, after_one}
 use Rattle.open_links.proofs.Listed.{stands_kept}
 use Rattle.open_links.proofs.Meeting.{meets_more, given_back, let_in}
 
@@ -28,7 +28,7 @@ says conn (word.Closed code) old links links' count e f = (moves ((conn, Comes (
 says conn word.Nothing old links links' count e f = moves [] old links links' count e refl f
 says conn word.Lost old links links' count e f = (moves [] old links links' count e refl f.0, f.1)
 
-over_if : (c : Course) → (is_open c || is_over c) ≡ true → is_open c ≡ false → is_over c ≡ true
+over_if : (c : Course) → is_opened c ≡ true → is_open c ≡ false → is_over c ≡ true
 over_if Unopened h e = h
 over_if (Open cs gs) h e = absurd (cc)
 over_if (Over cs gs end) h e = refl
@@ -36,7 +36,7 @@ over_if (Over cs gs end) h e = refl
 -- a connection has ended that has a link and is not open
 pub over_held : (es : Events) (conn i : ℕ) (links : List Held) (d : Held) → AllMeetHeld es links → StandsAt i conn links → is_open (course conn es) ≡ false → is_over (course conn es) ≡ true
 over_held es conn i links d all s e =
-    over_if (course conn es) (subst (λ n. (is_open (course n es) || is_over (course n es)) ≡ true) (s.numbered d) (all i d s.within).opened) e
+    over_if (course conn es) (subst (λ n. is_opened (course n es) ≡ true) (s.numbered d) (all i d s.within).meets.opened) e
 
 close_given : (c : Course) (code : ℕ) → is_open (moved c (Gives (sending.Close code))) ≡ false
 close_given Unopened code = refl
@@ -52,9 +52,6 @@ loss_come : (c : Course) → is_open (moved c Loses) ≡ false
 loss_come Unopened = refl
 loss_come (Open cs gs) = refl
 loss_come (Over cs gs end) = refl
-
-pub after_one : (es : Events) (conn : ℕ) (e : Event) → course conn (es ++ (conn, e) ∷ []) ≡ moved (course conn es) e
-after_one es conn e = course-append conn es ((conn, e) ∷ []) ∙ moves_own conn (course conn es) (e ∷ [])
 
 pub not_open_given : (es : Events) (conn code : ℕ) → is_open (course conn (es ++ (conn, Gives (sending.Close code)) ∷ [])) ≡ false
 not_open_given es conn code = ap is_open (after_one es conn (Gives (sending.Close code))) ∙ close_given (course conn es) code

@@ -8,14 +8,15 @@ use Rattle.std.proofs.lemmas.Grind.{get_or-set_at}
 use Rattle.std.proofs.lemmas.List.{get_or-map, length-map, get_or_default}
 use Rattle.std.proofs.Math.Seq.{map-set_same}
 use Rattle.collections.specs.ById.{AllAbove, IsById, count_below}
+use Rattle.gate_outside.specs.declared.sending.Sending.{Sending}
 use Rattle.gate_outside.specs.declared.sending.Sending.TheVariants as sending
 use Rattle.open_links.specs.declared.heard.Word.{Word}
 use Rattle.open_links.specs.declared.heard.Word.TheVariants as word
-use Rattle.open_links.specs.Courses.{Event, Events, Comes, course}
+use Rattle.open_links.specs.Courses.{Event, Events, Comes, Gives, course}
 use Rattle.open_links.specs.Links.{Held, held_conn, no_held, AreNumbered, has_conn, MeetsHeld}
 use Rattle.open_links.specs.Calls.{is_done, IsGoneOrFailed}
 use Rattle.open_links.specs.Steps.{moved_on, Follows, Hears, AllMeetHeld, AllFollow, AllHear, StandsAt}
-use Rattle.open_links.proofs.Happened.{of_conn, course-append, moves_own, leaves_other}
+use Rattle.open_links.proofs.Happened.{of_conn, course-append, moves_own, leaves_other, in_place_own}
 
 pub differs : (a b : ℕ) → a ≢ b → (a == b) ≡ false
 differs a b ne = grind (arith, nat_tests)
@@ -85,6 +86,7 @@ stands_kept xs ys i conn e s = record {
 pub one_follows : (xs : List Held) (i conn : ℕ) (d y : Held) (more : List Event) → IsById held_conn xs → StandsAt i conn xs → Follows more (get_or xs i d) y → AllFollow (of_conn conn more) xs (set xs i y)
 one_follows xs i conn d y more h s f = record {
   conns = map-set_same held_conn xs i y d f.conn;
+  in_place = λ es all. in_place_own es conn more (f.in_place (course conn es) (met es all));
   meet = λ es all k e lt.
       let at : k < length xs = omega (arith, length-set xs i y) in
       elim (cases_lt k i) [
@@ -99,12 +101,14 @@ one_follows xs i conn d y more h s f = record {
     P : Events → Held → Type 0
     P es l = MeetsHeld (course l.conn (es ++ of_conn conn more)) l
 
+    met : (es : Events) → AllMeetHeld es xs → MeetsHeld (course conn es) (get_or xs i d)
+    met es all = subst (λ n. MeetsHeld (course n es) (get_or xs i d)) (s.numbered d) (all i d s.within)
+
     own : (es : Events) → AllMeetHeld es xs → (k : ℕ) (e : Held) → k ≡ i → MeetsHeld (course (get_or (set xs i y) k e).conn (es ++ of_conn conn more)) (get_or (set xs i y) k e)
     own es all k e same =
-        let was : MeetsHeld (course conn es) (get_or xs i d) = subst (λ n. MeetsHeld (course n es) (get_or xs i d)) (s.numbered d) (all i d s.within) in
         let moves : course y.conn (es ++ of_conn conn more) ≡ moved_on (course conn es) more =
         ap (λ n. course n (es ++ of_conn conn more)) (f.conn ∙ s.numbered d) ∙ course-append conn es (of_conn conn more) ∙ moves_own conn (course conn es) more in
-        let now : MeetsHeld (course y.conn (es ++ of_conn conn more)) y = subst (λ c. MeetsHeld c y) (sym moves) (f.meets (course conn es) was) in
+        let now : MeetsHeld (course y.conn (es ++ of_conn conn more)) y = subst (λ c. MeetsHeld c y) (sym moves) (f.meets (course conn es) (met es all)) in
         subst (λ (l : Held). MeetsHeld (course l.conn (es ++ of_conn conn more)) l) (sym (get_or-set_at xs i k y e same s.within)) now
 
     other : (es : Events) → AllMeetHeld es xs → (k : ℕ) (e : Held) → k < length xs → k ≢ i → MeetsHeld (course (get_or (set xs i y) k e).conn (es ++ of_conn conn more)) (get_or (set xs i y) k e)
@@ -124,14 +128,16 @@ differs_at conn (x ∷ xs) (suc k) d h lt = differs_at conn xs k d (rest (x.conn
     rest true b e = absurd (cc)
     rest false b e = e
 
--- nothing that happens to a connection without an open link concerns those that are open
-pub none_follows : (xs : List Held) (conn : ℕ) (more : List Event) → has_conn conn xs ≡ false → AllFollow (of_conn conn more) xs xs
-none_follows xs conn more h = record {
+-- what is given out for a connection without an open link concerns none that are open
+pub none_follows : (xs : List Held) (conn : ℕ) (x : Sending) → has_conn conn xs ≡ false → AllFollow ((conn, Gives x) ∷ []) xs xs
+none_follows xs conn x h = record {
   conns = refl;
+  in_place = λ es all. (refl, tt);
   meet = λ es all k e lt.
-      let x = get_or xs k e in
-      let stays : course x.conn (es ++ of_conn conn more) ≡ course x.conn es = course-append x.conn es (of_conn conn more) ∙ leaves_other conn x.conn (course x.conn es) more (differs_at conn xs k e h lt) in
-      subst (λ c. MeetsHeld c x) (sym stays) (all k e lt);
+      let l = get_or xs k e in
+      let more : List Event = Gives x ∷ [] in
+      let stays : course l.conn (es ++ of_conn conn more) ≡ course l.conn es = course-append l.conn es (of_conn conn more) ∙ leaves_other conn l.conn (course l.conn es) more (differs_at conn xs k e h lt) in
+      subst (λ c. MeetsHeld c l) (sym stays) (all k e lt);
 }
 
 above_lacks : (conn k : ℕ) (xs : List Held) → conn ≤ k → AllAbove held_conn k xs → has_conn conn xs ≡ false
@@ -157,6 +163,24 @@ none_from from conn (x ∷ xs) e le = elim (cases_lt x.conn from) [
   | inl below ↦ (let c : count_below held_conn from xs ≡ length xs = grind (arith, nat_tests) in grind (arith, nat_tests, none_from from conn xs c le))
   | inr ge ↦ absurd (grind (arith, nat_tests))
 ]
+
+-- those before the first link that has no smaller number
+pub none_below : (from conn : ℕ) (xs : List Held) (i : ℕ) (d : Held) → IsById held_conn xs → i ≡ count_below held_conn from xs → i < length xs → from ≤ conn → conn < (get_or xs i d).conn → has_conn conn xs ≡ false
+none_below from conn [] i d h e lt le below = absurd (omega arith)
+none_below from conn (x ∷ xs) zero d h e lt le below = grind (arith, nat_tests, above_lacks conn x.conn xs (omega (arith, below)) h.0)
+none_below from conn (x ∷ xs) (suc i) d h e lt le below = elim (cases_lt x.conn from) [
+  | inl under ↦ (let c : i ≡ count_below held_conn from xs = grind (arith, nat_tests) in grind (arith, nat_tests, none_below from conn xs i d h.1 c (omega (arith, lt)) le below))
+  | inr ge ↦ absurd (grind (arith, nat_tests))
+]
+
+-- a link that stands there is found
+pub stands_there : (xs : List Held) (i conn : ℕ) → StandsAt i conn xs → has_conn conn xs ≡ true
+stands_there xs i conn s = there xs i (s.numbered no_held) s.within
+  where
+    there : (ys : List Held) (j : ℕ) → (get_or ys j no_held).conn ≡ conn → j < length ys → has_conn conn ys ≡ true
+    there [] j e lt = absurd (omega arith)
+    there (y ∷ ys) zero e lt = grind (arith, nat_tests)
+    there (y ∷ ys) (suc j) e lt = grind (arith, nat_tests, there ys j e (omega (arith, lt)))
 
 -- the first link that has no smaller number
 pub first_from : (from : ℕ) (xs : List Held) (i : ℕ) (d : Held) → i ≡ count_below held_conn from xs → i < length xs → from ≤ (get_or xs i d).conn

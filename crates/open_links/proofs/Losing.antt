@@ -15,9 +15,10 @@ none_failed n lt e = absurd (omega arith)
 
 -- the connection of a link that is done with is lost
 done_loses : (c : Course) (l : Held) → l.done ≡ true → MeetsHeld c l → MeetsHeld (moved c Loses) l
-done_loses Unopened l d m = let e : ◌≡◌ {A = Bool} false true = m.opened in absurd (cc)
+done_loses Unopened l d m = let e : ◌≡◌ {A = Bool} false true = m.meets.opened in absurd (cc)
 done_loses (Open cs gs) l d m = record {
   meets = record {
+    opened = refl;
     gave = m.meets.gave;
     front = m.meets.front;
     whole = none_failed l.faults (m.done d refl);
@@ -25,7 +26,6 @@ done_loses (Open cs gs) l d m = record {
   };
   in_use = λ u. absurd (cc);
   done = λ u o. absurd (cc);
-  opened = refl;
 }
 done_loses (Over cs gs end) l d m = m
 
@@ -55,4 +55,4 @@ done_follows conn links h d =
     let at = done_stands conn links d in
     let l = get_or links at.0 no_held in
     subst (AllFollow ((conn, Loses) ∷ []) links) (set-get_or links at.0 no_held)
-    (one_follows links at.0 conn no_held l (Loses ∷ []) h at.1.stands (record { conn = refl; meets = λ c. done_loses c l at.1.is_done }))
+    (one_follows links at.0 conn no_held l (Loses ∷ []) h at.1.stands (record { conn = refl; in_place = λ c m. (refl, tt); meets = λ c. done_loses c l at.1.is_done }))

@@ -1,5 +1,5 @@
 -- Links that meet their connections, after more has happened and as links open and come back.
-use Rattle.std.proofs.Common.{◌≡◌, ℕ, zero, suc, ◌+◌, ◌<◌, List, [], ◌∷◌, ◌++◌, Bool, true, false, ◌||◌, Option, Some, None, map, length, take, drop, get_or, refl, sym, ap, ◌∙◌, subst, arith, inl, inr, append_assoc, append-nil, length-append}
+use Rattle.std.proofs.Common.{◌≡◌, ℕ, zero, suc, ◌+◌, ◌<◌, List, [], ◌∷◌, ◌++◌, Bool, true, false, not, ◌||◌, Option, Some, None, map, length, take, drop, get_or, refl, sym, ap, ◌∙◌, subst, arith, inl, inr, append_assoc, append-nil, length-append}
 use Rattle.std.specs.Prelude.{◌==◌, All}
 use Rattle.std.specs.List.{remove, AllZip}
 use Rattle.std.proofs.lemmas.Bool.{cases_lt, eq-eqb}
@@ -10,11 +10,11 @@ use Rattle.std.proofs.lemmas.List.Folds.{list_any-append}
 use Rattle.collections.specs.ById.{AllAbove, IsById}
 use Rattle.gate_outside.specs.Told.{IsEmptyIfTold}
 use Rattle.gate_outside.specs.Links.{ReturnedLink, IsNewLink}
-use Rattle.open_links.specs.Courses.{Events, Opens, Unopened, Open, is_over, opens_any, moved, moved_all, course}
+use Rattle.open_links.specs.Courses.{Course, Events, Opens, Unopened, Open, is_opened, is_over, moved, moved_all, course, is_in_place}
 use Rattle.open_links.specs.Links.{Held, held_conn, as_returned, Holding, AreNumbered, is_among, has_conn, IsIfTold, IsFrontIfTold, with_more, MeetsReturned, MeetsHeld, Meets, AllMeet}
 use Rattle.open_links.specs.Calls.{MovesBy}
 use Rattle.open_links.specs.Steps.{AllMeetHeld, AllFollow, StandsAt}
-use Rattle.open_links.proofs.Happened.{course-append, over_stays, moves_own, leaves_other, unopened_stays}
+use Rattle.open_links.proofs.Happened.{opens_any, course-append, over_stays, after_one, leaves_other, unopened_stays, passes_join}
 use Rattle.open_links.proofs.Listed.{differs, by_conns, same_length}
 
 pub with_none : {A : Type 0} (o : Option (List A)) → with_more o [] ≡ o
@@ -52,6 +52,7 @@ zip_append R (x ∷ xs) ys (u ∷ us) vs a b = (a.0, zip_append R xs ys us vs a.
 -- links that follow what happens meet their connections after it
 pub meets_more : (more : Events) (old new : Holding) → opens_any more ≡ false → new.count ≡ old.count → AllFollow more old.links new.links → MovesBy more old new
 meets_more more old new none count f = λ es before now m. record {
+  in_place = passes_join is_in_place [] es more m.in_place (f.in_place es m.held);
   held = f.meet es m.held;
   ascend = by_conns old.links new.links f.conns m.ascend;
   conns = m.conns;
@@ -107,6 +108,7 @@ given_back es links count before now later i conn d m o s e =
     let R : ℕ → ReturnedLink → Type 0 = λ conn link. MeetsReturned (course conn es) link in
     let r = as_returned (get_or links i d) in
     let mine : MeetsReturned (course conn es) r = subst (λ n. MeetsReturned (course n es) r) (s.numbered d) (m.held i d s.within).meets in record {
+      in_place = m.in_place;
       held = all_removed (λ (l : Held). MeetsHeld (course l.conn es) l) links i m.held;
       ascend = by_id_removed links i m.ascend;
       conns = m.conns ++ conn ∷ [];
@@ -145,6 +147,7 @@ zip_held es (l ∷ links) h =
 pub all_back : (es : Events) (h : Holding) (before now later : Option (List ReturnedLink)) → Meets es h before now → later ≡ with_more now (map as_returned h.links) → AllMeet es h.count before later
 all_back es h before now later m e =
     let R : ℕ → ReturnedLink → Type 0 = λ conn link. MeetsReturned (course conn es) link in record {
+      in_place = m.in_place;
       conns = m.conns ++ map held_conn h.links;
       back = record {
         links = m.back.links ++ map as_returned h.links;
@@ -153,6 +156,7 @@ all_back es h before now later m e =
       };
       each = λ n lt. list_any-append (λ c. c == n) m.conns (map held_conn h.links) ∙ m.each n lt;
       once = omega (arith, m.once, length-append m.conns (map held_conn h.links), length-map h.links held_conn);
+      later = m.later;
     }
 
 above_push : (k : ℕ) (xs : List Held) (l : Held) → AllAbove held_conn k xs → k < l.conn → AllAbove held_conn k (xs ++ l ∷ [])
@@ -183,6 +187,7 @@ none_front (Some xs) h = ([], append-nil xs ∙ h)
 new_meets : (l : Held) → IsNewLink l.tale l.faults → l.done ≡ false → MeetsHeld (Open [] []) l
 new_meets l n d = record {
   meets = record {
+    opened = refl;
     gave = none_told l.tale.gave n.gave;
     front = none_front l.tale.sent n.sent;
     whole = λ z. none_told l.tale.sent n.sent;
@@ -190,7 +195,6 @@ new_meets l n d = record {
   };
   in_use = λ u. (refl, (n.sound, n.open_yet));
   done = λ u o. absurd (cc);
-  opened = refl;
 }
 
 -- a link that was just given is open
@@ -198,6 +202,7 @@ pub let_in : (links : List Held) (count : ℕ) (l : Held) → AreNumbered links 
     → MovesBy ((count, Opens) ∷ []) (record { links = links; count = count }) (record { links = links ++ l ∷ []; count = count + 1 })
 let_in links count l h e n d = λ es before now m.
     let P : Held → Type 0 = λ x. MeetsHeld (course x.conn (es ++ (count, Opens) ∷ [])) x in record {
+      in_place = passes_join is_in_place [] es ((count, Opens) ∷ []) m.in_place (ap (λ (c : Course). not (is_opened c)) (m.later count (omega arith)), tt);
       held = All-append P links (l ∷ []) (λ k x lt. older es (get_or links k x) (h.below k x lt) (m.held k x lt)) (All-cons P l [] (newest es (m.later count (omega arith))) (All-nil P));
       ascend = by_id_push links l m.ascend (λ k x lt. omega (arith, e, h.below k x lt));
       conns = m.conns;
@@ -223,7 +228,7 @@ let_in links count l h e n d = λ es before now m.
     newest : (es : Events) → course count es ≡ Unopened → MeetsHeld (course l.conn (es ++ (count, Opens) ∷ [])) l
     newest es was =
         let opens : course l.conn (es ++ (count, Opens) ∷ []) ≡ Open [] [] =
-        ap (λ n. course n (es ++ (count, Opens) ∷ [])) e ∙ course-append count es ((count, Opens) ∷ []) ∙ moves_own count (course count es) (Opens ∷ []) ∙ ap (λ c. moved c Opens) was in
+        ap (λ n. course n (es ++ (count, Opens) ∷ [])) e ∙ after_one es count Opens ∙ ap (λ c. moved c Opens) was in
         subst (λ c. MeetsHeld c l) (sym opens) (new_meets l n d)
 
     kept : (a b k : Bool) → (a || b) ≡ true → (a || (b || (k || false))) ≡ true

@@ -48,9 +48,18 @@ Says conn word.Nothing old new = MovesBy [] old new
 Says conn word.Lost old new = MovesBy [] old new × (is_done conn new.links ≡ true)
 
 -- the first open link from this number on is asked
+pub record HearsFirst (from : ℕ) (heard : Heard) (old new : Holding) : Type 0 where
+  pub least : from ≤ heard.conn
+  pub is_open : has_conn heard.conn old.links ≡ true
+  pub first : (conn : ℕ) → from ≤ conn → conn < heard.conn → has_conn conn old.links ≡ false
+  pub below : heard.conn < old.count
+  pub count : new.count ≡ old.count
+  pub says : Says heard.conn heard.word old new
+
+-- there is such a link, or none
 abbrev pub HearsFrom : ℕ → Option Heard → Holding → Holding → Type 0
 HearsFrom from None old new = (new ≡ old) × ((conn : ℕ) → from ≤ conn → has_conn conn old.links ≡ false)
-HearsFrom from (Some heard) old new = (from ≤ heard.conn) × ((heard.conn < old.count) × ((new.count ≡ old.count) × Says heard.conn heard.word old new))
+HearsFrom from (Some heard) old new = HearsFirst from heard old new
 
 -- if the connection of this number has an open link, the link has failed
 abbrev pub IsGoneOrFailed : ℕ → List Held → Type 0

@@ -1,6 +1,6 @@
 -- What happens to the connections of a worker, and the course of each (Gateway, Connection Lifecycle).
-use Rattle.std.specs.Prelude.{ℕ, List, [], ◌∷◌, ◌++◌, Bool, true, false, ◌==◌, if◌then◌else◌}
-use Rattle.std.specs.List.{list_any}
+use Rattle.std.specs.Prelude.{◌≡◌, ℕ, List, [], ◌∷◌, ◌++◌, Bool, true, false, not, ◌==◌, if◌then◌else◌}
+use Rattle.std.specs.List.{list_all}
 use Rattle.gate_outside.specs.declared.sending.Sending.{Sending}
 use Rattle.gate_outside.specs.declared.sending.Sending.TheVariants as sending
 
@@ -14,19 +14,19 @@ pub data Event : Type 0 where
   -- the worker gave this out for it
   Gives : (x : Sending) → Event
 
-abbrev pub is_opening : Event → Bool
-is_opening Opens = true
-is_opening (Comes x) = false
-is_opening Loses = false
-is_opening (Gives x) = false
+abbrev pub is_giving : Event → Bool
+is_giving Opens = false
+is_giving (Comes x) = false
+is_giving Loses = false
+is_giving (Gives x) = true
 
 -- what happens to connections, in order, each with the number of its connection
 abbrev pub Events : Type 0
 Events = List (ℕ × Event)
 
--- whether a connection opens by one of these events
-abbrev pub opens_any : Events → Bool
-opens_any es = list_any (λ (e : ℕ × Event). is_opening e.1) es
+-- whether all that happens is what the worker gives out
+abbrev pub only_gives : Events → Bool
+only_gives es = list_all (λ (e : ℕ × Event). is_giving e.1) es
 
 -- how a connection ended: by the worker's close, by its client's close, or as its link failed
 pub data End : Type 0 where
@@ -49,6 +49,11 @@ abbrev pub given : Course → List Sending
 given Unopened = []
 given (Open cs gs) = gs
 given (Over cs gs end) = gs
+
+abbrev pub is_opened : Course → Bool
+is_opened Unopened = false
+is_opened (Open cs gs) = true
+is_opened (Over cs gs end) = true
 
 abbrev pub is_open : Course → Bool
 is_open Unopened = false
@@ -99,3 +104,22 @@ moved_all conn c (e ∷ es) = moved_all conn (moved_by conn c e) es
 -- the course of the connection with this number
 abbrev pub course : ℕ → Events → Course
 course conn es = moved_all conn Unopened es
+
+-- ---- events in place
+
+-- whether an event may follow here: a connection opens only while it has not opened before, and something comes
+-- over it only while it is open. What is given out for it, and that its link fails, may come at any time
+abbrev pub is_in_place : Course → Event → Bool
+is_in_place c Opens = not (is_opened c)
+is_in_place c (Comes x) = is_open c
+is_in_place c Loses = true
+is_in_place c (Gives x) = true
+
+-- each of these events passes a test of the course of its connection as it was then, after what happened before
+abbrev pub EachPasses : (Course → Event → Bool) → Events → Events → Type 0
+EachPasses test before [] = Unit {0}
+EachPasses test before (e ∷ es) = (test (course e.0 before) e.1 ≡ true) × EachPasses test (before ++ e ∷ []) es
+
+-- each event is in place
+abbrev pub AreInPlace : Events → Type 0
+AreInPlace es = EachPasses is_in_place [] es

@@ -4,7 +4,7 @@ use Rattle.std.specs.List.{list_any, AllZip}
 use mathlib.Core.List.{IsPrefix}
 use Rattle.collections.specs.ById.{IsById}
 use Rattle.gate_outside.specs.Links.{LinkTale, ReturnedLink, returned_link}
-use Rattle.open_links.specs.Courses.{Course, Events, course, came, given, is_open, is_over, is_lost, Unopened}
+use Rattle.open_links.specs.Courses.{Course, Events, AreInPlace, course, came, given, is_opened, is_open, is_over, is_lost, Unopened}
 
 -- an open link: the number of its connection, what it tells, its count of faults, and whether it is done with
 pub record Held : Type 0 where
@@ -59,9 +59,10 @@ abbrev pub with_more : {A : Type 0} → Option (List A) → List A → Option (L
 with_more None more = None
 with_more (Some told) more = Some (told ++ more)
 
--- a link that gave what came over its connection and was sent a front of what was given out for it, and all of
--- it if it never failed; if the connection was lost, the link has failed
+-- a link that gave what came over its connection, which was opened, and was sent a front of what was given out for
+-- it, and all of it if it never failed; if the connection was lost, the link has failed
 pub record MeetsReturned (c : Course) (r : ReturnedLink) : Type 0 where
+  pub opened : is_opened c ≡ true
   pub gave : IsIfTold (came c) r.gave
   pub front : IsFrontIfTold (given c) r.sent
   pub whole : r.faults ≡ 0 → IsIfTold (given c) r.sent
@@ -73,7 +74,6 @@ pub record MeetsHeld (c : Course) (l : Held) : Type 0 where
   pub meets : MeetsReturned c (as_returned l)
   pub in_use : l.done ≡ false → (is_open c ≡ true) × ((l.faults ≡ 0) × (l.tale.own_code ≡ None))
   pub done : l.done ≡ true → is_open c ≡ true → 0 < l.faults
-  pub opened : (is_open c || is_over c) ≡ true
 
 -- these links came back one after another, each of the connection at its place
 pub record HaveComeBack (es : Events) (conns : List ℕ) (before now : Option (List ReturnedLink)) : Type 0 where
@@ -81,8 +81,10 @@ pub record HaveComeBack (es : Events) (conns : List ℕ) (before now : Option (L
   pub told : now ≡ with_more before links
   pub meet : AllZip (λ conn link. MeetsReturned (course conn es) link) conns links
 
--- each link meets its connection: those that are held, and those that came back, whose connections have ended
+-- each event is in place, and each link meets its connection: those that are held, and those that came back, whose
+-- connections have ended; no other connection was opened
 pub record Meets (es : Events) (h : Holding) (before now : Option (List ReturnedLink)) : Type 0 where
+  pub in_place : AreInPlace es
   pub held : All (λ (l : Held). MeetsHeld (course l.conn es) l) h.links
   pub ascend : IsById held_conn h.links
   -- the connections of the links that came back
@@ -93,9 +95,12 @@ pub record Meets (es : Events) (h : Holding) (before now : Option (List Returned
   pub once : length conns + length h.links ≡ h.count
   pub later : (conn : ℕ) → h.count ≤ conn → course conn es ≡ Unopened
 
--- all links came back, each once, and each meets its connection
+-- each event is in place, all links came back, each once, and each meets its connection; no other connection was
+-- opened
 pub record AllMeet (es : Events) (count : ℕ) (before now : Option (List ReturnedLink)) : Type 0 where
+  pub in_place : AreInPlace es
   pub conns : List ℕ
   pub back : HaveComeBack es conns before now
   pub each : (conn : ℕ) → conn < count → is_among conn conns ≡ true
   pub once : length conns ≡ count
+  pub later : (conn : ℕ) → count ≤ conn → course conn es ≡ Unopened

@@ -5,7 +5,7 @@ use Rattle.gate_outside.specs.declared.sending.Sending.TheVariants as sending
 use Rattle.open_links.specs.declared.heard.Heard.{Heard}
 use Rattle.open_links.specs.declared.heard.Word.{Word}
 use Rattle.open_links.specs.declared.heard.Word.TheVariants as word
-use Rattle.open_links.specs.Courses.{Event, Events, Comes, Course, moved, course}
+use Rattle.open_links.specs.Courses.{Event, Events, Comes, Course, moved, course, is_in_place, EachPasses}
 use Rattle.open_links.specs.Links.{Held, held_conn, MeetsHeld}
 use Rattle.open_links.specs.Calls.{is_done}
 
@@ -14,9 +14,15 @@ abbrev pub moved_on : Course → List Event → Course
 moved_on c [] = c
 moved_on c (e ∷ more) = moved_on (moved c e) more
 
--- where a link met the course of its connection, it meets the course after more has happened
+-- each of these events is in place, from this course on
+abbrev pub AreInPlaceFrom : Course → List Event → Type 0
+AreInPlaceFrom c [] = Unit {0}
+AreInPlaceFrom c (e ∷ more) = (is_in_place c e ≡ true) × AreInPlaceFrom (moved c e) more
+
+-- where a link met the course of its connection, what happens more is in place, and it meets the course after it
 pub record Follows (more : List Event) (old new : Held) : Type 0 where
   pub conn : new.conn ≡ old.conn
+  pub in_place : (c : Course) → MeetsHeld c old → AreInPlaceFrom c more
   pub meets : (c : Course) → MeetsHeld c old → MeetsHeld (moved_on c more) new
 
 -- what a link says that is asked
@@ -32,6 +38,7 @@ AllMeetHeld es links = All (λ (l : Held). MeetsHeld (course l.conn es) l) links
 -- the same of a list of links, which stay in their places
 pub record AllFollow (more : Events) (old new : List Held) : Type 0 where
   pub conns : map held_conn new ≡ map held_conn old
+  pub in_place : (es : Events) → AllMeetHeld es old → EachPasses is_in_place es more
   pub meet : (es : Events) → AllMeetHeld es old → AllMeetHeld (es ++ more) new
 
 -- the link of this connection stands at that place

@@ -1,18 +1,16 @@
 -- The inputs of turns are about the guilds of the turns.
-use Rattle.std.proofs.Common.{◌≡◌, ℕ, Bool, true, false, not, true≢false, List, [], ◌∷◌, ◌++◌, if◌then◌else◌, Option, Some, None, IfSome, map, flat_map, refl, sym, subst}
+use Rattle.std.proofs.Common.{◌≡◌, ℕ, Bool, true, false, not, true≢false, List, [], ◌∷◌, ◌++◌, if◌then◌else◌, Option, Some, IfSome, map, flat_map, refl, sym, subst}
 use Rattle.std.specs.Prelude.{◌==◌, All}
 use Rattle.std.proofs.lemmas.Bool.{eq-eqb, or_left, or_right}
 use Rattle.std.proofs.lemmas.List.Elements.{All-nil, All-cons, All-head, All-tail, All-append}
 use Rattle.world_law.specs.Inputs.{Input, Look, Rebase, Open, Frame, Lost, Closed, Tick}
 use Rattle.worker_run.specs.Turns.{is_loss, but_losses, looked_at, comes_over, IsAtMostOneOpen, IsTurn, AreTurns}
-use Rattle.worker_run.specs.Hubs.{has_guild, IsAmong, IsAbout}
+use Rattle.worker_run.specs.Hubs.{IsAmong, IsAbout}
+use Rattle.guild_places.specs.Places.{has_guild}
 
 module _ (guilds : List ℕ) where
   about_guild : (i : Input) (g : ℕ) → looked_at i ≡ Some g → IsAmong guilds g → IsAbout guilds i
   about_guild i g e among = subst (λ (o : Option ℕ). IfSome o (IsAmong guilds)) (sym e) among
-
-  about_none : (i : Input) → looked_at i ≡ None → IsAbout guilds i
-  about_none i e = subst (λ (o : Option ℕ). IfSome o (IsAmong guilds)) (sym e) tt
 
   about_looks : (looks : List Input) (gs : List ℕ) → map looked_at looks ≡ map Some gs → ((g : ℕ) → IsAmong gs g → IsAmong guilds g) → All (IsAbout guilds) looks
   about_looks [] gs e among = All-nil (IsAbout guilds)

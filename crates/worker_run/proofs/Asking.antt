@@ -10,6 +10,7 @@ use Rattle.gate_outside.specs.declared.sending.Sending.TheVariants as sending
 use Rattle.open_links.specs.Courses.{Events, Opens as OpensEvent, Comes as ComesEvent}
 use Rattle.open_links.specs.Links.{Holding, Meets}
 use Rattle.open_links.specs.Calls.{GoesBy, MovesBy, is_done}
+use Rattle.open_links.proofs.Composing.{goes_by_moves}
 use Rattle.guild_hub.specs.Sights.{Seeing}
 use Rattle.edit_post.specs.Post.{PostId}
 use Rattle.world_law.specs.Inputs.{Input, Open, Frame, Closed}
@@ -17,7 +18,8 @@ use Rattle.worker_core.specs.declared.io.Input.{Input as Given}
 use Rattle.worker_run.specs.Histories.{History, Took, inputs, events, tick_of}
 use Rattle.worker_run.specs.Hubs.{AllRead, IsReader}
 use Rattle.worker_run.specs.Turns.{is_loss, looked_at, IsAtMostOneOpen}
-use Rattle.worker_run.specs.Moves.{Serving, Now, now, Ticked, IsReady, IsHeard, OpensOne, Handles, HandlesNot, EndsOutside, EndsBy, EndsNot, Loses, LosesNot}
+use Rattle.worker_run.specs.Works.{Ticked}
+use Rattle.worker_run.specs.Moves.{Serving, Now, now, IsReady, IsHeard, OpensOne, Handles, HandlesNot, EndsOutside, EndsBy, EndsNot, Loses, LosesNot}
 use Rattle.worker_run.specs.declared.fault.WorkFault.{WorkFault}
 use Rattle.worker_run.specs.Faults.{by_door}
 use Rattle.worker_run.specs.Parts.{LetsIn}
@@ -27,10 +29,6 @@ use Rattle.worker_run.proofs.Shapes.{one_kept}
 use Rattle.worker_run.proofs.Hearing.{heard_one, heard_none, links_closed}
 use Rattle.worker_run.proofs.Composing.{Went, Stopped}
 use Rattle.worker_run.proofs.Readying.{ready_on, goes_handled, stops_handled}
-
--- where no link comes back
-pub goes_of : (more : Events) (a b : Holding) (back : Option (List ReturnedLink)) → MovesBy more a b → GoesBy more a back b back
-goes_of more a b back moves es before meets = moves es before back meets
 
 pub moves_none : (a b : Holding) → b ≡ a → MovesBy [] a b
 moves_none a b same es before back meets =
@@ -77,7 +75,7 @@ module _ (s t : Serving) (same : t ≡ record s { links = t.links }) (back : Opt
     passes = ap (λ (v : Serving). v.passes) same;
     noted = refl;
     clock = refl;
-    links = goes_of [] s.links t.links back moves;
+    links = goes_by_moves [] s.links t.links back moves;
     readers = readers_same s.readers t.readers (ap (λ (v : Serving). v.readers) same) readers;
   }
 
@@ -96,7 +94,7 @@ module _ (before : Holding) (s : Serving) (back : Option (List ReturnedLink)) (n
     passes = refl;
     noted = refl;
     clock = refl;
-    links = goes_of [] before s.links back moves;
+    links = goes_by_moves [] before s.links back moves;
     readers = all_read_none s.readers readers;
   }
 
@@ -114,7 +112,7 @@ module _ (before : Holding) (s : Serving) (back : Option (List ReturnedLink)) (n
 
     module _ (text : List ℕ) (moves : MovesBy ((conn, ComesEvent (sending.Text text)) ∷ []) before s.links) where
       links_text : GoesBy ((conn, ComesEvent (sending.Text text)) ∷ []) before back s.links back
-      links_text = goes_of ((conn, ComesEvent (sending.Text text)) ∷ []) before s.links back moves
+      links_text = goes_by_moves ((conn, ComesEvent (sending.Text text)) ∷ []) before s.links back moves
 
       shape_text : (h : History) → list_all is_loss (inputs h) ≡ true → IsHeard conn (Took (Frame conn text) ∷ h)
       shape_text h losses = heard_one (Frame conn text) h conn refl refl losses

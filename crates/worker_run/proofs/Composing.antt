@@ -4,7 +4,8 @@ use Rattle.std.proofs.lemmas.List.{take_all}
 use Rattle.guild_hub.specs.Sights.{Seeing}
 use Rattle.world_law.specs.Inputs.{Input}
 use Rattle.worker_run.specs.Histories.{History, inputs}
-use Rattle.worker_run.specs.Hubs.{IsReader, guilds_of}
+use Rattle.worker_run.specs.Hubs.{IsReader}
+use Rattle.guild_places.specs.Places.{guilds_of}
 use Rattle.worker_run.specs.Turns.{IsTurn, IsTurnCut, AreWholeTurns, AreTurns}
 use Rattle.worker_run.specs.Moves.{Now, Goes, Stops, kept, AreLooks, AreFirstLooks, IsLookOf, IsLookOfOrNone, IsOneTick, OpensOne, IsHeard, AreHeard, IsOneTurn, IsOneTurnCut, AreAllTurns, AreAllTurnsCut}
 use Rattle.worker_run.specs.declared.fault.WorkFault.{WorkFault}
@@ -13,7 +14,7 @@ use Rattle.worker_run.proofs.Histories.{inputs_join}
 use Rattle.worker_run.proofs.Hubs.{same_guilds}
 use Rattle.worker_run.proofs.Shapes.{looks_more, looks_stop, cut_looks, cut_of, turn_ticked, turn_opened, turn_whole, no_turns, one_turn, turns_join, turns_cut}
 use Rattle.worker_run.proofs.Hearing.{CameBefore, came_none, came_more, came_from}
-use Rattle.worker_run.proofs.Guilds.{many}
+use Rattle.guild_places.proofs.Guilds.{many}
 use Rattle.worker_run.proofs.Turning.{goes_none, goes_on, stops_on, halts_after}
 
 -- a part that went by a history of this shape

@@ -1,15 +1,13 @@
 -- What comes over connections, in order of arrival of these.
-use Rattle.std.proofs.Common.{◌≡◌, ℕ, ◌+◌, ◌≤◌, ◌==◌, ◌||◌, List, [], ◌∷◌, ◌++◌, Bool, true, false, if◌then◌else◌, Option, Some, All, map, refl, sym, ap, ap₂, subst, ◌∙◌, append_assoc, append-nil, arith}
+use Rattle.std.proofs.Common.{◌≡◌, ℕ, ◌+◌, ◌≤◌, List, [], ◌∷◌, ◌++◌, true, false, Option, Some, map, refl, sym, ap, ap₂, subst, ◌∙◌, append_assoc, append-nil, arith}
 use Rattle.std.specs.List.{list_all}
-use Rattle.std.proofs.lemmas.Bool.{eqb-true, false≢true}
-use Rattle.std.proofs.lemmas.Bool.Decides.{Decides-eqb}
 use Rattle.std.proofs.lemmas.List.{map-append}
-use Rattle.std.proofs.lemmas.List.Elements.{All-head, All-tail}
 use Rattle.gate_outside.specs.Links.{ReturnedLink}
 use Rattle.gate_outside.specs.declared.sending.Sending.TheVariants as sending
-use Rattle.open_links.specs.Courses.{Event, Events, Comes, Course, Unopened, Open, Over, moved, moved_by, moved_all, course, is_open, is_over}
-use Rattle.open_links.specs.Links.{Held, Holding, MeetsHeld, Meets}
+use Rattle.open_links.specs.Courses.{Events, Comes}
+use Rattle.open_links.specs.Links.{Holding, Meets}
 use Rattle.open_links.specs.Calls.{GoesBy, MovesBy, is_done}
+use Rattle.open_links.proofs.Composing.{closed_is_over}
 use Rattle.world_law.specs.Inputs.{Input}
 use Rattle.worker_run.specs.Histories.{History, Took, inputs}
 use Rattle.worker_run.specs.Turns.{is_loss, comes_over, AscendFrom, CameFrom}
@@ -18,42 +16,12 @@ use Rattle.worker_run.proofs.Shapes.{kept_join, one_kept, only_losses}
 
 -- ---- a close ends its connection
 
-moved_join : (conn : ℕ) (c : Course) (es fs : Events) → moved_all conn c (es ++ fs) ≡ moved_all conn (moved_all conn c es) fs
-moved_join conn c [] fs = refl
-moved_join conn c (e ∷ es) fs = moved_join conn (moved_by conn c e) es fs
-
--- one event more of this connection
-course_more : (conn : ℕ) (es : Events) (event : Event) → course conn (es ++ (conn, event) ∷ []) ≡ moved (course conn es) event
-course_more conn es event =
-    moved_join conn Unopened es ((conn, event) ∷ [])
-    ∙ ap (λ b. if b then moved (course conn es) event else course conn es) ((Decides-eqb conn conn).1 refl)
-
--- a link that is done with stands there, and its connection was opened
-done_opened : (conn : ℕ) (es : Events) (ls : List Held) → All (λ (l : Held). MeetsHeld (course l.conn es) l) ls → is_done conn ls ≡ true → (is_open (course conn es) || is_over (course conn es)) ≡ true
-done_opened conn es [] all done = absurd (false≢true done)
-done_opened conn es (l ∷ ls) all done =
-    by_conn (l.conn == conn) refl (done_opened conn es ls (All-tail (λ (l : Held). MeetsHeld (course l.conn es) l) l ls all))
-  where
-    by_conn : (b : Bool) → (l.conn == conn) ≡ b → (is_done conn ls ≡ true → (is_open (course conn es) || is_over (course conn es)) ≡ true) → (is_open (course conn es) || is_over (course conn es)) ≡ true
-    by_conn true same later = subst (λ (n : ℕ). (is_open (course n es) || is_over (course n es)) ≡ true) (eqb-true l.conn conn same) (All-head (λ (l : Held). MeetsHeld (course l.conn es) l) l ls all).opened
-    by_conn false other later = later (sym (ap (λ b. if b then l.done else is_done conn ls) other) ∙ done)
-
-closed_over : (c : Course) (code : ℕ) → (is_open (moved c (Comes (sending.Close code))) || is_over (moved c (Comes (sending.Close code)))) ≡ true → is_over (moved c (Comes (sending.Close code))) ≡ true
-closed_over Unopened code opened = opened
-closed_over (Open cs gs) code opened = refl
-closed_over (Over cs gs end) code opened = refl
-
 -- a close that a link has given, and what follows it
 pub links_closed : (conn code : ℕ) (more : Events) (a b c : Holding) (p q : Option (List ReturnedLink))
     → MovesBy ((conn, Comes (sending.Close code)) ∷ []) a b → is_done conn b.links ≡ true → GoesOver conn more b p c q → GoesBy ((conn, Comes (sending.Close code)) ∷ more) a p c q
 links_closed conn code more a b c p q moves done goes es before meets =
-    let close : Event = Comes (sending.Close code) in
-    let now : Meets (es ++ (conn, close) ∷ []) b before p = moves es before p meets in
-    let last : course conn (es ++ (conn, close) ∷ []) ≡ moved (course conn es) close = course_more conn es close in
-    let opened : (is_open (moved (course conn es) close) || is_over (moved (course conn es) close)) ≡ true =
-    subst (λ (c : Course). (is_open c || is_over c) ≡ true) last (done_opened conn (es ++ (conn, close) ∷ []) b.links now.held done) in
-    subst (λ (l : Events). Meets l c before q) (append_assoc es ((conn, close) ∷ []) more)
-    (goes (es ++ (conn, close) ∷ []) before now (ap is_over last ∙ closed_over (course conn es) code opened))
+    subst (λ (l : Events). Meets l c before q) (append_assoc es ((conn, Comes (sending.Close code)) ∷ []) more)
+    (goes (es ++ (conn, Comes (sending.Close code)) ∷ []) before (moves es before p meets) (closed_is_over es a b before p conn code (moves, done) meets))
 
 -- ---- one input at most
 

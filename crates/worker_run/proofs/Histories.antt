@@ -1,7 +1,6 @@
 -- What stands in a history that goes on, and in one of outputs alone.
-use Rattle.std.proofs.Common.{◌≡◌, ℕ, List, [], ◌∷◌, ◌++◌, flat_map, refl, sym, ap, ◌∙◌, append_assoc, append-nil}
+use Rattle.std.proofs.Common.{◌≡◌, List, [], ◌∷◌, ◌++◌, refl, sym, ap, ◌∙◌, append_assoc, append-nil}
 use Rattle.std.proofs.lemmas.List.Concat.{flat_map-append}
-use Rattle.edit_apply.specs.declared.Edit.{Edit}
 use Rattle.world_law.specs.Model.{Worker}
 use Rattle.world_law.specs.Inputs.{Input, taken, outputs}
 use Rattle.world_law.specs.TheLaw.{all_taken}
@@ -9,8 +8,7 @@ use Rattle.world_law.proofs.Lists.{map_join}
 use Rattle.worker_core.specs.declared.io.Output.{Output as Written}
 use Rattle.worker_core.specs.InCode.{wire_text, wire_model}
 use Rattle.worker_core.specs.Outputs.{all_written}
-use Rattle.open_links.specs.Courses.{Events}
-use Rattle.worker_run.specs.Histories.{History, Took, Gave, given_out, transcript, input_of, inputs, event_given, event_of, events, tick_of, ticks, wish_of, wishes}
+use Rattle.worker_run.specs.Histories.{History, Took, Gave, given_out, transcript, input_of, inputs, event_of, events, tick_of, ticks, wish_of, wishes}
 
 -- ---- two histories
 
@@ -28,10 +26,6 @@ wishes_join h k = flat_map-append wish_of h k
 
 -- ---- outputs
 
--- what an output asks for
-abbrev pub wish_given : Written → List (ℕ × Edit)
-wish_given output = wish_of (Gave output)
-
 pub given_join : (xs ys : List Written) → given_out (xs ++ ys) ≡ given_out xs ++ given_out ys
 given_join xs ys = map_join Gave xs ys
 
@@ -39,24 +33,9 @@ pub inputs_given : (out : List Written) → inputs (given_out out) ≡ []
 inputs_given [] = refl
 inputs_given (x ∷ out) = inputs_given out
 
-pub ticks_given : (out : List Written) → ticks (given_out out) ≡ []
-ticks_given [] = refl
-ticks_given (x ∷ out) = ticks_given out
-
-pub events_given : (out : List Written) → events (given_out out) ≡ flat_map event_given out
-events_given [] = refl
-events_given (x ∷ out) = ap (λ (es : Events). event_given x ++ es) (events_given out)
-
-pub wishes_given : (out : List Written) → wishes (given_out out) ≡ flat_map wish_given out
-wishes_given [] = refl
-wishes_given (x ∷ out) = ap (λ (ws : List (ℕ × Edit)). wish_given x ++ ws) (wishes_given out)
-
--- outputs after a history bring no input and no moment
+-- outputs after a history bring no input
 pub inputs_before : (h : History) (out : List Written) → inputs (h ++ given_out out) ≡ inputs h
 inputs_before h out = inputs_join h (given_out out) ∙ (ap (λ is. inputs h ++ is) (inputs_given out) ∙ append-nil (inputs h))
-
-pub ticks_before : (h : History) (out : List Written) → ticks (h ++ given_out out) ≡ ticks h
-ticks_before h out = ticks_join h (given_out out) ∙ (ap (λ ts. ticks h ++ ts) (ticks_given out) ∙ append-nil (ticks h))
 
 -- ---- inputs, and then more
 

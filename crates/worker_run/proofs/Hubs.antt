@@ -1,5 +1,5 @@
 -- What readers of hubs have seen, input by input.
-use Rattle.std.proofs.Common.{◌≡◌, ℕ, ◌<◌, zero, suc, Bool, true, false, not-suc-le-zero, List, [], ◌∷◌, ◌++◌, if◌then◌else◌, Some, None, IfSome, length, get_or, set, slice_get, take, take-append-drop, append_assoc, append-nil, refl, sym, ap, ap₂, subst, ◌∙◌, arith}
+use Rattle.std.proofs.Common.{◌≡◌, ℕ, ◌<◌, zero, suc, Bool, true, false, not-suc-le-zero, List, [], ◌∷◌, ◌++◌, if◌then◌else◌, Some, None, IfSome, length, get_or, set, take, take-append-drop, append_assoc, append-nil, refl, sym, ap, ap₂, subst, ◌∙◌, arith}
 use Rattle.std.specs.Prelude.{◌==◌, All}
 use Rattle.std.proofs.lemmas.Bool.{eqb-true, eq-eqb, or_parts}
 use Rattle.std.proofs.lemmas.List.Elements.{All-cons, All-head, All-tail}
@@ -9,7 +9,8 @@ use Rattle.guild_hub.specs.Logs.{Published, GoesOn}
 use Rattle.guild_hub.specs.Sights.{Segment, Seeing, end_of, with_more}
 use Rattle.world_law.specs.Inputs.{Input, Look, Rebase, Open, Frame, Lost, Closed, Tick}
 use Rattle.worker_run.specs.Turns.{looked_at}
-use Rattle.worker_run.specs.Hubs.{kept_part, seen_by, seen_by_all, handled_by, handled_by_all, AreInOrder, passed, Reads, IsReader, AllRead, guilds_of, has_guild, AreDistinct, IsApart}
+use Rattle.worker_run.specs.Hubs.{kept_part, seen_by, seen_by_all, handled_by, handled_by_all, AreInOrder, passed, Reads, IsReader, AllRead, IsApart}
+use Rattle.guild_places.specs.Places.{guilds_of, has_guild, AreDistinct}
 
 -- ---- fronts of logs
 
@@ -212,12 +213,3 @@ all_read_by i xs n r b lt read about distinct readers reads =
 
 pub all_read_none_by : (xs : List (ℕ × Seeing)) (n : ℕ) (r b : ℕ × Seeing) → n < length xs → r ≡ get_or xs n r → All IsReader xs → Reads [] r b → AllRead [] xs (set xs n b)
 all_read_none_by xs n r b lt read readers reads = all_read_none_at xs n b r lt readers (subst (λ (x : ℕ × Seeing). Reads [] x b) read reads)
-
--- the guild of the reader at a place
-pub guild_at : (xs : List (ℕ × Seeing)) (n : ℕ) (r : ℕ × Seeing) → n < length xs → r ≡ get_or xs n r → slice_get (guilds_of xs) n ≡ Some r.0
-guild_at xs n r lt read = there xs n lt ∙ sym (ap (λ (x : ℕ × Seeing). Some x.0) read)
-  where
-    there : (ys : List (ℕ × Seeing)) (m : ℕ) → m < length ys → slice_get (guilds_of ys) m ≡ Some (get_or ys m r).0
-    there [] m short = absurd (not-suc-le-zero short)
-    there (a ∷ ys) zero short = refl
-    there (a ∷ ys) (suc m) short = there ys m (omega (arith, short))

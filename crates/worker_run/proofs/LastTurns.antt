@@ -16,7 +16,8 @@ use Rattle.worker_run.proofs.Composing.{Went, Stopped, none_taken}
 use Rattle.worker_run.proofs.Histories.{inputs_join}
 use Rattle.worker_run.proofs.Shapes.{one_kept, looks_more, looks_stop, cut_looks, cut_of, turn_ticked, no_turns, one_turn, turns_join, turns_cut}
 use Rattle.worker_run.proofs.Silence.{quiet_none, quietly_on, goes_quietly, stops_quietly}
-use Rattle.worker_run.proofs.Turning.{Comes, goes_none, goes_on, stops_on, comes_by, links_still}
+use Rattle.open_links.proofs.Composing.{goes_by_nothing}
+use Rattle.worker_run.proofs.Turning.{Comes, goes_none, goes_on, stops_on, comes_by}
 
 -- all but the worker and the readers stays
 pub same_on : (s t u : Serving) → t ≡ record s { worker = t.worker; readers = t.readers } → u ≡ record t { worker = u.worker; readers = u.readers } → u ≡ record s { worker = u.worker; readers = u.readers }
@@ -69,11 +70,11 @@ module _ (t u : Serving) (took : u ≡ record t { worker = u.worker }) (none : t
 
   pub quiet_tick_goes : (h : History) → TakesQuietly (Tick moment) h t.worker u.worker m n → Went (Quietly IsOneTick) unticked ticked_now
   quiet_tick_goes h takes =
-      goes_quietly (Tick moment) after t u back m n took none IsOneTick unticked comes (links_still t.links back) readers (λ k losses. (moment, one_kept (Tick moment) k refl losses)) h takes
+      goes_quietly (Tick moment) after t u back m n took none IsOneTick unticked comes (goes_by_nothing t.links back) readers (λ k losses. (moment, one_kept (Tick moment) k refl losses)) h takes
 
   pub quiet_tick_stops : (f : WorkFault) → TakesNot (Tick moment) t.worker m n f → Stopped (Quietly IsOneTick) f unticked ticked_now
   quiet_tick_stops f not =
-      stops_quietly (Tick moment) after t u back m n took none IsOneTick unticked comes (links_still t.links back) readers (λ k losses. (moment, one_kept (Tick moment) k refl losses)) refl f not
+      stops_quietly (Tick moment) after t u back m n took none IsOneTick unticked comes (goes_by_nothing t.links back) readers (λ k losses. (moment, one_kept (Tick moment) k refl losses)) refl f not
 
 -- ---- a turn
 

@@ -23,7 +23,8 @@ use Rattle.world_law.specs.TheLaw.{IsOf, AreOf, all_taken, WorkerHolds, EachWork
 use Rattle.world_law.proofs.Found.{contains_found, here_found}
 use Rattle.worker_core.specs.InCode.{wire_text, wire_model}
 use Rattle.worker_run.specs.Turns.{AreTurns}
-use Rattle.worker_run.specs.Hubs.{handled_by, AreInOrder, passed, AllRead, logs_of, IsUnread, guilds_of, has_guild, IsAmong, IsAbout}
+use Rattle.worker_run.specs.Hubs.{handled_by, AreInOrder, passed, AllRead, logs_of, IsUnread, IsAmong, IsAbout}
+use Rattle.guild_places.specs.Places.{guilds_of, has_guild}
 use Rattle.worker_run.proofs.Hubs.{front_on, same_then}
 use Rattle.worker_run.proofs.About.{about_all}
 

@@ -1,10 +1,7 @@
-pub mod Guilds
 pub mod Histories
 pub mod Moves
 pub mod Notes
 pub mod Quiet
-pub mod Sending
-pub mod Wishes
 pub mod Workers
 pub mod Turning
 pub mod Hearing
@@ -15,12 +12,12 @@ pub mod Seeing
 pub mod Silence
 pub mod Sealing
 pub mod LastTurns
-pub mod Letting
 pub mod Sighting
 pub mod Shapes
 pub mod Hubs
 pub mod Readers
 pub mod About
 pub mod Law
+pub mod GoingOut
 pub mod Whole
 pub mod Outcomes

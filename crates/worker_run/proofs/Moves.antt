@@ -19,10 +19,12 @@ use Rattle.worker_core.specs.declared.io.Output.TheVariants.{Wish}
 use Rattle.worker_core.specs.InCode.{KeptWorker}
 use Rattle.worker_run.specs.Histories.{History, Took, Gave, given_out, inputs, events, wishes}
 use Rattle.worker_run.specs.Workers.{FollowsAll, IsFront}
-use Rattle.worker_run.specs.Hubs.{IsReader, AreDistinct, guilds_of}
+use Rattle.worker_run.specs.Hubs.{IsReader}
+use Rattle.guild_places.specs.Places.{AreDistinct, guilds_of}
 use Rattle.worker_run.specs.Notes.{AreNoted, AreNotedButLast}
 use Rattle.worker_run.specs.Stopping.{TakesNot}
-use Rattle.worker_run.specs.Wishes.{AreSent, IsRefusedBySome}
+use Rattle.worker_run.specs.Faults.{IsRefused}
+use Rattle.guild_posts.specs.Posts.{AreSent}
 use Rattle.worker_run.specs.Turns.{is_loss}
 use Rattle.worker_run.specs.Moves.{Serving, Now, now, IsReady, Gives, GivesNot, GivesFront, LeavesOutside, Handles, HandlesNot, MayStop, EndsOutside, EndsBy, EndsNot, Loses, LosesNot}
 use Rattle.worker_run.specs.declared.fault.WorkFault.{WorkFault}
@@ -30,24 +32,23 @@ use Rattle.worker_run.specs.declared.fault.WorkFault.TheVariants as fault
 use Rattle.worker_run.proofs.Histories.{inputs_join, events_join, wishes_join, given_join, inputs_given}
 use Rattle.worker_run.proofs.Notes.{noted_none, noted_more, noted_whole, noted_but_last}
 use Rattle.worker_run.proofs.Workers.{follows_none, follows_more, front_more, spends_more, follows_given, front_given, front_took}
-use Rattle.worker_run.proofs.Wishes.{sent_none, sent_on, sent_passes}
+use Rattle.guild_posts.proofs.Sent.{sent_none, sent_on, sent_passes}
 
 -- ---- links
 
 -- by one history, and then by another
-pub goes_on : (h k : History) (a : Holding) (x : Option (List ReturnedLink)) (b : Holding) (y : Option (List ReturnedLink)) (c : Holding) (z : Option (List ReturnedLink))
+pub links_on : (h k : History) (a : Holding) (x : Option (List ReturnedLink)) (b : Holding) (y : Option (List ReturnedLink)) (c : Holding) (z : Option (List ReturnedLink))
     → GoesBy (events h) a x b y → GoesBy (events k) b y c z → GoesBy (events (h ++ k)) a x c z
-goes_on h k a x b y c z first later =
+links_on h k a x b y c z first later =
     subst (λ (l : Events). GoesBy l a x c z) (sym (events_join h k)) (goes_by_append (events h) (events k) a b c x y z first later)
 
 -- ---- outputs
 
 -- wishes of one history, and then of another
-pub sent_after : (h k : History) (rs qs : List (ℕ × Seeing)) (a b c : List Sender) → qs ≡ rs → AreSent (guilds_of rs) (wishes h) a b → AreSent (guilds_of qs) (wishes k) b c
-    → AreSent (guilds_of rs) (wishes (h ++ k)) a c
-sent_after h k rs qs a b c same first later =
-    subst (λ (ws : List (ℕ × Edit)). AreSent (guilds_of rs) ws a c) (sym (wishes_join h k))
-    (sent_on (guilds_of rs) (wishes h) (wishes k) a b c first (subst (λ (l : List (ℕ × Seeing)). AreSent (guilds_of l) (wishes k) b c) same later))
+pub sent_after : (h k : History) (gs hs : List ℕ) (a b c : List Sender) → hs ≡ gs → AreSent gs (wishes h) a b → AreSent hs (wishes k) b c → AreSent gs (wishes (h ++ k)) a c
+sent_after h k gs hs a b c same first later =
+    subst (λ (ws : List (ℕ × Edit)). AreSent gs ws a c) (sym (wishes_join h k))
+    (sent_on gs (wishes h) (wishes k) a b c first (subst (λ (l : List ℕ). AreSent l (wishes k) b c) same later))
 
 pub gives_none : (s : Serving) (back : Option (List ReturnedLink)) → Gives [] s s back back
 gives_none s back = record {
@@ -65,8 +66,8 @@ gives_more h k a b c x y z first later = record {
   readers = later.readers ∙ first.readers;
   ended = later.ended ∙ first.ended;
   count = later.count ∙ first.count;
-  links = goes_on h k a.links x b.links y c.links z first.links later.links;
-  passes = sent_after h k a.readers b.readers a.passes b.passes c.passes first.readers first.passes later.passes;
+  links = links_on h k a.links x b.links y c.links z first.links later.links;
+  passes = sent_after h k (guilds_of a.readers) (guilds_of b.readers) a.passes b.passes c.passes (ap guilds_of first.readers) first.passes later.passes;
 }
 
 -- the passes alone have moved
@@ -82,7 +83,7 @@ gives_wish guild edit keys a b back same index sent = record {
 }
 
 -- nothing has moved
-pub gives_not : (f : WorkFault) (a b : Serving) (back : Option (List ReturnedLink)) → b ≡ record a { passes = b.passes } → b.passes ≡ a.passes → IsRefusedBySome b.passes f → GivesNot f a b back back
+pub gives_not : (f : WorkFault) (a b : Serving) (back : Option (List ReturnedLink)) → b ≡ record a { passes = b.passes } → b.passes ≡ a.passes → IsRefused b.passes f → GivesNot f a b back back
 gives_not f a b back same passes why = record {
   gives = record {
     worker = ap (λ (s : Serving). s.worker) same;
@@ -113,17 +114,6 @@ gives_front outputs front rest f a b c x y z parts first later = record {
 }
 
 -- ---- what holds before and after
-
-pub same_door : (d : DoorTale) → IsSameDoor d d
-same_door d = record { given = refl; ended = refl; accepts = refl; waits = refl }
-
-pub same_doors : (a b c : DoorTale) → IsSameDoor a b → IsSameDoor b c → IsSameDoor a c
-same_doors a b c first later = record {
-  given = later.given ∙ first.given;
-  ended = later.ended ∙ first.ended;
-  accepts = later.accepts ∙ first.accepts;
-  waits = later.waits ∙ first.waits;
-}
 
 pub ready_after : (posts : List PostId) (h : History) (a b : Serving) (x y : Option (List ReturnedLink)) (d e : DoorTale) → Gives h a b x y → IsSameDoor d e → IsReady posts a d → IsReady posts b e
 ready_after posts h a b x y d e gives same ready = record {
@@ -162,7 +152,7 @@ ready_ended posts a b d e same count door ready =
 
 -- ---- an input
 
-refused_stops : (h : History) (k : KeptWorker) (passes : List Sender) (f : WorkFault) → IsRefusedBySome passes f → MayStop h k passes f
+refused_stops : (h : History) (k : KeptWorker) (passes : List Sender) (f : WorkFault) → IsRefused passes f → MayStop h k passes f
 refused_stops h k passes fault.Spent why = inr why
 refused_stops h k passes fault.Memory why = tt
 refused_stops h k passes fault.Door why = why
@@ -279,10 +269,10 @@ leaves_none a = record {
 
 leaves_more : (h k : History) (a b c : Now) → LeavesOutside h a b → LeavesOutside k b c → LeavesOutside (h ++ k) a c
 leaves_more h k a b c first later = record {
-  links = goes_on h k a.serving.links a.returned b.serving.links b.returned c.serving.links c.returned first.links later.links;
+  links = links_on h k a.serving.links a.returned b.serving.links b.returned c.serving.links c.returned first.links later.links;
   count = later.count ∙ first.count;
   readers = later.readers ∙ first.readers;
-  passes = sent_after h k a.serving.readers b.serving.readers a.serving.passes b.serving.passes c.serving.passes first.readers first.passes later.passes;
+  passes = sent_after h k (guilds_of a.serving.readers) (guilds_of b.serving.readers) a.serving.passes b.serving.passes c.serving.passes (ap guilds_of first.readers) first.passes later.passes;
   ended = later.ended ∙ first.ended;
   clock = later.clock ∙ first.clock;
   losses = ap (list_all is_loss) (inputs_join h k) ∙ all_losses (inputs h) (inputs k) first.losses later.losses;

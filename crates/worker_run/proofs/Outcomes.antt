@@ -1,28 +1,28 @@
 -- What a worker has done when its loop has ended.
-use Rattle.std.proofs.Common.{◌≡◌, ℕ, ◌+◌, ◌<◌, List, [], ◌∷◌, Bool, true, false, ◌==◌, ◌||◌, Option, Result, Ok, Err, OnOk, All, inl, map, length, refl, sym, subst, ◌∙◌, append-nil, not-suc-le-zero, arith}
-use Rattle.std.proofs.lemmas.Bool.{eqb-true, false≢true}
-use Rattle.std.proofs.lemmas.List.Elements.{All-nil, All-head, All-tail}
+use Rattle.std.proofs.Common.{◌≡◌, ℕ, ◌+◌, ◌<◌, List, [], true, false, Option, Result, Ok, Err, OnOk, All, inl, map, length, refl, sym, subst, ◌∙◌, append-nil, arith}
+use Rattle.std.proofs.lemmas.Bool.{false≢true}
 use Rattle.gate_outside.specs.Causes.{Rose}
 use Rattle.gate_outside.specs.Clocks.{ClockTale}
 use Rattle.gate_outside.specs.Doors.{DoorTale}
 use Rattle.gate_outside.specs.Links.{ReturnedLink}
-use Rattle.open_links.specs.Courses.{Events, course, is_over}
-use Rattle.open_links.specs.Links.{Held, Holding, MeetsHeld, no_links, is_among, has_conn, HaveComeBack, Meets, AllMeet}
+use Rattle.open_links.specs.Courses.{Events}
+use Rattle.open_links.specs.Links.{Holding, no_links, Meets, AllMeet}
 use Rattle.open_links.specs.Calls.{IsSameDoor}
-use Rattle.open_links.proofs.Meeting.{with_none}
+use Rattle.open_links.proofs.Composing.{meets_first, none_all_over, none_all_meet}
 use Rattle.guild_hub.specs.Sights.{Seeing}
 use Rattle.edit_post.specs.Post.{PostId, Sender, after_end}
 use Rattle.world_law.specs.Model.{Worker}
-use Rattle.world_law.specs.TheLaw.{all_taken, EachWorkerHolds}
+use Rattle.world_law.specs.TheLaw.{all_taken, TheLaw}
 use Rattle.worker_core.specs.declared.io.Input.{Input as Given}
 use Rattle.worker_core.specs.InCode.{wire_text, KeptWorker}
 use Rattle.worker_core.specs.Represents.{Represents}
 use Rattle.worker_run.specs.Histories.{History, inputs, events}
 use Rattle.worker_run.specs.Workers.{Follows, FollowsAll, IsFront}
-use Rattle.worker_run.specs.Hubs.{IsReader, AreDistinct, HasSeenAll, guilds_of}
+use Rattle.worker_run.specs.Hubs.{IsReader, HasSeenAll}
+use Rattle.guild_places.specs.Places.{AreDistinct, guilds_of}
 use Rattle.worker_run.specs.Notes.{AreNoted}
 use Rattle.worker_run.specs.Turns.{AreTurns}
-use Rattle.worker_run.specs.Wishes.{ArePasses}
+use Rattle.guild_posts.specs.Posts.{ArePasses}
 use Rattle.worker_run.specs.Moves.{Serving, Now, now, IsReady, CountsLinks, DoorFails}
 use Rattle.worker_run.specs.Running.{serving, Leaves, Runs, Reports}
 use Rattle.worker_run.specs.Works.{outside, IsWhole, OfEach, IsReport, Answers, Works}
@@ -30,32 +30,14 @@ use Rattle.worker_run.specs.declared.fault.WorkFault.{WorkFault}
 use Rattle.worker_run.specs.declared.fault.WorkFault.TheVariants as fault
 use Rattle.worker_run.specs.declared.report.WorkReport.{WorkReport}
 use Rattle.worker_run.proofs.Hubs.{all_read_none}
+use Rattle.worker_run.proofs.GoingOut.{goes_to_open}
 use Rattle.worker_run.proofs.Law.{law_is_met}
 use Rattle.worker_run.proofs.Notes.{noted_none}
 use Rattle.worker_run.proofs.Shapes.{no_turns, turns_of_whole}
-use Rattle.worker_run.proofs.Wishes.{sent_none}
+use Rattle.guild_posts.proofs.Sent.{sent_none}
 use Rattle.worker_run.proofs.Workers.{front_follows}
 
 -- ---- before the first turn
-
-none_back : (es : Events) (back : Option (List ReturnedLink)) → HaveComeBack es [] back back
-none_back es back = record { links = []; told = sym (with_none back); meet = tt }
-
--- no link is held, and nothing has happened
-pub none_meet : (back : Option (List ReturnedLink)) → Meets [] no_links back back
-none_meet back = record {
-  held = All-nil (λ (l : Held). MeetsHeld (course l.conn []) l);
-  ascend = tt;
-  conns = [];
-  back = none_back [] back;
-  over = All-nil (λ conn. is_over (course conn []) ≡ true);
-  each = λ conn lt. absurd (not-suc-le-zero lt);
-  once = refl;
-  later = λ conn le. refl;
-}
-
-pub none_all_meet : (back : Option (List ReturnedLink)) → AllMeet [] 0 back back
-none_all_meet back = record { conns = []; back = none_back [] back; each = λ conn lt. absurd (not-suc-le-zero lt); once = refl }
 
 pub ready_at_start : (posts : List PostId) (k : KeptWorker) (readers : List (ℕ × Seeing)) (passes : List Sender) (s : Serving) (door : DoorTale) → s ≡ serving k no_links readers passes false
     → 0 < length posts → ArePasses posts passes → All IsReader readers → AreDistinct (guilds_of readers) → IsReady posts s door
@@ -71,27 +53,9 @@ pub handed_back : (o p : Holding) (x y : Option (List ReturnedLink)) → o ≡ p
 handed_back o p x y same back es before =
     subst (λ (q : Holding). Meets es q before x → AllMeet es q.count before y) same (back es before)
 
--- where no link is open, each connection that was numbered has ended
-over_among : (es : Events) (conns : List ℕ) (conn : ℕ) → All (λ c. is_over (course c es) ≡ true) conns → is_among conn conns ≡ true → is_over (course conn es) ≡ true
-over_among es [] conn over among = absurd (false≢true among)
-over_among es (c ∷ conns) conn over among = by_id (c == conn) refl among (over_among es conns conn (All-tail (λ n. is_over (course n es) ≡ true) c conns over))
-  where
-    by_id : (b : Bool) → (c == conn) ≡ b → (b || is_among conn conns) ≡ true → (is_among conn conns ≡ true → is_over (course conn es) ≡ true) → is_over (course conn es) ≡ true
-    by_id true same here later = subst (λ n. is_over (course n es) ≡ true) (eqb-true c conn same) (All-head (λ n. is_over (course n es) ≡ true) c conns over)
-    by_id false other there later = later there
-
-or_false : (b : Bool) → (b || false) ≡ true → b ≡ true
-or_false true e = refl
-or_false false e = e
-
-pub all_over : (es : Events) (o : Holding) (before now : Option (List ReturnedLink)) → o.links ≡ [] → Meets es o before now → (conn : ℕ) → conn < o.count → is_over (course conn es) ≡ true
-all_over es o before now none meets conn lt =
-    over_among es meets.conns conn meets.over
-    (or_false (is_among conn meets.conns) (subst (λ (ls : List Held). (is_among conn meets.conns || has_conn conn ls) ≡ true) none (meets.each conn lt)))
-
 -- ---- memory ran out before the first turn
 
-pub works_not : EachWorkerHolds → (k : KeptWorker) (door : DoorTale) (faults : ℕ) (clock : ClockTale) (readers : List (ℕ × Seeing)) (passes ended : List Sender) (noted : Option (List Given))
+pub works_not : TheLaw → (k : KeptWorker) (door : DoorTale) (faults : ℕ) (clock : ClockTale) (readers : List (ℕ × Seeing)) (passes ended : List Sender) (noted : Option (List Given))
     → All IsReader readers → ended ≡ map after_end passes → Works k [] (outside door faults clock readers passes noted) (outside door faults clock readers ended noted) (Err fault.Memory)
 works_not law k door faults clock readers passes ended noted all is =
     let turns : AreTurns (guilds_of readers) [] = turns_of_whole (guilds_of readers) [] (no_turns (guilds_of readers)) in
@@ -101,18 +65,19 @@ works_not law k door faults clock readers passes ended noted all is =
       ticks = refl;
       count = 0;
       given = omega arith;
-      links = none_all_meet door.returned;
+      links = none_all_meet [] no_links door.returned door.returned refl (meets_first door.returned);
       sent = passes;
       wishes = sent_none (guilds_of readers) passes;
       passes = is;
       gives = λ w represents. ([], refl);
-      law = λ w represents bots guilds number url. law_is_met law [] readers readers turns (all_read_none readers all) w bots guilds number url;
+      to_open = λ w represents bots guilds number url first. tt;
+      law = λ w represents bots guilds number url. law_is_met law.workers [] readers readers turns (all_read_none readers all) w bots guilds number url;
       answers = inl (noted_none noted);
     }
 
 -- ---- after the last turn
 
-module _ (law : EachWorkerHolds) (k : KeptWorker) (readers : List (ℕ × Seeing)) (passes : List Sender) (s : Serving) (d0 d1 d2 : DoorTale) (n0 n1 n2 : ℕ) (c0 c1 : ClockTale) (m0 m1 : Option (List Given)) where
+module _ (law : TheLaw) (k : KeptWorker) (readers : List (ℕ × Seeing)) (passes : List Sender) (s : Serving) (d0 d1 d2 : DoorTale) (n0 n1 n2 : ℕ) (c0 c1 : ClockTale) (m0 m1 : Option (List Given)) where
   abbrev began : Now
   began = now (serving k no_links readers passes false) d0.returned m0 c0
 
@@ -140,7 +105,7 @@ module _ (law : EachWorkerHolds) (k : KeptWorker) (readers : List (ℕ × Seeing
 
   module _ (h : History) (worked : Result (Unit {0}) WorkFault) (runs : Runs h worked began ended) (same : IsSameDoor d1 d2) where
     links_meet : Meets (events h) s.links d0.returned d1.returned
-    links_meet = runs.links [] d0.returned (none_meet d0.returned)
+    links_meet = runs.links [] d0.returned (meets_first d0.returned)
 
     works_by : (result : Result WorkReport WorkFault) → CountsLinks (serving k no_links readers passes false) s d0 d1
         → ((es : Events) (before : Option (List ReturnedLink)) → Meets es s.links before d1.returned → AllMeet es s.links.count before d2.returned)
@@ -159,14 +124,15 @@ module _ (law : EachWorkerHolds) (k : KeptWorker) (readers : List (ℕ × Seeing
           wishes = runs.wishes;
           passes = runs.passes;
           gives = front_given h worked runs.leaves;
-          law = λ w represents bots guilds number url. law_is_met law (inputs h) readers s.readers runs.turns runs.readers w bots guilds number url;
+          to_open = λ w represents. goes_to_open law.outputs h w (front_given h worked runs.leaves w represents) links_meet.in_place;
+          law = λ w represents bots guilds number url. law_is_met law.workers (inputs h) readers s.readers runs.turns runs.readers w bots guilds number url;
           answers = answers;
         }
 
     answers_ok : (report : WorkReport) → FollowsAll k h [] s.worker → AreNoted (inputs h) m0 m1 → (d1.ended ≡ true) × (s.links.links ≡ []) × All HasSeenAll s.readers → Reports s.worker s.links.count report
         → Answers k h s.links.count (outside d0 n0 c0 readers passes m0) (outside d2 n2 c1 s.readers s.passes m1) (Ok report)
     answers_ok report follows noted over reports = (
-      record { logs = over.2; door = same.ended ∙ over.0; connections = all_over (events h) s.links d0.returned d1.returned over.1 links_meet },
+      record { logs = over.2; door = same.ended ∙ over.0; connections = none_all_over (events h) s.links d0.returned d1.returned over.1 links_meet },
       (whole_given h follows, (noted, reported h report follows reports)),
     )
 
@@ -179,7 +145,7 @@ module _ (law : EachWorkerHolds) (k : KeptWorker) (readers : List (ℕ × Seeing
 
 -- what `run` and `hand_back` leave, and what `work` makes of it
 pub record HasRun (k : KeptWorker) (readers back_readers : List (ℕ × Seeing)) (passes back_passes : List Sender) (start s : Serving) (d0 d1 d2 : DoorTale) (n0 n1 n2 : ℕ) (c0 c1 : ClockTale) (m0 m1 : Option (List Given)) (worked : Result (Unit {0}) WorkFault) : Type 0 where
-  pub law : EachWorkerHolds
+  pub law : TheLaw
   pub starts : start ≡ serving k no_links readers passes false
   pub counts : CountsLinks start s d0 d1
   pub cause : DoorFails n0 n1 worked

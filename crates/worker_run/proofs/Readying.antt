@@ -7,14 +7,15 @@ use Rattle.gate_outside.specs.Causes.{FaultHasCause, Rose}
 use Rattle.gate_outside.specs.Clocks.{ClockTale}
 use Rattle.gate_outside.specs.Doors.{DoorTale}
 use Rattle.open_links.specs.Links.{Holding}
-use Rattle.open_links.specs.Calls.{GoesBy, IsSameDoor}
+use Rattle.open_links.specs.Calls.{GoesBy}
 use Rattle.guild_hub.specs.Sights.{Seeing}
 use Rattle.edit_post.specs.Post.{PostId, Sender}
 use Rattle.world_law.specs.Inputs.{Input}
 use Rattle.worker_core.specs.InCode.{KeptWorker}
 use Rattle.worker_run.specs.Histories.{History, Took, inputs, event_taken}
-use Rattle.worker_run.specs.Hubs.{AllRead, IsReader, AreDistinct}
-use Rattle.worker_run.specs.Wishes.{ArePasses}
+use Rattle.worker_run.specs.Hubs.{AllRead, IsReader}
+use Rattle.guild_places.specs.Places.{AreDistinct}
+use Rattle.guild_posts.specs.Posts.{ArePasses}
 use Rattle.worker_run.specs.Turns.{is_loss}
 use Rattle.worker_run.specs.Faults.{by_door}
 use Rattle.worker_run.specs.Moves.{Serving, Now, IsReady, CountsLinks, DoorFails, MayStop, Goes, Stops, GoesOrStops, Handles, HandlesNot}
@@ -56,17 +57,6 @@ counts_same a b d e count given = omega (arith, count, given)
 
 pub counts_on : (a b c : Serving) (d e f : DoorTale) → CountsLinks a b d e → CountsLinks b c e f → CountsLinks a c d f
 counts_on a b c d e f first second = omega (arith, first, second)
-
-pub same_door : (d : DoorTale) → IsSameDoor d d
-same_door d = record { given = refl; ended = refl; accepts = refl; waits = refl }
-
-pub same_doors : (d e f : DoorTale) → IsSameDoor d e → IsSameDoor e f → IsSameDoor d f
-same_doors d e f first second = record {
-  given = second.given ∙ first.given;
-  ended = second.ended ∙ first.ended;
-  accepts = second.accepts ∙ first.accepts;
-  waits = second.waits ∙ first.waits;
-}
 
 -- ---- the count of a door's faults
 

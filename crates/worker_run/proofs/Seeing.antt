@@ -9,7 +9,8 @@ use Rattle.worker_run.specs.declared.looks.Seen.{Seen}
 use Rattle.worker_run.specs.declared.fault.WorkFault.{WorkFault}
 use Rattle.worker_run.specs.declared.fault.WorkFault.TheVariants as fault
 use Rattle.worker_run.specs.Histories.{History, Took, inputs}
-use Rattle.worker_run.specs.Hubs.{AllRead, IsReader, guilds_of}
+use Rattle.worker_run.specs.Hubs.{AllRead, IsReader}
+use Rattle.guild_places.specs.Places.{guilds_of}
 use Rattle.worker_run.specs.Turns.{is_loss}
 use Rattle.worker_run.specs.Moves.{Serving, Now, now, IsLookOf, IsLookOfOrNone, Handles, HandlesNot}
 use Rattle.worker_run.specs.Parts.{Sees}

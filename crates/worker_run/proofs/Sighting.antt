@@ -5,11 +5,12 @@ use Rattle.std.proofs.lemmas.List.Folds.{list_any_at}
 use Rattle.std.proofs.lemmas.Option.{slice_get-get_or}
 use Rattle.guild_hub.specs.Sights.{Seeing, has_quit}
 use Rattle.worker_run.specs.declared.looks.Seen.{Seen}
-use Rattle.worker_run.specs.Hubs.{IsReader, AreDistinct, HasSeenAll, guilds_of}
+use Rattle.worker_run.specs.Hubs.{IsReader, HasSeenAll}
+use Rattle.guild_places.specs.Places.{AreDistinct, guilds_of}
 use Rattle.worker_run.specs.Looking.{Looks}
 use Rattle.worker_run.specs.Parts.{Sees}
 use Rattle.worker_run.proofs.Hubs.{all_read_at}
-use Rattle.worker_run.proofs.Guilds.{guild_of_place, many}
+use Rattle.guild_places.proofs.Guilds.{guild_of_place, many}
 
 module _ (rs : List (ℕ × Seeing)) (place : ℕ) (d r : ℕ × Seeing) (lt : place < length rs) where
   within : place < length (set rs place r)

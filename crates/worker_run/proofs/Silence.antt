@@ -1,19 +1,17 @@
 -- What a worker takes after its last connection.
-use Rattle.std.proofs.Common.{◌≡◌, ℕ, List, [], ◌∷◌, ◌++◌, true, false, ◌||◌, Option, Some, All, inl, inr, slice_get, refl, sym, ap, subst, ◌∙◌, append-nil}
+use Rattle.std.proofs.Common.{◌≡◌, ℕ, List, [], ◌∷◌, ◌++◌, true, false, ◌&&◌, Option, Some, All, inl, inr, slice_get, refl, sym, ap, subst, ◌∙◌, append-nil}
 use Rattle.std.specs.List.{list_all, list_any}
-use Rattle.std.proofs.lemmas.Bool.{false≢true, or_parts}
-use Rattle.std.proofs.lemmas.List.Elements.{All-nil}
-use Rattle.std.proofs.lemmas.List.Folds.{list_any-append}
+use Rattle.std.proofs.lemmas.Bool.{and_parts, false≢true}
+use Rattle.std.proofs.lemmas.List.Folds.{list_all-append}
 use Rattle.edit_apply.specs.declared.Edit.{Edit}
 use Rattle.edit_post.specs.Post.{Sender}
 use Rattle.gate_outside.specs.Clocks.{ClockTale}
 use Rattle.gate_outside.specs.Links.{ReturnedLink}
 use Rattle.guild_hub.specs.Sights.{Seeing, has_quit}
-use Rattle.open_links.specs.Courses.{Event, Events, course, is_opening, opens_any}
-use Rattle.open_links.specs.Links.{Held, Holding, MeetsHeld}
+use Rattle.open_links.specs.Courses.{Event, Events, is_giving, only_gives}
+use Rattle.open_links.specs.Links.{Holding}
 use Rattle.open_links.specs.Calls.{GoesBy}
-use Rattle.open_links.specs.Steps.{AllFollow}
-use Rattle.open_links.proofs.Meeting.{meets_more}
+use Rattle.open_links.proofs.Composing.{goes_by_moves, none_moves}
 use Rattle.world_law.specs.Inputs.{Input, Look, Rebase, Open, Frame, Lost, Closed, Tick}
 use Rattle.worker_core.specs.declared.io.Input.{Input as Given}
 use Rattle.worker_core.specs.declared.io.Output.{Output as Written}
@@ -23,13 +21,14 @@ use Rattle.worker_run.specs.declared.looks.Seen.{Seen}
 use Rattle.worker_run.specs.declared.fault.WorkFault.{WorkFault}
 use Rattle.worker_run.specs.declared.fault.WorkFault.TheVariants as fault
 use Rattle.worker_run.specs.Histories.{History, Took, given_out, inputs, event_taken, events, wishes}
-use Rattle.worker_run.specs.Hubs.{AllRead, IsReader, guilds_of}
+use Rattle.worker_run.specs.Hubs.{AllRead, IsReader}
+use Rattle.guild_places.specs.Places.{guilds_of}
 use Rattle.worker_run.specs.Notes.{AreNoted}
 use Rattle.worker_run.specs.Parts.{Sees}
 use Rattle.worker_run.specs.Running.{IsSilent, IsQuiet, Quietly, TakesQuietly}
 use Rattle.worker_run.specs.Stopping.{TakesNot}
 use Rattle.worker_run.specs.Turns.{is_loss, looked_at}
-use Rattle.worker_run.specs.Wishes.{AreSent}
+use Rattle.guild_posts.specs.Posts.{AreSent}
 use Rattle.worker_run.specs.Workers.{FollowsAll}
 use Rattle.worker_run.specs.Moves.{Serving, Now, now, LeavesOutside, Handles, IsLookOf, IsLookOfOrNone}
 use Rattle.worker_run.proofs.Composing.{Went, Stopped}
@@ -39,22 +38,22 @@ use Rattle.worker_run.proofs.Moves.{handles_not_taken}
 use Rattle.worker_run.proofs.Quiet.{is_frame, but_wishes, but_wishes-quiet, follows_quiet}
 use Rattle.worker_run.proofs.Shapes.{one_look}
 use Rattle.worker_run.proofs.Turning.{Comes, halts_after, goes_still, still_seen, comes_seen, links_seen, handled, handled_not}
-use Rattle.worker_run.proofs.Wishes.{sent_none}
+use Rattle.guild_posts.proofs.Sent.{sent_none}
 use Rattle.worker_run.proofs.Workers.{follows_given}
 
 -- ---- quiet histories
 
-opens_join : (xs ys : Events) → opens_any (xs ++ ys) ≡ (opens_any xs || opens_any ys)
-opens_join xs ys = list_any-append (λ (e : ℕ × Event). is_opening e.1) xs ys
+gives_join : (xs ys : Events) → only_gives (xs ++ ys) ≡ (only_gives xs && only_gives ys)
+gives_join xs ys = list_all-append (λ (e : ℕ × Event). is_giving e.1) xs ys
 
 pub quiet_none : IsQuiet []
-quiet_none = record { opens = refl; wishes = refl }
+quiet_none = record { gives = refl; wishes = refl }
 
 pub quiet_on : (h k : History) → IsQuiet h → IsQuiet k → IsQuiet (h ++ k)
 quiet_on h k first second = record {
-  opens =
-      ap (λ (es : Events). opens_any es) (events_join h k)
-      ∙ (opens_join (events h) (events k) ∙ (ap (λ b. b || opens_any (events k)) first.opens ∙ second.opens));
+  gives =
+      ap (λ (es : Events). only_gives es) (events_join h k)
+      ∙ (gives_join (events h) (events k) ∙ (ap (λ b. b && only_gives (events k)) first.gives ∙ second.gives));
   wishes = wishes_join h k ∙ (ap (λ (ws : List (ℕ × Edit)). ws ++ wishes k) first.wishes ∙ second.wishes);
 }
 
@@ -73,17 +72,17 @@ silent_is_no_frame (Frame conn text) silent = absurd (false≢true silent)
 silent_is_no_frame (Lost conn) silent = absurd (false≢true silent)
 silent_is_no_frame (Closed conn code) silent = absurd (false≢true silent)
 
-silent_opens_none : (i : Input) (h : History) → IsSilent i → opens_any (events h) ≡ false → opens_any (events (Took i ∷ h)) ≡ false
-silent_opens_none (Look g es) h silent none = none
-silent_opens_none (Rebase g log) h silent none = none
-silent_opens_none (Tick now) h silent none = none
-silent_opens_none (Open conn) h silent none = absurd (false≢true silent)
-silent_opens_none (Frame conn text) h silent none = absurd (false≢true silent)
-silent_opens_none (Lost conn) h silent none = absurd (false≢true silent)
-silent_opens_none (Closed conn code) h silent none = absurd (false≢true silent)
+silent_gives : (i : Input) (h : History) → IsSilent i → only_gives (events h) ≡ true → only_gives (events (Took i ∷ h)) ≡ true
+silent_gives (Look g es) h silent gives = gives
+silent_gives (Rebase g log) h silent gives = gives
+silent_gives (Tick now) h silent gives = gives
+silent_gives (Open conn) h silent gives = absurd (false≢true silent)
+silent_gives (Frame conn text) h silent gives = absurd (false≢true silent)
+silent_gives (Lost conn) h silent gives = absurd (false≢true silent)
+silent_gives (Closed conn code) h silent gives = absurd (false≢true silent)
 
 quiet_one : (i : Input) → IsSilent i → IsQuiet (Took i ∷ [])
-quiet_one i silent = record { opens = silent_opens_none i [] silent refl; wishes = refl }
+quiet_one i silent = record { gives = silent_gives i [] silent refl; wishes = refl }
 
 pub look_is_silent : (i : Input) (g : ℕ) → looked_at i ≡ Some g → IsSilent i
 look_is_silent (Look h es) g about = refl
@@ -94,11 +93,11 @@ look_is_silent (Frame conn text) g about = cc
 look_is_silent (Lost conn) g about = cc
 look_is_silent (Closed conn code) g about = cc
 
-none_opens : (out : List Written) → opens_any (events (given_out out)) ≡ false
-none_opens [] = refl
-none_opens (Send conn text ∷ out) = none_opens out
-none_opens (Close conn code ∷ out) = none_opens out
-none_opens (Wish g e ∷ out) = none_opens out
+outputs_give : (out : List Written) → only_gives (events (given_out out)) ≡ true
+outputs_give [] = refl
+outputs_give (Send conn text ∷ out) = outputs_give out
+outputs_give (Close conn code ∷ out) = outputs_give out
+outputs_give (Wish g e ∷ out) = outputs_give out
 
 -- the worker takes it, and owes no wish for it
 module _ (i : Input) (out : List Written) (old new : KeptWorker) (silent : IsSilent i) (follows : FollowsAll old (Took i ∷ []) out new) where
@@ -107,7 +106,7 @@ module _ (i : Input) (out : List Written) (old new : KeptWorker) (silent : IsSil
     worker = follows_given old new (Took i ∷ []) (but_wishes out) []
         (subst (λ (o : List Written). FollowsAll old (Took i ∷ []) o new) (sym (append-nil (but_wishes out))) (follows_quiet old new i out (silent_is_no_frame i silent) follows));
     quiet = record {
-      opens = silent_opens_none i (given_out (but_wishes out)) silent (none_opens (but_wishes out));
+      gives = silent_gives i (given_out (but_wishes out)) silent (outputs_give (but_wishes out));
       wishes = but_wishes-quiet out;
     };
     outputs = inputs_given (but_wishes out);
@@ -115,13 +114,6 @@ module _ (i : Input) (out : List Written) (old new : KeptWorker) (silent : IsSil
   }
 
 -- ---- no link is open
-
-none_follow : (more : Events) → AllFollow more [] []
-none_follow more = record { conns = refl; meet = λ es all. All-nil (λ (l : Held). MeetsHeld (course l.conn (es ++ more)) l) }
-
-pub quiet_links : (more : Events) (s : Holding) (back : Option (List ReturnedLink)) → s.links ≡ [] → opens_any more ≡ false → GoesBy more s back s back
-quiet_links more s back none opens es before meets =
-    meets_more more s s opens refl (subst (λ (l : List Held). AllFollow more l l) (sym none) (none_follow more)) es before back meets
 
 -- so what the worker takes is handled
 module _ (i : Input) (clock : ClockTale) (t u : Serving) (back : Option (List ReturnedLink)) (m n : Option (List Given))
@@ -134,9 +126,10 @@ module _ (i : Input) (clock : ClockTale) (t u : Serving) (back : Option (List Re
 
   leaves_quietly : (h : History) → TakesQuietly i h t.worker u.worker m n → LeavesOutside h given taken
   leaves_quietly h takes =
-      let opens : opens_any (events h) ≡ false = (or_parts (opens_any (event_taken i)) (opens_any (events h)) (sym (opens_join (event_taken i) (events h)) ∙ takes.quiet.opens)).1 in
+      let gives : only_gives (events h) ≡ true = (and_parts (only_gives (event_taken i)) (only_gives (events h)) (sym (gives_join (event_taken i) (events h)) ∙ takes.quiet.gives)).1 in
       record {
-        links = subst (λ (o : Holding). GoesBy (events h) t.links back o back) (sym (ap (λ (s : Serving). s.links) same)) (quiet_links (events h) t.links back none opens);
+        links = subst (λ (o : Holding). GoesBy (events h) t.links back o back) (sym (ap (λ (s : Serving). s.links) same))
+            (goes_by_moves (events h) t.links t.links back (none_moves (events h) t.links none gives));
         count = ap (λ (s : Serving). s.links.count) same;
         readers = ap (λ (s : Serving). s.readers) same;
         passes = subst (λ (ws : List (ℕ × Edit)). AreSent (guilds_of t.readers) ws t.passes u.passes) (sym takes.quiet.wishes)

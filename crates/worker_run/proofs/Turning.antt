@@ -1,55 +1,49 @@
 -- Parts of turns, one after another, and an input that is handled.
-use Rattle.std.proofs.Common.{◌≡◌, ℕ, List, [], ◌∷◌, ◌++◌, true, Option, Some, None, inl, inr, All, refl, sym, ap, subst, ◌∙◌, append_assoc, append-nil}
+use Rattle.std.proofs.Common.{◌≡◌, ℕ, List, [], ◌∷◌, ◌++◌, true, Option, Some, None, inl, inr, All, refl, sym, ap, subst, ◌∙◌}
 use Rattle.std.specs.List.{list_all}
 use Rattle.std.proofs.lemmas.Bool.{and_parts, false≢true}
-use Rattle.edit_apply.specs.declared.Edit.{Edit}
 use Rattle.edit_post.specs.Post.{Sender}
 use Rattle.guild_hub.specs.Sights.{Seeing}
 use Rattle.gate_outside.specs.Links.{ReturnedLink}
 use Rattle.gate_outside.specs.Clocks.{ClockTale}
 use Rattle.open_links.specs.Courses.{Events}
-use Rattle.open_links.specs.Links.{Holding, Meets}
+use Rattle.open_links.specs.Links.{Holding}
 use Rattle.open_links.specs.Calls.{GoesBy}
+use Rattle.open_links.proofs.Composing.{goes_by_nothing, goes_by_append}
 use Rattle.world_law.specs.Inputs.{Input, Look, Rebase, Open, Frame, Lost, Closed, Tick}
 use Rattle.worker_core.specs.declared.io.Input.{Input as Given}
 use Rattle.worker_core.specs.InCode.{KeptWorker}
 use Rattle.worker_run.specs.Histories.{History, Took, Gave, inputs, events, event_taken, ticks, tick_of, wishes}
 use Rattle.worker_run.specs.Workers.{FollowsAll, IsFront}
-use Rattle.worker_run.specs.Hubs.{AllRead, IsReader, guilds_of}
+use Rattle.worker_run.specs.Hubs.{AllRead, IsReader}
+use Rattle.guild_places.specs.Places.{guilds_of}
 use Rattle.worker_run.specs.Notes.{AreNoted, AreNotedButLast}
-use Rattle.worker_run.specs.Wishes.{AreSent}
+use Rattle.guild_posts.specs.Posts.{AreSent}
 use Rattle.worker_run.specs.Turns.{is_loss, looked_at}
-use Rattle.worker_run.specs.Moves.{Ticked, Serving, Now, now, GoesOutside, Goes, Halts, Stops, IsSpent, MayStop, LeavesOutside, Handles, HandlesNot, EndsOutside, EndsBy, EndsNot, Loses, LosesNot}
+use Rattle.worker_run.specs.Works.{Ticked, IsSpent}
+use Rattle.worker_run.specs.Moves.{Serving, Now, now, GoesOutside, Goes, Halts, Stops, MayStop, LeavesOutside, Handles, HandlesNot, EndsOutside, EndsBy, EndsNot, Loses, LosesNot}
 use Rattle.worker_run.specs.declared.fault.WorkFault.{WorkFault}
 use Rattle.worker_run.specs.declared.fault.WorkFault.TheVariants as fault
-use Rattle.worker_run.proofs.Histories.{inputs_join, events_join, ticks_join, wishes_join}
+use Rattle.worker_run.proofs.Histories.{inputs_join, ticks_join}
+use Rattle.worker_run.proofs.Moves.{links_on, sent_after}
 use Rattle.worker_run.proofs.Workers.{follows_none, follows_more, front_more, front_follows, spends_more}
 use Rattle.worker_run.proofs.Notes.{noted_none, noted_more, noted_whole, noted_but_last}
 use Rattle.worker_run.proofs.Hubs.{all_read_none, all_read_join, all_read_without, same_guilds}
-use Rattle.worker_run.proofs.Wishes.{sent_none, sent_on}
+use Rattle.guild_posts.proofs.Sent.{sent_none}
 
 -- ---- one after another
-
-pub links_on : (xs ys : Events) (a b c : Holding) (p q r : Option (List ReturnedLink)) → GoesBy xs a p b q → GoesBy ys b q c r → GoesBy (xs ++ ys) a p c r
-links_on xs ys a b c p q r first second es before meets =
-    subst (λ (l : Events). Meets l c before r) (append_assoc es xs ys) (second (es ++ xs) before (first es before meets))
 
 ticked_on : (xs ys : List ℕ) (a b c : ClockTale) → Ticked a xs b → Ticked b ys c → Ticked a (xs ++ ys) c
 ticked_on [] ys a b c first second = subst (λ (t : ClockTale). Ticked t ys c) first second
 ticked_on (x ∷ xs) ys a b c first second = (first.0, (first.1.0, ticked_on xs ys first.0 b c first.1.1 second))
 
-sent_after : (gs : List ℕ) (hs : List ℕ) (vs ws : List (ℕ × Edit)) (a b c : List Sender) → hs ≡ gs → AreSent gs vs a b → AreSent hs ws b c → AreSent gs (vs ++ ws) a c
-sent_after gs hs vs ws a b c same first second = sent_on gs vs ws a b c first (subst (λ (l : List ℕ). AreSent l ws b c) same second)
-
 outside_on : (h k : History) (a b c : Now) → GoesOutside h a b → GoesOutside k b c → GoesOutside (h ++ k) a c
 outside_on h k a b c first second = record {
-  links = subst (λ (es : Events). GoesBy es a.serving.links a.returned c.serving.links c.returned) (sym (events_join h k))
-      (links_on (events h) (events k) a.serving.links b.serving.links c.serving.links a.returned b.returned c.returned first.links second.links);
+  links = links_on h k a.serving.links a.returned b.serving.links b.returned c.serving.links c.returned first.links second.links;
   readers = subst (λ (is : List Input). AllRead is a.serving.readers c.serving.readers) (sym (inputs_join h k))
       (all_read_join (inputs h) (inputs k) a.serving.readers b.serving.readers c.serving.readers first.readers second.readers);
-  passes = subst (λ (ws : List (ℕ × Edit)). AreSent (guilds_of a.serving.readers) ws a.serving.passes c.serving.passes) (sym (wishes_join h k))
-      (sent_after (guilds_of a.serving.readers) (guilds_of b.serving.readers) (wishes h) (wishes k) a.serving.passes b.serving.passes c.serving.passes
-      (same_guilds (inputs h) a.serving.readers b.serving.readers first.readers) first.passes second.passes);
+  passes = sent_after h k (guilds_of a.serving.readers) (guilds_of b.serving.readers) a.serving.passes b.serving.passes c.serving.passes
+      (same_guilds (inputs h) a.serving.readers b.serving.readers first.readers) first.passes second.passes;
   clock = subst (λ (ts : List ℕ). Ticked a.clock ts c.clock) (sym (ticks_join h k)) (ticked_on (ticks h) (ticks k) a.clock b.clock c.clock first.clock second.clock);
 }
 
@@ -101,16 +95,13 @@ goes_still a b still = record {
   notes = subst (λ (o : Option (List Given)). AreNoted [] a.noted o) (sym still.noted) (noted_none a.noted);
 }
 
-pub links_still : (o : Holding) (back : Option (List ReturnedLink)) → GoesBy [] o back o back
-links_still o back es before meets = subst (λ (l : Events). Meets l o before back) (sym (append-nil es)) meets
-
 pub goes_none : (a : Now) → All IsReader a.serving.readers → Goes [] a a
 goes_none a readers = goes_still a a (record {
   worker = refl;
   passes = refl;
   noted = refl;
   clock = refl;
-  links = links_still a.serving.links a.returned;
+  links = goes_by_nothing a.serving.links a.returned;
   readers = all_read_none a.serving.readers readers;
 })
 
@@ -197,7 +188,7 @@ look_is_no_event (Tick now) g about = refl
 -- a look at a hub, and an input by it
 module _ (s t : Serving) (same : t ≡ record s { readers = t.readers }) (back : Option (List ReturnedLink)) (noted : Option (List Given)) (clock : ClockTale) where
   same_links : GoesBy [] s.links back t.links back
-  same_links = subst (λ (o : Holding). GoesBy [] s.links back o back) (sym (ap (λ (v : Serving). v.links) same)) (links_still s.links back)
+  same_links = subst (λ (o : Holding). GoesBy [] s.links back o back) (sym (ap (λ (v : Serving). v.links) same)) (goes_by_nothing s.links back)
 
   pub still_seen : AllRead [] s.readers t.readers → IsStill (now s back noted clock) (now t back noted clock)
   still_seen read = record {
@@ -269,7 +260,7 @@ module _ (i : Input) (h : History) (a b c : Now) (comes : Comes i a b) (readers 
 
   links_after : GoesBy (event_taken i) a.serving.links a.returned b.serving.links b.returned → LeavesOutside h b c
       → GoesBy (events (Took i ∷ h)) a.serving.links a.returned c.serving.links c.returned
-  links_after links left = links_on (event_taken i) (events h) a.serving.links b.serving.links c.serving.links a.returned b.returned c.returned links left.links
+  links_after links left = goes_by_append (event_taken i) (events h) a.serving.links b.serving.links c.serving.links a.returned b.returned c.returned links left.links
 
   pub handled : GoesBy (event_taken i) a.serving.links a.returned b.serving.links b.returned → Handles i h b c → Goes (Took i ∷ h) a c
   handled links does = goes_after (outside_after (links_after links does.outside) (rests_of does.outside)) does.worker does.notes

@@ -9,11 +9,12 @@ use Rattle.world_law.specs.Inputs.{Input}
 use Rattle.worker_core.specs.declared.io.Input.{Input as Given}
 use Rattle.worker_core.specs.InCode.{KeptWorker}
 use Rattle.worker_run.specs.Histories.{History, inputs, wishes}
-use Rattle.worker_run.specs.Hubs.{guilds_of}
+use Rattle.guild_places.specs.Places.{guilds_of}
 use Rattle.worker_run.specs.Stopping.{TakesNot}
 use Rattle.worker_run.specs.Turns.{AreWholeTurns, AreTurns}
-use Rattle.worker_run.specs.Wishes.{AreSent, has_sent_all}
-use Rattle.worker_run.specs.Moves.{Serving, Now, now, GoesOutside, Goes, Halts, Stops, IsSpent, DoorFails, GoesOrStops, AreAllTurns, AreAllTurnsCut}
+use Rattle.guild_posts.specs.Posts.{AreSent, has_sent_all}
+use Rattle.worker_run.specs.Works.{IsSpent}
+use Rattle.worker_run.specs.Moves.{Serving, Now, now, GoesOutside, Goes, Halts, Stops, DoorFails, GoesOrStops, AreAllTurns, AreAllTurnsCut}
 use Rattle.worker_run.specs.Running.{Quietly, Leaves, Runs}
 use Rattle.worker_run.specs.declared.fault.WorkFault.{WorkFault}
 use Rattle.worker_run.specs.declared.fault.WorkFault.TheVariants as fault
@@ -22,7 +23,7 @@ use Rattle.worker_run.proofs.Histories.{inputs_join}
 use Rattle.worker_run.proofs.Readying.{Fails}
 use Rattle.worker_run.proofs.Shapes.{turns_join, turns_then, turns_of_whole}
 use Rattle.worker_run.proofs.Turning.{goes_on, stops_on}
-use Rattle.worker_run.proofs.Wishes.{sent_none}
+use Rattle.guild_posts.proofs.Sent.{sent_none}
 
 -- an input that is not taken has no fault of a door
 pub not_of_door : (i : Input) (k : KeptWorker) (a b : Option (List Given)) (f : WorkFault) (faults : ℕ) → TakesNot i k a b f → Fails faults faults f

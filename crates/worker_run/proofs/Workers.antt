@@ -12,7 +12,6 @@ use Rattle.worker_core.specs.Outputs.{all_written}
 use Rattle.worker_core.specs.Represents.{Represents, StepsTo}
 use Rattle.worker_run.specs.Histories.{History, Took, given_out, inputs, transcript}
 use Rattle.worker_run.specs.Workers.{any_spends, Follows, FollowsAll, IsFront}
-use Rattle.worker_run.specs.Stopping.{SpendsAll}
 use Rattle.worker_run.proofs.Histories.{inputs_join, inputs_before, given_join, taken_join, transcript_join}
 
 pub spends_join : (is js : List Input) (w : Worker) → any_spends w (is ++ js) ≡ (any_spends w is || any_spends (all_taken wire_text w is) js)
@@ -75,9 +74,6 @@ module _ (a b : KeptWorker) (h : History) (first : FollowsAll a h [] b) where
   spends_more k spent w is =
       let before : Follows a h [] b w = first w is in
       spends_later a b h k w before true (spent (after_all w h) before.represents)
-
-  pub spends_at : (i : Input) → SpendsAll b i → (w : Worker) → Represents a w → any_spends w (inputs (h ++ Took i ∷ [])) ≡ true
-  spends_at i spent w is = spends_more (Took i ∷ []) (λ v represents. ap (λ b. b || false) (spent v represents)) w is
 
 -- ---- outputs go out
 

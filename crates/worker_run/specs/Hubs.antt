@@ -1,12 +1,13 @@
 -- What readers of hubs have seen, and which inputs they make.
-use Rattle.std.specs.Prelude.{◌≡◌, ℕ, List, [], ◌∷◌, ◌++◌, Bool, true, false, ◌==◌, if◌then◌else◌, IfSome, length, take, drop, map}
-use Rattle.std.specs.List.{find, list_any, AllZip}
+use Rattle.std.specs.Prelude.{◌≡◌, ℕ, List, [], ◌∷◌, ◌++◌, true, false, ◌==◌, if◌then◌else◌, IfSome, length, take, drop}
+use Rattle.std.specs.List.{find, AllZip}
 use Rattle.std.specs.Option.{option_map_or}
 use mathlib.Core.List.{IsPrefix}
 use Rattle.edit_apply.specs.Edits.{state}
 use Rattle.edit_apply.specs.declared.Edit.{Edit}
 use Rattle.guild_hub.specs.Logs.{GoesOn, trimmed}
 use Rattle.guild_hub.specs.Sights.{Segment, Seeing, Fits, segment, end_of, unseen, with_more, has_quit}
+use Rattle.guild_places.specs.Places.{has_guild}
 use Rattle.world_law.specs.Inputs.{Input, Look, Rebase}
 use Rattle.worker_run.specs.Turns.{looked_at}
 
@@ -79,22 +80,9 @@ IsUnread r = r.1.last ≡ unseen r.1.log.hub
 
 -- ---- guilds
 
--- the guilds of these readers, in order
-abbrev pub guilds_of : List (ℕ × Seeing) → List ℕ
-guilds_of readers = map (λ r. r.0) readers
-
--- whether the list has the guild
-abbrev pub has_guild : ℕ → List ℕ → Bool
-has_guild g guilds = list_any (λ h. h == g) guilds
-
 -- the guild stands in the list
 abbrev pub IsAmong : List ℕ → ℕ → Type 0
 IsAmong guilds g = has_guild g guilds ≡ true
-
--- no guild stands there twice
-abbrev pub AreDistinct : List ℕ → Type 0
-AreDistinct [] = Unit {0}
-AreDistinct (g ∷ gs) = (has_guild g gs ≡ false) × AreDistinct gs
 
 -- where the input is about a log, it is about that of one of these guilds
 abbrev pub IsAbout : List ℕ → Input → Type 0

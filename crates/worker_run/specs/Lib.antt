@@ -8,6 +8,5 @@ pub mod Parts
 pub mod Running
 pub mod Stopping
 pub mod Turns
-pub mod Wishes
 pub mod Works
 pub mod Workers

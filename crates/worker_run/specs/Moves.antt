@@ -4,32 +4,29 @@ use Rattle.std.specs.Prelude.{◌≡◌, ◌⊎◌, ℕ, ◌+◌, ◌≤◌, ◌
 use Rattle.std.specs.List.{list_all, list_any}
 use Rattle.gate_outside.specs.Links.{ReturnedLink}
 use Rattle.gate_outside.specs.Causes.{Rose}
-use Rattle.gate_outside.specs.Clocks.{ClockTale, Ticks}
+use Rattle.gate_outside.specs.Clocks.{ClockTale}
 use Rattle.gate_outside.specs.Doors.{DoorTale}
 use Rattle.open_links.specs.Courses.{Events, course, is_over}
 use Rattle.open_links.specs.Links.{Holding, Meets}
 use Rattle.open_links.specs.Calls.{GoesBy}
 use Rattle.guild_hub.specs.Sights.{Seeing, has_quit}
 use Rattle.edit_post.specs.Post.{PostId, Sender}
-use Rattle.world_law.specs.Model.{Worker}
 use Rattle.world_law.specs.Inputs.{Input, Tick}
 use Rattle.worker_core.specs.declared.io.Input.{Input as Given}
 use Rattle.worker_core.specs.declared.io.Output.{Output as Written}
 use Rattle.worker_core.specs.InCode.{KeptWorker}
-use Rattle.worker_core.specs.Represents.{Represents}
 use Rattle.worker_run.specs.Histories.{History, Took, given_out, inputs, events, ticks, wishes}
-use Rattle.worker_run.specs.Workers.{FollowsAll, IsFront, any_spends}
-use Rattle.worker_run.specs.Hubs.{AllRead, IsReader, AreDistinct, guilds_of}
+use Rattle.worker_run.specs.Workers.{FollowsAll, IsFront}
+use Rattle.worker_run.specs.Hubs.{AllRead, IsReader}
+use Rattle.guild_places.specs.Places.{AreDistinct, guilds_of}
 use Rattle.worker_run.specs.Notes.{AreNoted, AreNotedButLast}
-use Rattle.worker_run.specs.Wishes.{AreSent, ArePasses, IsRefusedBySome}
+use Rattle.worker_run.specs.Faults.{IsRefused}
+use Rattle.guild_posts.specs.Posts.{AreSent, ArePasses}
+use Rattle.worker_run.specs.Faults.{SpentOnlyIf}
+use Rattle.worker_run.specs.Works.{Ticked, IsSpent}
 use Rattle.worker_run.specs.Turns.{is_loss, looked_at, comes_over, but_losses, IsAtMostOneOpen, CameFrom, IsTurn, IsTurnCut, AreTurns, AreWholeTurns}
 use Rattle.worker_run.specs.declared.fault.WorkFault.{WorkFault}
 use Rattle.worker_run.specs.declared.fault.WorkFault.TheVariants as fault
-
--- the moments that a clock answered, one after another
-abbrev pub Ticked : ClockTale → List ℕ → ClockTale → Type 0
-Ticked old [] new = new ≡ old
-Ticked old (moment ∷ moments) new = (mid : ClockTale) × (Ticks old mid moment × Ticked mid moments new)
 
 -- what a worker holds while it serves, and whether its door has ended
 pub record Serving : Type 0 where
@@ -77,7 +74,7 @@ pub record Gives (h : History) (old new : Serving) (old_back new_back : Option (
 -- one of them did not go out, and why
 pub record GivesNot (fault : WorkFault) (old new : Serving) (old_back new_back : Option (List ReturnedLink)) : Type 0 where
   pub gives : Gives [] old new old_back new_back
-  pub why : IsRefusedBySome new.passes fault
+  pub why : IsRefused new.passes fault
 
 -- a front of them went out
 pub record GivesFront (outputs : List Written) (fault : WorkFault) (old new : Serving) (old_back new_back : Option (List ReturnedLink)) : Type 0 where
@@ -85,7 +82,7 @@ pub record GivesFront (outputs : List Written) (fault : WorkFault) (old new : Se
   pub rest : List Written
   pub parts : outputs ≡ front ++ rest
   pub gives : Gives (given_out front) old new old_back new_back
-  pub why : IsRefusedBySome new.passes fault
+  pub why : IsRefused new.passes fault
 
 -- ---- an input of which the outside has told
 
@@ -105,16 +102,9 @@ pub record Handles (i : Input) (h : History) (old new : Now) : Type 0 where
   pub worker : FollowsAll old.serving.worker (Took i ∷ h) [] new.serving.worker
   pub notes : AreNoted (i ∷ inputs h) old.noted new.noted
 
--- why a count is spent: one of the worker's, or that of the requests of a pass
-abbrev pub IsSpent : History → KeptWorker → List Sender → Type 0
-IsSpent h worker passes = ((w : Worker) → Represents worker w → any_spends w (inputs h) ≡ true) ⊎ IsRefusedBySome passes fault.Spent
-
 -- the fault of an input
 abbrev pub MayStop : History → KeptWorker → List Sender → WorkFault → Type 0
-MayStop h worker passes fault.Spent = IsSpent h worker passes
-MayStop h worker passes fault.Memory = Unit {0}
-MayStop h worker passes fault.Door = ⊥
-MayStop h worker passes fault.Quit = ⊥
+MayStop h worker passes f = SpentOnlyIf (IsSpent h worker passes) f
 
 -- memory ran out or a count was spent while it was handled
 pub record HandlesNot (i : Input) (h : History) (fault : WorkFault) (old new : Now) : Type 0 where

@@ -9,7 +9,8 @@ use Rattle.guild_hub.specs.Sights.{Seeing, has_quit}
 use Rattle.world_law.specs.Inputs.{Input}
 use Rattle.worker_core.specs.Outputs.{IsGiven}
 use Rattle.worker_run.specs.declared.looks.Seen.{Seen}
-use Rattle.worker_run.specs.Hubs.{AllRead, HasSeenAll, guilds_of}
+use Rattle.worker_run.specs.Hubs.{AllRead, HasSeenAll}
+use Rattle.guild_places.specs.Places.{guilds_of}
 use Rattle.worker_run.specs.Turns.{looked_at}
 use Rattle.worker_run.specs.Moves.{Serving, CountsLinks}
 

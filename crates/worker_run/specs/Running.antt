@@ -2,7 +2,7 @@
 -- What a worker does from its first turn to its last.
 use Rattle.std.specs.Prelude.{◌≡◌, ℕ, ◌-◌, ◌^◌, min, List, [], ◌∷◌, Bool, true, false, Option, Result, Ok, Err, map}
 use Rattle.std.specs.List.{list_any}
-use Rattle.open_links.specs.Courses.{opens_any}
+use Rattle.open_links.specs.Courses.{only_gives}
 use Rattle.open_links.specs.Links.{Holding}
 use Rattle.open_links.specs.Calls.{GoesBy}
 use Rattle.guild_hub.specs.Sights.{Seeing, has_quit}
@@ -15,11 +15,13 @@ use Rattle.worker_core.specs.Represents.{Represents}
 use Rattle.worker_core.specs.Made.{all_dispatches}
 use Rattle.worker_run.specs.Histories.{History, Took, inputs, events, ticks, wishes}
 use Rattle.worker_run.specs.Workers.{FollowsAll, IsFront}
-use Rattle.worker_run.specs.Hubs.{AllRead, guilds_of}
+use Rattle.worker_run.specs.Hubs.{AllRead}
+use Rattle.guild_places.specs.Places.{guilds_of}
 use Rattle.worker_run.specs.Notes.{AreNoted, AreNotedButLast}
-use Rattle.worker_run.specs.Wishes.{AreSent}
+use Rattle.guild_posts.specs.Posts.{AreSent}
 use Rattle.worker_run.specs.Turns.{AreTurns}
-use Rattle.worker_run.specs.Moves.{Serving, Now, Ticked, IsSpent}
+use Rattle.worker_run.specs.Works.{Ticked, IsSpent}
+use Rattle.worker_run.specs.Moves.{Serving, Now}
 use Rattle.worker_run.specs.declared.fault.WorkFault.{WorkFault}
 use Rattle.worker_run.specs.declared.fault.WorkFault.TheVariants as fault
 use Rattle.worker_run.specs.declared.report.WorkReport.{WorkReport}
@@ -36,9 +38,9 @@ is_silent _ = false
 abbrev pub IsSilent : Input → Type 0
 IsSilent i = is_silent i ≡ true
 
--- no connection opens, and no client asks for an edit
+-- nothing happens to connections but what is given out for them, and no client asks for an edit
 pub record IsQuiet (h : History) : Type 0 where
-  pub opens : opens_any (events h) ≡ false
+  pub gives : only_gives (events h) ≡ true
   pub wishes : wishes h ≡ []
 
 -- a history of a shape in which this is so

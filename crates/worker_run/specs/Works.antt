@@ -1,11 +1,11 @@
 -- What a worker does in its loop.
-use Rattle.std.specs.Prelude.{◌≡◌, ℕ, ◌+◌, ◌-◌, ◌^◌, ◌<◌, List, true, Option, Result, Ok, Err, All, map, min, false}
+use Rattle.std.specs.Prelude.{◌≡◌, ◌⊎◌, ℕ, ◌+◌, ◌-◌, ◌^◌, ◌<◌, List, [], ◌∷◌, Bool, true, Option, Result, Ok, Err, All, map, min, false}
 use Rattle.std.specs.List.{list_any}
 use mathlib.Core.List.{IsPrefix}
 use Rattle.gate_outside.specs.Causes.{Rose}
-use Rattle.gate_outside.specs.Clocks.{ClockTale}
+use Rattle.gate_outside.specs.Clocks.{ClockTale, Ticks}
 use Rattle.gate_outside.specs.Doors.{DoorTale}
-use Rattle.open_links.specs.Courses.{course, is_over}
+use Rattle.open_links.specs.Courses.{Event, Opens, Comes, Loses, Gives, Course, course, is_open, is_over, EachPasses}
 use Rattle.open_links.specs.Links.{AllMeet}
 use Rattle.guild_hub.specs.Sights.{Seeing, has_quit}
 use Rattle.edit_post.specs.Post.{Sender, after_end}
@@ -18,14 +18,23 @@ use Rattle.worker_core.specs.Represents.{Represents}
 use Rattle.worker_core.specs.Made.{all_dispatches}
 use Rattle.worker_run.specs.Histories.{History, inputs, events, ticks, wishes, transcript}
 use Rattle.worker_run.specs.Workers.{any_spends}
-use Rattle.worker_run.specs.Hubs.{AllRead, IsUnread, IsAmong, HasSeenAll, guilds_of, logs_of}
+use Rattle.worker_run.specs.Hubs.{AllRead, IsUnread, IsAmong, HasSeenAll, logs_of}
+use Rattle.guild_places.specs.Places.{guilds_of}
 use Rattle.worker_run.specs.Notes.{AreNoted, AreNotedButLast}
-use Rattle.worker_run.specs.Wishes.{AreSent}
+use Rattle.guild_posts.specs.Posts.{AreSent, has_sent_all}
 use Rattle.worker_run.specs.Turns.{AreTurns}
-use Rattle.worker_run.specs.Moves.{Ticked, IsSpent}
 use Rattle.worker_run.specs.declared.fault.WorkFault.{WorkFault}
 use Rattle.worker_run.specs.declared.fault.WorkFault.TheVariants as fault
 use Rattle.worker_run.specs.declared.report.WorkReport.{WorkReport}
+
+-- the moments that a clock answered, one after another
+abbrev pub Ticked : ClockTale → List ℕ → ClockTale → Type 0
+Ticked old [] new = new ≡ old
+Ticked old (moment ∷ moments) new = (mid : ClockTale) × (Ticks old mid moment × Ticked mid moments new)
+
+-- why a count is spent: one of the worker's, or that of the requests of a pass
+abbrev pub IsSpent : History → KeptWorker → List Sender → Type 0
+IsSpent h worker passes = ((w : Worker) → Represents worker w → any_spends w (inputs h) ≡ true) ⊎ (list_any has_sent_all passes ≡ true)
 
 -- what is outside the worker, as it tells
 pub record Outside : Type 0 where
@@ -53,6 +62,17 @@ OfEach k P = (w : Worker) → Represents k w → P w
 abbrev pub MeetsLaw : History → List (ℕ × Seeing) → List (ℕ × Seeing) → Worker → Type 0
 MeetsLaw h old new w = (bots : List Bot) (guilds : List ℕ) (number : ℕ) (url : List ℕ) → w ≡ first_worker bots guilds number url
     → All IsUnread old → All (IsAmong guilds) (guilds_of old) → WorkerHolds (logs_of new) (all_taken wire_text w (inputs h))
+
+-- whether an event that goes out is for an open connection
+abbrev pub is_for_open : Course → Event → Bool
+is_for_open c Opens = true
+is_for_open c (Comes x) = true
+is_for_open c Loses = true
+is_for_open c (Gives x) = is_open c
+
+-- nothing went out for a connection that had not opened or had ended, if the worker was new
+abbrev pub GoesToOpen : History → Worker → Type 0
+GoesToOpen h w = (bots : List Bot) (guilds : List ℕ) (number : ℕ) (url : List ℕ) → w ≡ first_worker bots guilds number url → EachPasses is_for_open [] (events h)
 
 -- all logs were seen to their seals, the door has ended, and so has each connection
 pub record HasEnded (h : History) (count : ℕ) (new : Outside) : Type 0 where
@@ -86,5 +106,6 @@ pub record Works (k : KeptWorker) (h : History) (old new : Outside) (result : Re
   pub wishes : AreSent (guilds_of old.readers) (wishes h) old.passes sent
   pub passes : new.passes ≡ map after_end sent
   pub gives : OfEach k (λ w. IsPrefix h (transcript w (inputs h)))
+  pub to_open : OfEach k (GoesToOpen h)
   pub law : OfEach k (MeetsLaw h old.readers new.readers)
   pub answers : Answers k h count old new result

@@ -3,7 +3,8 @@
 ghost use Rattle.std.specs.Prelude.{◌≡◌, ◌<◌, ℕ, Option, List, [], true, MatchResult, All, IfOk, OnOk, IfSome, length, slice_get};
 ghost use Rattle.gate_outside.specs.Clocks.{ClockTale};
 ghost use Rattle.gate_outside.specs.Links.{ReturnedLink};
-ghost use Rattle.worker_run.specs.Hubs.{IsReader, AreDistinct, HasSeenAll, guilds_of};
+ghost use Rattle.worker_run.specs.Hubs.{IsReader, HasSeenAll};
+ghost use Rattle.guild_places.specs.Places.{AreDistinct, guilds_of};
 ghost use Rattle.worker_run.specs.Moves.{GoesOrStops, DoorFails, AreLooks, AreFirstLooks, IsLookOf, IsLookOfOrNone, IsOneTurn, IsOneTurnCut, AreAllTurns, AreAllTurnsCut, now};
 ghost use Rattle.world_law.specs.Inputs.{Input as ModelInput};
 ghost use Rattle.worker_core.specs.Outputs.{IsGiven};

@@ -5,13 +5,11 @@ mod draining;
 mod fault;
 mod intake;
 mod looks;
-mod places;
 mod report;
 mod running;
 mod serving;
 mod steps;
 mod turn;
-mod wishing;
 mod working;
 
 pub use fault::WorkFault;

@@ -6,22 +6,23 @@ ghost use Rattle.open_links.specs.Calls.{IsSameDoor};
 ghost use Rattle.open_links.specs.Courses.{Events};
 ghost use Rattle.open_links.specs.Links.{no_links, Meets, AllMeet};
 ghost use Rattle.worker_run.specs.Histories.{History};
-ghost use Rattle.worker_run.specs.Hubs.{HasSeenAll, guilds_of};
+ghost use Rattle.worker_run.specs.Hubs.{HasSeenAll};
+ghost use Rattle.guild_places.specs.Places.{guilds_of};
 ghost use Rattle.worker_run.specs.Moves.{IsReady, CountsLinks, DoorFails, now};
 ghost use Rattle.worker_run.specs.Running.{Runs, Reports, serving};
-ghost use Rattle.worker_run.specs.Wishes.{ArePasses};
+ghost use Rattle.guild_posts.specs.Posts.{ArePasses};
 ghost use Rattle.edit_post.specs.Post.{after_end};
 
 use crate::fault::WorkFault;
 use crate::report::WorkReport;
 use crate::serving::Serving;
-use crate::wishing::end_each;
 use edit_post::{Post, SendPass};
 use gate_outside::clocks::Clock;
 use gate_outside::doors::Door;
 use gate_outside::links::Link;
 use gate_outside::notes::Notes;
 use guild_hub::HubReader;
+use guild_posts::end_all;
 use indexmap::IndexSet;
 use open_links::OpenLinks;
 use snowflake_id::Snowflake;
@@ -59,7 +60,7 @@ impl<L: Link + Drop> Serving<L> {
         requires { ArePasses posts.now self.old.passes }
         ensures { self.new ≡ record self.old { passes = map after_end self.old.passes } }
     {
-        end_each(posts, &mut self.passes);
+        end_all(posts, &mut self.passes);
     }
 
     /// Serves until the door has ended and no link is open, ends the passes, and goes on looking until

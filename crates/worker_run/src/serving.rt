@@ -11,18 +11,18 @@ ghost use Rattle.worker_run.specs.Histories.{History, Took, Gave, given_out};
 ghost use Rattle.worker_run.specs.Workers.{FollowsAll};
 ghost use Rattle.worker_run.specs.Notes.{AreNoted};
 ghost use Rattle.worker_run.specs.Stopping.{TakesNot};
-ghost use Rattle.worker_run.specs.Wishes.{ArePasses};
+ghost use Rattle.guild_posts.specs.Posts.{ArePasses};
 ghost use Rattle.worker_run.specs.Moves.{IsReady, Gives, GivesNot, GivesFront, Handles, HandlesNot, EndsBy, EndsNot, Loses, LosesNot, now};
 
 use crate::fault::WorkFault;
 use crate::intake::take_in;
-use crate::wishing::send_wish;
 use edit_apply::Edit;
 use edit_post::{Post, SendPass};
 use gate_outside::doors::Door;
 use gate_outside::links::Link;
 use gate_outside::notes::Notes;
 use guild_hub::HubReader;
+use guild_posts::send;
 use indexmap::IndexSet;
 use itoa::Buffer;
 use open_links::OpenLinks;
@@ -51,7 +51,7 @@ pub struct Serving<L: Link + Drop> {
 
 impl<L: Link + Drop> Model for Serving<L> {
     ghost use Rattle.std.specs.Prelude.{◌≡◌};
-    ghost use Rattle.worker_run.specs.Hubs.{guilds_of};
+    ghost use Rattle.guild_places.specs.Places.{guilds_of};
     ghost use Rattle.worker_run.specs.Moves.{Serving};
 
     ghost Value = { Serving };
@@ -122,7 +122,8 @@ impl<L: Link + Drop> Serving<L> {
             (λ _. Gives (Gave (Wish guild edit) ∷ []) self.old self.new back back)
             (λ fault. GivesNot fault self.old self.new back back) }
     {
-        send_wish(posts, &mut self.passes, &self.index, guild, edit)
+        send(posts, &mut self.passes, &self.index, guild, edit)?;
+        Ok(())
     }
 
     // An output goes out.
@@ -143,7 +144,7 @@ impl<L: Link + Drop> Serving<L> {
         match output {
             Output::Send(conn, payload) => self.send(conn, &payload),
             Output::Close(conn, code) => self.close(door, conn, code),
-            Output::Wish(guild, edit) => self.wish(posts, guild, edit),
+            Output::Wish(guild, wished) => self.wish(posts, guild, wished.into_edit()),
         }
     }
 
@@ -253,8 +254,8 @@ impl<L: Link + Drop> Serving<L> {
         Ok(())
     }
 
-    /// The worker takes an input, and its outputs go out. Then each connection whose link has failed is
-    /// lost.
+    /// The worker takes an input, and its outputs go out. If there are any, each connection whose link has
+    /// failed is lost then; else the open links are not gone over.
     pub fn handle<D: Door<Wire = L>, J: Notes<Input>, R: Wait + Drop>(
         &mut self,
         door: &mut D,
@@ -271,7 +272,11 @@ impl<L: Link + Drop> Serving<L> {
             (λ fault. (h : History) × HandlesNot i h fault (now self.old (D.tale door.old).returned (J.noted notes.old) c) (now self.new (D.tale door.new).returned (J.noted notes.new) c)) }
     {
         let outputs = self.take(notes, input)?;
+        let silent = outputs.is_empty();
         self.give_all(door, posts, outputs)?;
+        if silent {
+            return Ok(());
+        }
         self.lose_failed(door, notes, posts)
     }
 }

@@ -3,7 +3,8 @@
 ghost use Rattle.std.specs.Prelude.{◌≡◌, ◌↔◌, ◌<◌, ◌≤◌, [], None, true, All, IfOk, OnErr, IsTrue, length};
 ghost use Rattle.gate_outside.specs.Causes.{FaultHasCause};
 ghost use Rattle.open_links.specs.Calls.{HearsFrom, MovesBy};
-ghost use Rattle.worker_run.specs.Hubs.{IsReader, AreDistinct, AllRead, guilds_of};
+ghost use Rattle.worker_run.specs.Hubs.{IsReader, AllRead};
+ghost use Rattle.guild_places.specs.Places.{AreDistinct, guilds_of};
 ghost use Rattle.worker_run.specs.Parts.{Sees, LetsIn};
 
 use crate::looks::{Seen, look_at};

@@ -4,7 +4,7 @@ ghost use Rattle.std.specs.Prelude.{◌≡◌, ◌<◌, [], true, OnOk, length, 
 ghost use Rattle.gate_outside.specs.Clocks.{ClockTale};
 ghost use Rattle.open_links.specs.Links.{Holding};
 ghost use Rattle.open_links.specs.Calls.{IsSameDoor, Says};
-ghost use Rattle.worker_run.specs.Hubs.{guilds_of};
+ghost use Rattle.guild_places.specs.Places.{guilds_of};
 ghost use Rattle.worker_run.specs.Moves.{IsReady, CountsLinks, DoorFails, GoesOrStops, AreLooks, AreFirstLooks, IsLookOf, IsLookOfOrNone, OpensOne, IsHeard, AreHeard, IsOneTick, IsOneTurn, IsOneTurnCut, AreAllTurns, AreAllTurnsCut, now};
 
 use crate::fault::WorkFault;

@@ -3,20 +3,21 @@
 ghost use Rattle.std.specs.Prelude.{◌≡◌, ◌<◌, All, length};
 ghost use Rattle.world_law.specs.TheLaw.{TheLaw};
 ghost use Rattle.worker_run.specs.Histories.{History};
-ghost use Rattle.worker_run.specs.Hubs.{IsReader, AreDistinct, guilds_of};
-ghost use Rattle.worker_run.specs.Wishes.{ArePasses};
+ghost use Rattle.worker_run.specs.Hubs.{IsReader};
+ghost use Rattle.guild_places.specs.Places.{AreDistinct, guilds_of};
+ghost use Rattle.guild_posts.specs.Posts.{ArePasses};
 ghost use Rattle.worker_run.specs.Works.{Works, outside};
 
 use crate::fault::WorkFault;
-use crate::places::index_of;
 use crate::report::WorkReport;
 use crate::serving::Serving;
-use crate::wishing::end_each;
 use edit_post::{Post, SendPass};
 use gate_outside::clocks::Clock;
 use gate_outside::doors::Door;
 use gate_outside::notes::Notes;
 use guild_hub::HubReader;
+use guild_places::index_of;
+use guild_posts::end_all;
 use snowflake_id::Snowflake;
 use std::alloc::Global;
 use std::sync::Wait;
@@ -58,7 +59,7 @@ where
 {
     the_law();
     let Ok(index) = index_of(alloc, readers.as_slice()) else {
-        end_each(posts, passes);
+        end_all(posts, passes);
         return Err(WorkFault::Memory);
     };
     let mut serving = Serving::new(alloc, worker, index, readers, passes);

@@ -7,8 +7,8 @@ use Rattle.worker_run.proofs.working.work.Goals as goal
 pub returns-in_default-clause-works : goal.returns-in_default-clause-works
 returns-in_default-clause-works g c = (
   [],
-  works_not c.the_law.ensures.law.workers c.args.worker (g.D.Door.tale c.args.door.now) (g.D.Door.faults c.args.door.now) (g.C.Clock.tale c.args.clock.now) c.args.readers.now.items
-      c.args.passes.now.items c.end_each.new.passes.items (g.J.Notes.noted c.args.notes.now) c.requires.readers.0 c.end_each.ensures,
+  works_not c.the_law.ensures.law c.args.worker (g.D.Door.tale c.args.door.now) (g.D.Door.faults c.args.door.now) (g.C.Clock.tale c.args.clock.now) c.args.readers.now.items
+      c.args.passes.now.items c.end_all.new.passes.items (g.J.Notes.noted c.args.notes.now) c.requires.readers.0 c.end_all.ensures,
 )
 
 pub run-worked-requires : goal.run-worked-requires
@@ -27,7 +27,7 @@ returns-in_err-worked-clause-works g c =
     (g.C.Clock.tale c.args.clock.now) (g.C.Clock.tale c.run-worked.new.clock) (g.J.Notes.noted c.args.notes.now) (g.J.Notes.noted c.run-worked.new.notes)
     c.run-worked.result r f c.in_err-worked.was (passed_on r e.0 f e.1 e.2)
     (record {
-      law = c.the_law.ensures.law.workers;
+      law = c.the_law.ensures.law;
       starts = c.new-serving.ensures;
       counts = c.run-worked.ensures.count;
       cause = c.run-worked.ensures.cause;
@@ -47,7 +47,7 @@ returns-clause-works g c =
     (g.C.Clock.tale c.args.clock.now) (g.C.Clock.tale c.run-worked.new.clock) (g.J.Notes.noted c.args.notes.now) (g.J.Notes.noted c.run-worked.new.notes)
     c.run-worked.result c.in_ok-worked.field-0 c.report-report.result c.in_ok-worked.was
     (record {
-      law = c.the_law.ensures.law.workers;
+      law = c.the_law.ensures.law;
       starts = c.new-serving.ensures;
       counts = c.run-worked.ensures.count;
       cause = c.run-worked.ensures.cause;

@@ -14,7 +14,7 @@ returns-in_default-clause-ok g c =
     let none : has_conn c.args.conn c.self.inside.links.items ≡ false = subst (λ xs. has_conn c.args.conn xs ≡ false) c.as_slice.ensures.value c.in_default.ensures in
     λ es before m.
     stays ((c.args.conn, Gives (sending.Close c.args.code)) ∷ []) c.args.self.now c.self.inside.links.items c.self.inside.count c.self.view_is refl
-    (none_follows c.self.inside.links.items c.args.conn (Gives (sending.Close c.args.code) ∷ []) none) es before _ m
+    (none_follows c.self.inside.links.items c.args.conn (sending.Close c.args.code) none) es before _ m
 
 pub invariant_of-self : goal.invariant_of-self
 invariant_of-self g c = numbered_kept c.self.inside.links.items c.close_at.new.links.items c.self.inside.count c.in_err-close_at.ensures.err.conns c.self.invariant

@@ -1,9 +1,9 @@
-use Rattle.std.proofs.Common.{◌≡◌, ◌≢◌, ◌<◌, ◌≤◌, [], false, refl, sym, ap, ◌∙◌, subst, arith, length}
+use Rattle.std.proofs.Common.{◌≡◌, ◌≢◌, ◌<◌, ◌≤◌, [], ℕ, Bool, true, false, refl, sym, ap, ◌∙◌, subst, arith, length}
 use Rattle.std.specs.Vec.{vec_len}
 use Rattle.collections.specs.ById.{count_below}
 use Rattle.collections.proofs.Ids.{count_le}
 use Rattle.open_links.specs.Links.{Holding, held_conn, has_conn, no_held}
-use Rattle.open_links.proofs.Listed.{none_from, first_from, numbered_kept, at_err, conns_heard, stands_below}
+use Rattle.open_links.proofs.Listed.{none_from, none_below, first_from, numbered_kept, at_err, conns_heard, stands_below, stands_there}
 use Rattle.open_links.proofs.Fields.{moves, says}
 use Rattle.open_links.proofs.open_links.OpenLinks.hear_from.Goals as goal
 use Rattle.open_links.proofs.open_links.OpenLinks.hear_from.Goals.{After-place_of-place}
@@ -46,11 +46,17 @@ pub returns-clause-ok : goal.returns-clause-ok
 returns-clause-ok g c =
     let heard = c.in_ok-ask_at.ensures.ok in
     let links = c.self.inside.links.items in
-    let count = ap (λ (h : Holding). h.count) c.self.view_is in (
-      subst (λ n. c.args.from ≤ n) (heard.stands.numbered no_held)
-          (first_from c.args.from links c.place_of-place.result no_held (place_is g (goal.at.returns-clause-ok g c).After-place_of-place) heard.stands.within),
-      (
-        subst (λ n. c.in_ok-ask_at.field-0.conn < n) count (stands_below links c.place_of-place.result c.in_ok-ask_at.field-0.conn c.self.inside.count c.self.invariant heard.stands),
-        (count, says c.in_ok-ask_at.field-0.conn c.in_ok-ask_at.field-0.word c.args.self.now links c.ask_at.new.links.items c.self.inside.count c.self.view_is heard.hears),
-      ),
-    )
+    let count = ap (λ (h : Holding). h.count) c.self.view_is in
+    let place = c.place_of-place.result in
+    let conn = c.in_ok-ask_at.field-0.conn in
+    let is_place = place_is g (goal.at.returns-clause-ok g c).After-place_of-place in
+    let held : (n : ℕ) (b : Bool) → has_conn n links ≡ b → has_conn n c.args.self.now.links ≡ b = λ n b e. subst (λ (h : Holding). has_conn n h.links ≡ b) c.self.view_is e in
+    record {
+      least = subst (λ n. c.args.from ≤ n) (heard.stands.numbered no_held) (first_from c.args.from links place no_held is_place heard.stands.within);
+      is_open = held conn true (stands_there links place conn heard.stands);
+      first = λ n le below.
+          held n false (none_below c.args.from n links place no_held c.self.invariant.ascend is_place heard.stands.within le (subst (λ m. n < m) (sym (heard.stands.numbered no_held)) below));
+      below = subst (λ n. conn < n) count (stands_below links place conn c.self.inside.count c.self.invariant heard.stands);
+      count = count;
+      says = says conn c.in_ok-ask_at.field-0.word c.args.self.now links c.ask_at.new.links.items c.self.inside.count c.self.view_is heard.hears;
+    }

@@ -11,7 +11,7 @@ pub returns-in_default-clause-ok : goal.returns-in_default-clause-ok
 returns-in_default-clause-ok g c =
     let none : has_conn c.args.conn c.self.inside.links.items ≡ false = subst (λ xs. has_conn c.args.conn xs ≡ false) c.as_slice.ensures.value c.in_default.ensures in
     stays ((c.args.conn, Gives (sending.Text c.args.text.now)) ∷ []) c.args.self.now c.self.inside.links.items c.self.inside.count c.self.view_is refl
-    (none_follows c.self.inside.links.items c.args.conn (Gives (sending.Text c.args.text.now) ∷ []) none)
+    (none_follows c.self.inside.links.items c.args.conn (sending.Text c.args.text.now) none)
 
 pub invariant_of-self : goal.invariant_of-self
 invariant_of-self g c =

@@ -1,7 +1,7 @@
 use Rattle.std.proofs.Common.{◌∙◌, List, ℕ, None, refl, sym, subst}
 use Rattle.std.proofs.lemmas.Result.{err_from_is_err_and}
 use Rattle.gate_outside.specs.Clocks.{ClockTale}
-use Rattle.worker_run.specs.Hubs.{AreDistinct, guilds_of}
+use Rattle.guild_places.specs.Places.{AreDistinct, guilds_of}
 use Rattle.worker_run.specs.Moves.{AreAllTurns, AreAllTurnsCut, now}
 use Rattle.worker_run.specs.Running.{Quietly}
 use Rattle.worker_run.proofs.Composing.{Went, guilds_after}

@@ -1,6 +1,7 @@
 use Rattle.std.proofs.Common.{◌≡◌, List, Option, All}
 use Rattle.gate_outside.specs.Links.{ReturnedLink}
-use Rattle.worker_run.specs.Hubs.{IsReader, guilds_of}
+use Rattle.worker_run.specs.Hubs.{IsReader}
+use Rattle.guild_places.specs.Places.{guilds_of}
 use Rattle.worker_run.specs.Moves.{AreAllTurns, now}
 use Rattle.worker_run.specs.Running.{Quietly}
 use Rattle.worker_run.proofs.Composing.{Went}

@@ -8,7 +8,8 @@ use Rattle.worker_core.specs.declared.io.Output.{Output as Written}
 use Rattle.worker_run.specs.Histories.{given_out}
 use Rattle.worker_run.specs.Moves.{Serving, EndsNot, now}
 use Rattle.worker_run.specs.declared.fault.WorkFault.{WorkFault}
-use Rattle.worker_run.proofs.Moves.{same_door, same_doors, ready_taken, ready_ended, ends_not_taken, ends_by, ends_not}
+use Rattle.open_links.proofs.Composing.{same_door, same_doors}
+use Rattle.worker_run.proofs.Moves.{ready_taken, ready_ended, ends_not_taken, ends_by, ends_not}
 use Rattle.worker_run.proofs.serving.Serving.end_by.Goals as goal
 
 pub give_all-requires : goal.give_all-requires

@@ -8,7 +8,8 @@ use Rattle.worker_core.proofs.Moving.{nothing_left}
 use Rattle.worker_run.specs.Histories.{given_out}
 use Rattle.worker_run.specs.Moves.{Gives, GivesFront}
 use Rattle.worker_run.specs.declared.fault.WorkFault.{WorkFault}
-use Rattle.worker_run.proofs.Moves.{same_door, same_doors, gives_none, gives_next, gives_front}
+use Rattle.open_links.proofs.Composing.{same_door, same_doors}
+use Rattle.worker_run.proofs.Moves.{gives_none, gives_next, gives_front}
 use Rattle.worker_run.proofs.serving.Serving.give_all.Goals as goal
 
 pub loop-output-init : goal.loop-output-init

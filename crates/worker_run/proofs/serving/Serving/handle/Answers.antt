@@ -7,7 +7,8 @@ use Rattle.worker_core.specs.declared.io.Output.{Output as Written}
 use Rattle.worker_run.specs.Histories.{given_out}
 use Rattle.worker_run.specs.Moves.{Serving, HandlesNot, now}
 use Rattle.worker_run.specs.declared.fault.WorkFault.{WorkFault}
-use Rattle.worker_run.proofs.Moves.{same_door, same_doors, ready_taken, handles_not_taken, handles_not_given, handles_by, handles_not_lost}
+use Rattle.open_links.proofs.Composing.{same_door, same_doors}
+use Rattle.worker_run.proofs.Moves.{ready_taken, handles_not_taken, handles_not_given, handles_by, handles_not_lost, loses_none}
 use Rattle.worker_run.proofs.serving.Serving.handle.Goals as goal
 
 pub give_all-requires : goal.give_all-requires
@@ -54,6 +55,23 @@ returns-in_err-give_all-clause-handles g c i clock given =
       subst (λ (f : WorkFault). HandlesNot i (given_out front.front) f (now s0 x m clock) (now s2 y n clock)) (sym p.2)
           (handles_not_given i clock s0 s1 x m n c.in_ok-outputs.ensures.same s2 y out took.0 took.1 c.in_err-give_all.field-0.0 front),
     )
+
+-- nothing went out, and no link is looked at
+pub returns-then-silent-clause-door : goal.returns-then-silent-clause-door
+returns-then-silent-clause-door g c = c.in_ok-give_all.ensures.door
+
+pub returns-then-silent-clause-handles : goal.returns-then-silent-clause-handles
+returns-then-silent-clause-handles g c i clock given =
+    let s0 : Serving = c.args.self.now in
+    let s1 : Serving = c.take.new.self in
+    let s2 : Serving = c.give_all.new.self in
+    let x : Option (List ReturnedLink) = (g.D.Door.tale c.args.door.now).returned in
+    let y : Option (List ReturnedLink) = (g.D.Door.tale c.give_all.new.door).returned in
+    let m : Option (List Given) = g.J.Notes.noted c.args.notes.now in
+    let n : Option (List Given) = g.J.Notes.noted c.take.new.notes in
+    let out : List Written = c.in_ok-outputs.outputs.items in
+    let took = c.in_ok-outputs.ensures.takes i given in
+    (given_out out ++ [], handles_by i clock s0 s1 x m n c.in_ok-outputs.ensures.same s2 y out took.0 took.1 c.in_ok-give_all.ensures.gives [] s2 y n (loses_none (now s2 y n clock)))
 
 pub returns-clause-door : goal.returns-clause-door
 returns-clause-door g c =

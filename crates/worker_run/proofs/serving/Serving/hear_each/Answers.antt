@@ -5,7 +5,8 @@ use Rattle.open_links.specs.Links.{Holding}
 use Rattle.open_links.specs.Calls.{HearsFrom}
 use Rattle.worker_run.specs.Moves.{Now, IsHeard, AreHeard, now}
 use Rattle.worker_run.specs.declared.fault.WorkFault.TheVariants as fault
-use Rattle.worker_run.proofs.Readying.{ready_asked, counts_same, same_door, same_doors, stops_by, passed_on, fails_of, fails_on, fails_at}
+use Rattle.open_links.proofs.Composing.{same_door, same_doors}
+use Rattle.worker_run.proofs.Readying.{ready_asked, counts_same, stops_by, passed_on, fails_of, fails_on, fails_at}
 use Rattle.worker_run.proofs.Turning.{goes_still}
 use Rattle.worker_run.proofs.Composing.{Went, Stopped, heard_init, heard_on, heard_stopped, heard_halted, heard_last, heard_all}
 use Rattle.worker_run.proofs.Asking.{asked_none, asked_before, moves_none}
@@ -77,12 +78,12 @@ hear-requires g c =
     let t = c.loop-from.self in
     let u = c.ask_from.new.self in
     let hears = subst (λ (o : Option Heard). HearsFrom c.loop-from.from o t.links u.links) c.in-Some.is c.in_ok-heard.ensures.ok in
-    record { ready = ready_asked c.args.posts.now t u (g.D.Door.tale c.loop-from.door) c.in_ok-heard.ensures.same hears.1.1.0 c.loop-from.invariant.ready }
+    record { ready = ready_asked c.args.posts.now t u (g.D.Door.tale c.loop-from.door) c.in_ok-heard.ensures.same hears.count c.loop-from.invariant.ready }
 
 pub overflow_add-from : goal.overflow_add-from
 overflow_add-from g c =
     let hears = subst (λ (o : Option Heard). HearsFrom c.loop-from.from o c.loop-from.self.links c.ask_from.new.self.links) c.in-Some.is c.in_ok-heard.ensures.ok in
-    omega (arith, hears.1.0, c.loop-from.invariant.limit, c.loop-from.invariant.count)
+    omega (arith, hears.below, c.loop-from.invariant.limit, c.loop-from.invariant.count)
 
 pub loop-from-preserved : goal.loop-from-preserved
 loop-from-preserved g c =
@@ -102,12 +103,12 @@ loop-from-preserved g c =
     record {
       ready = c.in_ok-came.ensures.ready;
       door = same_doors d d' d'' c.loop-from.invariant.door c.in_ok-came.ensures.door;
-      count = c.in_ok-came.ensures.count ∙ (hears.1.1.0 ∙ c.loop-from.invariant.count);
+      count = c.in_ok-came.ensures.count ∙ (hears.count ∙ c.loop-from.invariant.count);
       limit = c.loop-from.invariant.limit;
       faults = c.in_ok-came.ensures.cause ∙ c.loop-from.invariant.faults;
       goes = λ clock.
-          heard_on c.loop-from.from heard.conn (now s d.returned noted clock) (now t d'.returned noted' clock) (now v d''.returned noted'' clock) hears.0 (c.loop-from.invariant.goes clock)
-          (subst (λ (a : Now). Went (IsHeard heard.conn) a (now v d''.returned noted'' clock)) (asked_before t u same d'.returned noted' clock) (c.in_ok-came.ensures.goes clock t.links hears.1.1.1));
+          heard_on c.loop-from.from heard.conn (now s d.returned noted clock) (now t d'.returned noted' clock) (now v d''.returned noted'' clock) hears.least (c.loop-from.invariant.goes clock)
+          (subst (λ (a : Now). Went (IsHeard heard.conn) a (now v d''.returned noted'' clock)) (asked_before t u same d'.returned noted' clock) (c.in_ok-came.ensures.goes clock t.links hears.says));
     }
 
 pub returns-in_err-came : goal.returns-in_err-came
@@ -135,12 +136,12 @@ returns-in_err-came g c =
     let door = same_doors d d' d'' c.loop-from.invariant.door c.in_err-came.ensures.door in
     record {
       ready = c.in_err-came.ensures.ready;
-      count = counts_same s v d d'' (c.in_err-came.ensures.count ∙ (hears.1.1.0 ∙ c.loop-from.invariant.count)) door.given;
+      count = counts_same s v d d'' (c.in_err-came.ensures.count ∙ (hears.count ∙ c.loop-from.invariant.count)) door.given;
       cause = fails_of n n'' f r is (fails_on n n' n'' f c.loop-from.invariant.faults (fails_at n' n'' f c.hear.result c.in_err-came.was c.hear.ensures.cause));
       goes = λ clock.
           stops_by AreHeard AreHeard r f (now s d.returned noted clock) (now v d''.returned noted'' clock) is
-          (heard_stopped c.loop-from.from heard.conn f (now s d.returned noted clock) (now t d'.returned noted' clock) (now v d''.returned noted'' clock) hears.0 (c.loop-from.invariant.goes clock)
-          (subst (λ (a : Now). Stopped (IsHeard heard.conn) f a (now v d''.returned noted'' clock)) (asked_before t u same d'.returned noted' clock) (c.in_err-came.ensures.goes clock t.links hears.1.1.1)));
+          (heard_stopped c.loop-from.from heard.conn f (now s d.returned noted clock) (now t d'.returned noted' clock) (now v d''.returned noted'' clock) hears.least (c.loop-from.invariant.goes clock)
+          (subst (λ (a : Now). Stopped (IsHeard heard.conn) f a (now v d''.returned noted'' clock)) (asked_before t u same d'.returned noted' clock) (c.in_err-came.ensures.goes clock t.links hears.says)));
     }
 
 pub returns : goal.returns

@@ -2,7 +2,7 @@ use Rattle.std.proofs.Common.{[], ◌∷◌, slice_get, ap, refl, ◌∙◌}
 use Rattle.std.proofs.lemmas.Result.{err_from_is_err_and}
 use Rattle.worker_run.specs.Histories.{Took}
 use Rattle.worker_run.specs.Moves.{Serving, IsLookOf, IsLookOfOrNone, now}
-use Rattle.worker_run.specs.Hubs.{guilds_of}
+use Rattle.guild_places.specs.Places.{guilds_of}
 use Rattle.worker_run.specs.declared.fault.WorkFault.TheVariants as fault
 use Rattle.worker_run.proofs.Readying.{ready_seen, counts_same, stops_by, passed_on, fails_of, no_door, any_clock}
 use Rattle.worker_run.proofs.Seeing.{look_fails, look_goes, look_stops, look_quits}

@@ -1,6 +1,6 @@
 use Rattle.std.proofs.Common.{◌∙◌, refl, arith}
 use Rattle.std.proofs.lemmas.Result.{err_from_is_err_and}
-use Rattle.worker_run.specs.Hubs.{guilds_of}
+use Rattle.guild_places.specs.Places.{guilds_of}
 use Rattle.worker_run.specs.Moves.{AreLooks, AreFirstLooks, now}
 use Rattle.worker_run.proofs.Readying.{counts_on, counts_same, stops_by, passed_on, fails_of, fails_on, fails_at, any_clock}
 use Rattle.worker_run.proofs.Composing.{looks_on, looks_stopped, looks_none, looks_all, guilds_after, as_many, as_guilds, all_places}

@@ -1,6 +1,6 @@
 use Rattle.std.proofs.Common.{◌≡◌, take}
 use Rattle.gate_outside.specs.Clocks.{ClockTale}
-use Rattle.worker_run.specs.Hubs.{guilds_of}
+use Rattle.guild_places.specs.Places.{guilds_of}
 use Rattle.worker_run.specs.Moves.{IsReady, CountsLinks, AreLooks, now}
 use Rattle.worker_run.proofs.Composing.{Went}
 use Rattle.worker_run.proofs.serving.Serving.look_at_each.Given as goal

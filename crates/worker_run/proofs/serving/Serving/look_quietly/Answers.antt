@@ -1,6 +1,7 @@
 use Rattle.std.proofs.Common.{[], ◌∷◌, slice_get, All, refl}
 use Rattle.std.proofs.lemmas.Result.{err_from_is_err_and}
-use Rattle.worker_run.specs.Hubs.{IsReader, guilds_of}
+use Rattle.worker_run.specs.Hubs.{IsReader}
+use Rattle.guild_places.specs.Places.{guilds_of}
 use Rattle.worker_run.specs.Moves.{IsLookOf, IsLookOfOrNone, now}
 use Rattle.worker_run.specs.Running.{Quietly}
 use Rattle.worker_run.specs.declared.fault.WorkFault.TheVariants as fault

@@ -2,12 +2,12 @@ use Rattle.std.proofs.Common.{◌∙◌, List, ℕ, None, length, refl, sym, ap,
 use Rattle.std.proofs.lemmas.Bool.{and_parts}
 use Rattle.std.proofs.lemmas.Result.{err_from_is_err_and}
 use Rattle.worker_run.specs.Histories.{inputs}
-use Rattle.worker_run.specs.Hubs.{AreDistinct, guilds_of}
+use Rattle.guild_places.specs.Places.{AreDistinct, guilds_of}
 use Rattle.worker_run.specs.Moves.{AreLooks, AreFirstLooks, now}
 use Rattle.worker_run.specs.Running.{Quietly}
 use Rattle.worker_run.proofs.Composing.{guilds_after, as_many, as_guilds, all_places}
 use Rattle.worker_run.proofs.LastTurns.{same_on, none_open, quiet_looks_none, quiet_looks_all, quiet_looks_on, quiet_looks_stopped}
-use Rattle.worker_run.proofs.Guilds.{many}
+use Rattle.guild_places.proofs.Guilds.{many}
 use Rattle.worker_run.proofs.Readying.{stops_by, passed_on, fails_of, fails_at, any_clock}
 use Rattle.worker_run.proofs.Sealing.{none_sealed, sealed_more, all_sealed}
 use Rattle.worker_run.proofs.serving.Serving.look_quietly_at_each.Goals as goal

@@ -1,7 +1,8 @@
 use Rattle.std.proofs.Common.{◌≡◌, List, Option, All, true, take}
 use Rattle.gate_outside.specs.Clocks.{ClockTale}
 use Rattle.gate_outside.specs.Links.{ReturnedLink}
-use Rattle.worker_run.specs.Hubs.{IsReader, HasSeenAll, guilds_of}
+use Rattle.worker_run.specs.Hubs.{IsReader, HasSeenAll}
+use Rattle.guild_places.specs.Places.{guilds_of}
 use Rattle.worker_run.specs.Moves.{AreLooks, now}
 use Rattle.worker_run.specs.Running.{Quietly}
 use Rattle.worker_run.proofs.Composing.{Went}

@@ -5,7 +5,8 @@ use Rattle.world_law.specs.Inputs.{Lost}
 use Rattle.worker_run.specs.Histories.{Took, History}
 use Rattle.worker_run.specs.Moves.{LosesNot, Now, now}
 use Rattle.worker_run.specs.declared.fault.WorkFault.{WorkFault}
-use Rattle.worker_run.proofs.Moves.{same_door, same_doors, loses_none, loses_one, loses_more, loses_not_one, loses_not_more}
+use Rattle.open_links.proofs.Composing.{same_door, same_doors}
+use Rattle.worker_run.proofs.Moves.{loses_none, loses_one, loses_more, loses_not_one, loses_not_more}
 use Rattle.worker_run.proofs.serving.Serving.lose_failed.Goals as goal
 
 pub loop-init : goal.loop-init

@@ -2,7 +2,8 @@ use Rattle.std.proofs.Common.{◌≡◌, ℕ, ◌<◌, List, [], ◌∷◌, All,
 use Rattle.std.proofs.lemmas.Result.{IfOk-weaker, on_err_weaker}
 use Rattle.guild_hub.specs.Sights.{Seeing}
 use Rattle.worker_run.specs.declared.looks.Seen.{Seen}
-use Rattle.worker_run.specs.Hubs.{Reads, IsReader, AreDistinct, AllRead, guilds_of}
+use Rattle.worker_run.specs.Hubs.{Reads, IsReader, AllRead}
+use Rattle.guild_places.specs.Places.{AreDistinct, guilds_of}
 use Rattle.worker_run.specs.Looking.{Looks}
 use Rattle.worker_run.specs.Moves.{Serving}
 use Rattle.worker_run.specs.Parts.{Sees}

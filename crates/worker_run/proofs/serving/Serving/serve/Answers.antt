@@ -1,7 +1,7 @@
 use Rattle.std.proofs.Common.{◌∙◌, refl, sym, subst}
 use Rattle.std.proofs.lemmas.Result.{err_from_is_err_and}
 use Rattle.gate_outside.specs.Clocks.{ClockTale}
-use Rattle.worker_run.specs.Hubs.{guilds_of}
+use Rattle.guild_places.specs.Places.{guilds_of}
 use Rattle.worker_run.specs.Moves.{AreAllTurns, AreAllTurnsCut, now}
 use Rattle.worker_run.proofs.Readying.{counts_on, counts_same, stops_by, passed_on, fails_of, fails_on, fails_at, on_err}
 use Rattle.worker_run.proofs.Composing.{Went, turns_none, turns_on, turns_stopped, guilds_after}

@@ -1,5 +1,5 @@
 use Rattle.std.proofs.Common.{◌≡◌}
-use Rattle.worker_run.specs.Hubs.{guilds_of}
+use Rattle.guild_places.specs.Places.{guilds_of}
 use Rattle.worker_run.specs.Moves.{IsReady, CountsLinks, AreAllTurns, now}
 use Rattle.worker_run.proofs.Composing.{Went}
 use Rattle.worker_run.proofs.serving.Serving.serve.Given as goal

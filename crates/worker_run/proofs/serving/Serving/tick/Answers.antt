@@ -2,7 +2,8 @@ use Rattle.std.proofs.Common.{refl}
 use Rattle.world_law.specs.Inputs.{Tick}
 use Rattle.worker_run.specs.Moves.{IsOneTick, now}
 use Rattle.worker_run.proofs.Shapes.{one_kept}
-use Rattle.worker_run.proofs.Turning.{comes_by, links_still}
+use Rattle.open_links.proofs.Composing.{goes_by_nothing}
+use Rattle.worker_run.proofs.Turning.{comes_by}
 use Rattle.worker_run.proofs.Readying.{counts_same, handling, handling_counts, handling_fails, any_clock}
 use Rattle.worker_run.proofs.serving.Serving.tick.Goals as goal
 
@@ -34,6 +35,6 @@ returns-clause-goes g c =
     let e = now c.handle.new.self (g.D.Door.tale c.handle.new.door).returned (g.J.Notes.noted c.handle.new.notes) after in
     handling IsOneTick (Tick c.now_ms-now.result) a b e
     (comes_by (Tick c.now_ms-now.result) a b refl c.requires.ready.readers refl refl refl refl (after, (c.now_ms-now.ensures, refl)))
-    (links_still s.links back) c.requires.ready.readers
+    (goes_by_nothing s.links back) c.requires.ready.readers
     (λ h losses. (c.now_ms-now.result, one_kept (Tick c.now_ms-now.result) h refl losses))
     c.handle.result (c.handle.ensures.handles (Tick c.now_ms-now.result) after refl)

@@ -1,6 +1,6 @@
 use Rattle.std.proofs.Common.{◌∙◌}
 use Rattle.std.proofs.lemmas.Result.{err_from_is_err_and}
-use Rattle.worker_run.specs.Hubs.{guilds_of}
+use Rattle.guild_places.specs.Places.{guilds_of}
 use Rattle.worker_run.specs.Moves.{IsOneTurn, IsOneTurnCut, now}
 use Rattle.worker_run.proofs.Readying.{counts_on, stops_by, passed_on, fails_of, fails_on, fails_at}
 use Rattle.worker_run.proofs.Composing.{stopped_looks, stopped_tick, stopped_opens, stopped_heard, went_whole}

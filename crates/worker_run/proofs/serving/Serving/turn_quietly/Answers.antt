@@ -1,7 +1,7 @@
 use Rattle.std.proofs.Common.{refl}
 use Rattle.std.proofs.lemmas.Result.{err_from_is_err_and}
 use Rattle.world_law.specs.Inputs.{Tick}
-use Rattle.worker_run.specs.Hubs.{guilds_of}
+use Rattle.guild_places.specs.Places.{guilds_of}
 use Rattle.worker_run.specs.Moves.{IsOneTurn, IsOneTurnCut, now}
 use Rattle.worker_run.specs.Running.{Quietly}
 use Rattle.worker_run.proofs.LastTurns.{none_open, quiet_tick_goes, quiet_tick_stops, quiet_stopped_looks, quiet_turn, quiet_stopped_tick}
