@@ -207,7 +207,16 @@ impl Client {
         ensures fault { IfErr result (λ fault. (fault ≡ Memory) ⊎ ((fault ≡ BadText) × IsUnread text.now)) }
         ensures err { OnErr result (self.new ≡ self.old) }
     {
-        match Received::read(self.alloc(), text)? {
+        let received = Received::read(self.alloc(), text)?;
+        self.on_received(received, now)
+    }
+
+    /// Handles a payload that was read, as `on_text` handles its text. An `Err` is out of memory and
+    /// changes nothing.
+    pub fn on_received(&mut self, received: Received, now: u64) -> Result<Vec<Act>, ClientFault>
+        ensures { MatchResult result (λ acts. StepsTo self.old (Receives received now) self.new acts.items) (Keeps self.old self.new) }
+    {
+        match received {
             Received::Dispatch(dispatch, number) => self.on_dispatch(dispatch, number),
             Received::Other(out) => self.on_other(out, now),
         }

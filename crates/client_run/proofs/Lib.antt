@@ -1,0 +1,8 @@
+mod Sent
+mod Telling
+mod Shapes
+mod Parts
+mod Listening
+mod Turning
+mod Visiting
+mod Following

@@ -1,0 +1,4 @@
+pub mod Histories
+pub mod Links
+pub mod Drives
+pub mod Turns
