@@ -1,0 +1,4 @@
+pub mod Names
+pub mod Watching
+pub mod Ended
+pub mod Agreement
