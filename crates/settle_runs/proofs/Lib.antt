@@ -1,0 +1,2 @@
+pub mod OpenPasses
+pub mod SealedHubs
