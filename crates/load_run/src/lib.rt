@@ -1,0 +1,11 @@
+//! A load: scripts, actors, workers and clients at once, each on a thread of its own, and a summary that is
+//! written when all have ended.
+#![tactic(auto)]
+
+mod agreeing;
+mod ends;
+mod fault;
+mod faults;
+mod running;
+
+pub use fault::LoadFault;
