@@ -15,6 +15,7 @@ use Rattle.load_parts.specs.declared.load_part.LoadPart.TheVariants as part
 use Rattle.load_parts.specs.declared.load_part.LoadDone.{LoadDone}
 use Rattle.load_parts.specs.declared.load_part.LoadDone.TheVariants as done
 use Rattle.load_run.specs.Loads.{viewer_of}
+use Rattle.load_run.specs.declared.sorting.WorkerEnd.{WorkerEnd}
 
 module _ {C R : Type 0} where
   -- the clock of a part
@@ -43,3 +44,7 @@ AllAgreeSo records number [] [] = Unit {0}
 AllAgreeSo records number [] (n ∷ ns) = ⊥
 AllAgreeSo records number (c ∷ cs) [] = ⊥
 AllAgreeSo records number (c ∷ cs) (n ∷ ns) = AgreeSo (viewer_of number) c.client.kept records n × AllAgreeSo records (number + 1) cs ns
+
+-- the worker has served until its door had ended and each log had its seal
+abbrev pub HasServed : {R : Type 0} → WorkerEnd R → Type 0
+HasServed e = (report : WorkReport) × (e.ending ≡ Ran (Ok report))

@@ -65,13 +65,18 @@ pub record ClientRan (logs : List (ℕ × Published)) (number : ℕ) (agree : �
 abbrev pub sendings : ℕ → List (List (ℕ × Edit)) → List (List (ℕ × Edit))
 sendings seed wished = map (λ part. edits_in (script seed part)) (range_with_len 0 4) ++ wished
 
+-- the sealed logs of a load with this seed: each is one order of what the senders sent for its guild, and the workers
+-- have served their clients from them
+pub record AreLogs (seed : ℕ) (logs : List (ℕ × Published)) : Type 0 where
+  pub guilds : guilds_of logs ≡ guild_ids
+  pub wished : List (List (ℕ × Edit))
+  pub merged : All (IsMergedLog (sendings seed wished)) logs
+  pub workers : AllZip (WorkerRan logs) (range_with_len 0 3) wished
+
 -- what a load with this seed writes
 pub record IsLoad (seed : ℕ) (text : List ℕ) : Type 0 where
   pub logs : List (ℕ × Published)
-  pub wished : List (List (ℕ × Edit))
+  pub are_logs : AreLogs seed logs
   pub agrees : List ℕ
-  pub guilds : guilds_of logs ≡ guild_ids
-  pub merged : All (IsMergedLog (sendings seed wished)) logs
-  pub workers : AllZip (WorkerRan logs) (range_with_len 0 3) wished
   pub clients : AllZip (ClientRan logs) (range_with_len 0 12) agrees
   pub text_is : text ≡ summary_text seed logs agrees

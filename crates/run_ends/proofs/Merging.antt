@@ -1,9 +1,9 @@
 -- The logs of the guilds, by what was taken of the senders.
-use Rattle.std.proofs.Common.{◌≡◌, ℕ, zero, suc, ◌+◌, ◌%◌, ◌<◌, ◌==◌, true, Option, Some, List, [], ◌∷◌, map, take, length, get_or, slice_get, not-suc-le-zero, sym, refl, ap, ap₂, ◌∙◌, subst, arith}
+use Rattle.std.proofs.Common.{◌≡◌, ℕ, zero, suc, ◌+◌, ◌%◌, ◌<◌, ◌==◌, true, Option, Some, List, [], ◌∷◌, ◌++◌, map, take, length, get_or, slice_get, not-suc-le-zero, sym, refl, ap, ap₂, ◌∙◌, subst, arith}
 use Rattle.std.specs.Prelude.{IfSome, IsSomeAnd}
 use Rattle.std.specs.List.{All, position, range_with_len}
 use Rattle.std.proofs.lemmas.List.{length-map, get_or-map}
-use Rattle.std.proofs.lemmas.List.Elements.{All-cons, All-head, All-tail, All-map, All-weaker, All-get_or}
+use Rattle.std.proofs.lemmas.List.Elements.{All-nil, All-cons, All-head, All-tail, All-map, All-same, All-weaker}
 use Rattle.std.proofs.lemmas.Option.{slice_get-get_or}
 use Rattle.edit_apply.specs.declared.Edit.{Edit}
 use Rattle.edit_post.specs.Merge.{Merge}
@@ -11,11 +11,11 @@ use Rattle.edit_post.specs.Post.{PostId, Sender, Taker, new_sender, after_end, e
 use Rattle.edit_post.specs.Requests.{requests_of}
 use Rattle.guild_hub.specs.Writes.{Publishing}
 use Rattle.guild_actor.specs.Acts.{edits_of, most, sealed_log}
-use Rattle.guild_posts.specs.Posts.{edits_by, sent_all}
-use Rattle.guild_posts.proofs.Sent.{sent_at, sent_length, sent_sender}
+use Rattle.guild_posts.specs.Posts.{edits_by, sent_all, post_of}
+use Rattle.guild_posts.proofs.Sent.{sent_at, sent_length, sent_sender, sent_posts}
 use Rattle.load_settle.specs.Passes.{IsTakenWhole}
 use Rattle.run_ends.specs.Lists.{woven}
-use Rattle.run_ends.specs.Senders.{edits_for, new_passes, HasSent, HaveSent, AreTakenWhole}
+use Rattle.run_ends.specs.Senders.{edits_for, new_passes, HasSent, HaveSent, HasMark, HaveEnded, AreTakenWhole}
 use Rattle.run_ends.specs.Logs.{IsMergedLog, IsOfActor}
 use Rattle.run_ends.proofs.Sendings.{sent_for, by_one_pass}
 
@@ -52,38 +52,64 @@ taken_for posts guilds number ws passes takers t q guild has whole is lt of =
     ∙ sent_for guild begun es
     ∙ by_one_pass guilds (length first) q guild way.0 way.1 way.2 ws
 
--- lists that were taken, sender by sender
-lists : (guild : ℕ) (t : Taker) (k : ℕ) (senders : List (List Sending))
-    → ((i j : ℕ) → i < length senders → k + i ≡ j → edits_of guild (requests_of j t.taken) ≡ edits_for guild (get_or senders i []))
-    → map (edits_of guild) (map (λ sender. requests_of sender t.taken) (range_with_len k (length senders))) ≡ map (edits_for guild) senders
-lists guild t k [] h = refl
-lists guild t k (ws ∷ wss) h =
-    ap₂ (λ x xs. x ∷ xs) (h 0 k (omega arith) (omega arith)) (lists guild t (k + 1) wss (λ i j lt e. h (suc i) j (omega (arith, lt)) (omega (arith, e))))
+module _ (posts : List PostId) (guilds : List ℕ) (takers : List Taker) (t : Taker) (q : ℕ) (is : slice_get takers q ≡ Some t) (lt : q < length posts) where
+  -- lists that were taken, sender by sender
+  lists : (guild : ℕ) → IsOfActor guilds (length posts) q guild → (k : ℕ) (senders : List (List Sending)) (passes : List (List Sender)) → HaveSent posts guilds k senders passes → All (AreTakenWhole takers) passes
+      → map (edits_of guild) (map (λ sender. requests_of sender t.taken) (range_with_len k (length senders))) ≡ map (edits_for guild) senders
+  lists guild of k [] [] have whole = refl
+  lists guild of k [] (ps ∷ pss) have whole = elim have [ ]
+  lists guild of k (ws ∷ wss) [] have whole = elim have [ ]
+  lists guild of k (ws ∷ wss) (ps ∷ pss) have whole =
+      ap₂ (λ x xs. x ∷ xs)
+      (taken_for posts guilds k ws ps takers t q guild have.0 (All-head (AreTakenWhole takers) ps pss whole) is lt of)
+      (lists guild of (k + 1) wss pss have.1 (All-tail (AreTakenWhole takers) ps pss whole))
 
-module _ (posts : List PostId) (guilds : List ℕ) (senders : List (List Sending)) (passes : List (List Sender)) (takers : List Taker)
-    (have : HaveSent posts guilds senders passes) (whole : All (AreTakenWhole takers) passes) (t : Taker) (q : ℕ) (is : slice_get takers q ≡ Some t) (lt : q < length posts)
-    (all : t.senders ≡ length senders) where
-  merged : (guild : ℕ) → IsOfActor guilds (length posts) q guild → Merge (map (edits_of guild) (ended_lists t)) (edits_of guild t.taken) → Merge (map (edits_for guild) senders) (edits_of guild t.taken)
-  merged guild of merge =
-      subst (λ ls. Merge ls (edits_of guild t.taken))
-      (ap (λ n. map (edits_of guild) (map (λ sender. requests_of sender t.taken) (range_with_len 0 n))) all
-      ∙ lists guild t 0 senders (λ i j less e.
-      let here : i ≡ j = omega (arith, e) in
-      subst (λ n. edits_of guild (requests_of n t.taken) ≡ edits_for guild (get_or senders i [])) here
-      (taken_for posts guilds i (get_or senders i []) (get_or passes i []) takers t q guild (have.each i less) (whole i [] (omega (arith, less, have.many))) is lt of)))
-      merge
+  module _ (senders : List (List Sending)) (passes : List (List Sender)) (have : HaveSent posts guilds 0 senders passes) (whole : All (AreTakenWhole takers) passes) (all : t.senders ≡ length senders) where
+    merged : (guild : ℕ) → IsOfActor guilds (length posts) q guild → Merge (map (edits_of guild) (ended_lists t)) (edits_of guild t.taken) → Merge (map (edits_for guild) senders) (edits_of guild t.taken)
+    merged guild of merge =
+        subst (λ ls. Merge ls (edits_of guild t.taken))
+        (ap (λ n. map (edits_of guild) (map (λ sender. requests_of sender t.taken) (range_with_len 0 n))) all ∙ lists guild of 0 senders passes have whole)
+        merge
 
-  -- the logs of an actor
-  pub logs_of_actor : ((guild : ℕ) → Merge (map (edits_of guild) (ended_lists t)) (edits_of guild t.taken)) → (writers : List (ℕ × Publishing))
-      → All (λ (w : ℕ × Publishing). IsOfActor guilds (length posts) q w.0) writers → All (IsMergedLog senders) (map (sealed_log t.taken) writers)
-  logs_of_actor merge writers of =
-      All-map (IsMergedLog senders) (sealed_log t.taken) writers
-      (All-weaker (λ (w : ℕ × Publishing). IsOfActor guilds (length posts) q w.0) (λ w. IsMergedLog senders (sealed_log t.taken w)) (λ w one. record {
-        merged = edits_of w.0 t.taken;
-        merge = merged w.0 one (merge w.0);
-        entries = refl;
-        sealed = refl;
-      }) writers of)
+    -- the logs of an actor
+    pub logs_of_actor : ((guild : ℕ) → Merge (map (edits_of guild) (ended_lists t)) (edits_of guild t.taken)) → (writers : List (ℕ × Publishing))
+        → All (λ (w : ℕ × Publishing). IsOfActor guilds (length posts) q w.0) writers → All (IsMergedLog senders) (map (sealed_log t.taken) writers)
+    logs_of_actor merge writers of =
+        All-map (IsMergedLog senders) (sealed_log t.taken) writers
+        (All-weaker (λ (w : ℕ × Publishing). IsOfActor guilds (length posts) q w.0) (λ w. IsMergedLog senders (sealed_log t.taken w)) (λ w one. record {
+          merged = edits_of w.0 t.taken;
+          merge = merged w.0 one (merge w.0);
+          entries = refl;
+          sealed = refl;
+        }) writers of)
+
+-- passes that have sent have ended
+pub ended : (posts : List PostId) (guilds : List ℕ) (number : ℕ) (ws : List Sending) (passes : List Sender) → HasSent posts guilds number ws passes → HaveEnded posts passes
+ended posts guilds number ws passes has = record {
+  posts_are = ap (map post_of) has.ended ∙ same_posts has.sent ∙ sent_posts guilds ws (new_passes posts number) has.sent has.are ∙ posts_of posts;
+  ended = All-same HasMark passes (map after_end has.sent) has.ended (All-map HasMark after_end has.sent (λ k d less e. absurd (omega (arith, e))));
+}
+  where
+    same_posts : (xs : List Sender) → map post_of (map after_end xs) ≡ map post_of xs
+    same_posts [] = refl
+    same_posts (x ∷ xs) = ap (λ l. x.post ∷ l) (same_posts xs)
+
+    posts_of : (ps : List PostId) → map post_of (new_passes ps number) ≡ ps
+    posts_of [] = refl
+    posts_of (p ∷ ps) = ap (λ l. p ∷ l) (posts_of ps)
+
+pub all_ended : (posts : List PostId) (guilds : List ℕ) (number : ℕ) (senders : List (List Sending)) (passes : List (List Sender)) → HaveSent posts guilds number senders passes → All (HaveEnded posts) passes
+all_ended posts guilds number [] [] have = All-nil (HaveEnded posts)
+all_ended posts guilds number [] (ps ∷ pss) have = elim have [ ]
+all_ended posts guilds number (ws ∷ wss) [] have = elim have [ ]
+all_ended posts guilds number (ws ∷ wss) (ps ∷ pss) have = All-cons (HaveEnded posts) ps pss (ended posts guilds number ws ps have.0) (all_ended posts guilds (number + 1) wss pss have.1)
+
+-- senders after senders
+pub sent_after : (posts : List PostId) (guilds : List ℕ) (k n : ℕ) (a b : List (List Sending)) (p q : List (List Sender)) → n ≡ k + length a → HaveSent posts guilds k a p → HaveSent posts guilds n b q → HaveSent posts guilds k (a ++ b) (p ++ q)
+sent_after posts guilds k n [] b [] q e first later = subst (λ m. HaveSent posts guilds m b q) (e ∙ omega arith) later
+sent_after posts guilds k n [] b (ps ∷ pss) q e first later = elim first [ ]
+sent_after posts guilds k n (ws ∷ wss) b [] q e first later = elim first [ ]
+sent_after posts guilds k n (ws ∷ wss) b (ps ∷ pss) q e first later = (first.0, sent_after posts guilds (k + 1) n wss b pss q (omega (arith, e)) first.1 later)
 
 -- what holds of all in both lists
 pub All-woven : {T : Type 0} (P : T → Type 0) (xs ys : List T) → All P xs → All P ys → All P (woven xs ys)

@@ -1,5 +1,5 @@
 -- What senders have sent whose passes have ended, and what was taken of them.
-use Rattle.std.specs.Prelude.{◌≡◌, ◌≢◌, ℕ, ◌<◌, ◌==◌, List, map, length, All, IfSome, slice_get, slice_index_or, []}
+use Rattle.std.specs.Prelude.{◌≡◌, ◌≢◌, ℕ, ◌+◌, ◌==◌, List, [], ◌∷◌, map, All, IfSome, slice_get}
 use Rattle.std.specs.List.{filter}
 use Rattle.edit_apply.specs.declared.Edit.{Edit}
 use Rattle.edit_post.specs.Post.{PostId, Sender, Taker, new_sender, after_end}
@@ -32,7 +32,9 @@ pub record HaveEnded (posts : List PostId) (passes : List Sender) : Type 0 where
 abbrev pub AreTakenWhole : List Taker → List Sender → Type 0
 AreTakenWhole taken passes = (place : ℕ) → IfSome (slice_get passes place) (λ (s : Sender). IsTakenWhole taken (place, s))
 
--- sender by sender: each has sent its edits, and its passes have ended
-pub record HaveSent (posts : List PostId) (guilds : List ℕ) (senders : List (List (ℕ × Edit))) (passes : List (List Sender)) : Type 0 where
-  pub many : length passes ≡ length senders
-  pub each : (number : ℕ) → number < length senders → HasSent posts guilds number (slice_index_or senders number []) (slice_index_or passes number [])
+-- sender by sender, the first of which has this number: each has sent its edits, and its passes have ended
+abbrev pub HaveSent : List PostId → List ℕ → ℕ → List (List (ℕ × Edit)) → List (List Sender) → Type 0
+HaveSent posts guilds number [] [] = Unit {0}
+HaveSent posts guilds number [] (passes ∷ more) = ⊥
+HaveSent posts guilds number (edits ∷ senders) [] = ⊥
+HaveSent posts guilds number (edits ∷ senders) (passes ∷ more) = HasSent posts guilds number edits passes × HaveSent posts guilds (number + 1) senders more

@@ -13,7 +13,7 @@ ghost use Rattle.run_ends.specs.Logs.{IsMergedLog, IsOfActor};
 /// senders sent for that guild.
 pub fn logs_are_merged()
     ensures { (posts : List PostId) (guilds : List ℕ) (senders : List (List (ℕ × AnEdit))) (passes : List (List Sender)) (takers : List Taker) (taker : Taker) (actor : ℕ) (writers : List (ℕ × Publishing))
-        → HaveSent posts guilds senders passes → All (AreTakenWhole takers) passes
+        → HaveSent posts guilds 0 senders passes → All (AreTakenWhole takers) passes
         → slice_get takers actor ≡ Some taker → actor < length posts → taker.senders ≡ length senders
         → ((guild : ℕ) → Merge (map (edits_of guild) (ended_lists taker)) (edits_of guild taker.taken))
         → All (λ (w : ℕ × Publishing). IsOfActor guilds (length posts) actor w.0) writers

@@ -1,0 +1,106 @@
+//! What each kind of parts of a load has left.
+
+ghost use Rattle.std.specs.Prelude.{◌≡◌, ◌+◌, ◌≤◌, ◌++◌, ◌∷◌, [], ℕ, flat_map, length};
+ghost use Rattle.std.specs.Vec.{vec_len, vec_capacity};
+ghost use Rattle.load_run.specs.Sorted.{HasRoom, Sorts};
+ghost use Rattle.load_parts.specs.declared.load_part.LoadDone.TheVariants.{Worker, Client};
+
+use edit_post::SendPass;
+use gate_parts::{ActorDone, Ending, ScriptDone, WorkerDone};
+use guild_hub::HubReader;
+use load_client::EndedClient;
+use load_parts::{ClientDone, LoadDone, LoadPart};
+use snowflake_id::Snowflake;
+use std::sync::Wait;
+use team_run::add;
+use thread_outside::dialled_door::DialledDoor;
+use thread_outside::kept_notes::KeptNotes;
+use worker_core::Input;
+use worker_run::{WorkFault, WorkReport};
+
+/// A worker that has ended, without its clock.
+#[derive(Drop)]
+pub struct WorkerEnd<R: Wait + Copy + Drop> {
+    pub ending: Ending<Result<WorkReport, WorkFault>>,
+    pub door: DialledDoor<R>,
+    pub readers: Vec<(Snowflake, HubReader)>,
+    pub passes: Vec<SendPass>,
+    pub notes: KeptNotes<Input>,
+}
+
+/// What the parts of each kind have left, in their order, and the clocks of all.
+pub struct Ends<C, R: Wait + Copy + Drop> {
+    pub actors: Vec<ActorDone<R>>,
+    pub scripts: Vec<ScriptDone>,
+    pub workers: Vec<WorkerEnd<R>>,
+    pub clients: Vec<EndedClient>,
+    pub clocks: Vec<C>,
+}
+
+impl<C, R: Wait + Copy + Drop> Ends<C, R> {
+    // Adds what a worker has left.
+    fn add_worker(&mut self, done: WorkerDone<DialledDoor<R>, C, KeptNotes<Input>>)
+        requires { HasRoom 1 self.old }
+        ensures sorts { Sorts (Worker done ∷ []) self.old self.new }
+        ensures room { (more : ℕ) → HasRoom (more + 1) self.old → HasRoom more self.new }
+    {
+        let WorkerDone {
+            ending,
+            door,
+            clock,
+            readers,
+            passes,
+            notes,
+            seat,
+        } = done;
+        drop(seat);
+        add(&mut self.clocks, clock);
+        add(
+            &mut self.workers,
+            WorkerEnd {
+                ending,
+                door,
+                readers,
+                passes,
+                notes,
+            },
+        );
+    }
+
+    // Adds what a client has left.
+    fn add_client(&mut self, done: ClientDone<C>)
+        requires { HasRoom 1 self.old }
+        ensures sorts { Sorts (Client done ∷ []) self.old self.new }
+        ensures room { (more : ℕ) → HasRoom (more + 1) self.old → HasRoom more self.new }
+    {
+        let ClientDone { ended, clock } = done;
+        add(&mut self.clocks, clock);
+        add(&mut self.clients, ended);
+    }
+
+    // Adds what a part has left.
+    fn add_done(&mut self, done: LoadDone<C, R>)
+        requires { HasRoom 1 self.old }
+        ensures sorts { Sorts (done ∷ []) self.old self.new }
+        ensures room { (more : ℕ) → HasRoom (more + 1) self.old → HasRoom more self.new }
+    {
+        match done {
+            LoadDone::Actor(done) => add(&mut self.actors, done),
+            LoadDone::Script(done) => add(&mut self.scripts, done),
+            LoadDone::Worker(done) => self.add_worker(done),
+            LoadDone::Client(done) => self.add_client(done),
+        }
+    }
+
+    /// Adds what these parts have left. It does not allocate: the caller has made the room.
+    pub fn add_all(&mut self, mut dones: Vec<LoadDone<C, R>>)
+        requires { HasRoom (length dones.items) self.old }
+        ensures { Sorts dones.items self.old self.new }
+    {
+        dones.reverse();
+        while let Some(done) = dones.pop() {
+            self.add_done(done);
+        }
+        dones.destroy_empty();
+    }
+}
