@@ -51,3 +51,10 @@ module _ {C R : Type 0} where
     pub workers : new.workers.items ≡ old.workers.items ++ flat_map worker_in dones
     pub clients : new.clients.items ≡ old.clients.items ++ flat_map client_in dones
     pub clocks : new.clocks.items ≡ old.clocks.items ++ flat_map clock_of_done dones
+
+  pub record IsEmpty (e : Ends C R) : Type 0 where
+    pub actors : e.actors.items ≡ []
+    pub scripts : e.scripts.items ≡ []
+    pub workers : e.workers.items ≡ []
+    pub clients : e.clients.items ≡ []
+    pub clocks : e.clocks.items ≡ []

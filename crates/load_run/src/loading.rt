@@ -1,0 +1,108 @@
+//! A load, from its seed to its summary.
+
+ghost use Rattle.std.specs.Prelude.{◌≡◌, ◌++◌, length, OnOk, OnErr};
+
+use crate::fault::LoadFault;
+use crate::playing::{Played, play};
+use crate::rooms::rooms;
+use crate::sorting::Ends;
+use crate::summing::{Senders, sum_up};
+use crate::writing::write_out;
+use gate_outside::clocks::Clock;
+use gate_outside::faults::Fault;
+use gate_outside::spawners::Spawner;
+use gate_outside::streams::Sink;
+use load_parts::LoadPart;
+use load_stage::stage;
+use std::alloc::Global;
+use std::sync::Wait;
+use std::time;
+
+// The fault of a sink, as a fault of a load.
+impl From<Fault> for LoadFault {
+    ghost use Rattle.std.specs.Prelude.{◌≡◌};
+    ghost use Rattle.load_run.specs.Faults.{by_sink};
+
+    ghost from_gives = { λ f e. e ≡ by_sink f };
+
+    fn from(fault: Fault) -> LoadFault {
+        match fault {
+            Fault::Failed => LoadFault::Write,
+            Fault::Memory => LoadFault::Memory,
+        }
+    }
+}
+
+// Sums up what the parts have left, and writes it.
+fn finish<C: Drop, R: Wait + Copy + Drop, K: Sink>(
+    alloc: Global,
+    seed: u64,
+    posts: Posts<R>,
+    senders: Senders<R>,
+    clients: Vec<EndedClient>,
+    sink: &mut K,
+) -> Result<(), LoadFault> {
+    let text = sum_up(alloc, seed, posts.as_slice(), senders, clients)?;
+    write_out(sink, text.as_str())?;
+    Ok(())
+}
+
+/// Runs a load with this seed: four scripts, two actors, three workers and twelve clients at once, each started
+/// by the team, over doors in memory. When all have ended it writes the summary. It gives the clocks back.
+///
+/// # Errors
+/// That of several which comes first in the order of `LoadFault`. Unless the sink failed, or memory ran out
+/// while the summary was written, nothing was written.
+pub fn load<
+    C: Clock + Drop,
+    R: Wait + time::Clock + Copy + Drop,
+    S: Spawner<LoadPart<C, R>>,
+    K: Sink,
+>(
+    rt: R,
+    alloc: Global,
+    seed: u64,
+    clocks: Vec<C>,
+    team: &mut S,
+    sink: &mut K,
+) -> (Vec<C>, Result<(), LoadFault>)
+    requires { length clocks.items ≡ 15 }
+{
+    let Ok(rooms) = rooms(alloc) else {
+        return (clocks, Err(LoadFault::Memory));
+    };
+    let Ok(started) = Vec::with_capacity(alloc, PARTS) else {
+        drop(rooms);
+        return (clocks, Err(LoadFault::Memory));
+    };
+    let stage = match stage(rt, alloc, seed, clocks) {
+        Ok(stage) => stage,
+        Err(clocks) => {
+            drop(rooms);
+            started.destroy_empty();
+            return (clocks, Err(LoadFault::Memory));
+        }
+    };
+    let Played { posts, ends, fault } = play(team, stage, rooms, started);
+    let Ends {
+        actors,
+        scripts,
+        workers,
+        clients,
+        clocks,
+    } = ends;
+    let senders = Senders {
+        actors,
+        scripts,
+        workers,
+    };
+    match fault {
+        Some(fault) => {
+            drop(senders);
+            drop(clients);
+            drop(posts);
+            (clocks, Err(fault))
+        }
+        None => (clocks, finish(alloc, seed, posts, senders, clients, sink)),
+    }
+}
