@@ -1,3 +1,4 @@
+pub mod Zips
 pub mod Writers
 pub mod Sealed
 pub mod Senders
@@ -5,3 +6,6 @@ pub mod Workers
 pub mod Actors
 pub mod Settling
 pub mod Clients
+pub mod Staged
+pub mod Faults
+pub mod Played

@@ -28,16 +28,11 @@ use Rattle.load_run.specs.declared.sorting.WorkerEnd.{WorkerEnd}
 use Rattle.load_run.specs.Ends.{HasSentAll, HasServed}
 use Rattle.load_run.specs.Joined.{Joined, ActorEnds, WorkerEnds}
 use Rattle.load_run.specs.Loads.{AreLogs, WorkerRan, sendings}
+use Rattle.load_run.proofs.Zips.{many_zip}
 use Rattle.load_run.proofs.Writers.{Writer, Log, guild_of, all_logs, all_sealed, guilds_same, guilds_new, ascending, IsSealedOf}
 use Rattle.load_run.proofs.Senders.{script_passes, worker_passes, scripts_sent, workers_sent, all_served, many_wished, AllServed}
 use Rattle.load_run.proofs.Workers.{readers, have_logs, all_ran}
 use Rattle.load_run.proofs.Actors.{of_actors, two_of, both_posts, acted}
-
-many_zip : {A B : Type 0} (R : A → B → Type 0) (xs : List A) (ys : List B) → AllZip R xs ys → length ys ≡ length xs
-many_zip R [] [] h = refl
-many_zip R [] (y ∷ ys) h = elim h [ ]
-many_zip R (x ∷ xs) [] h = elim h [ ]
-many_zip R (x ∷ xs) (y ∷ ys) h = ap suc (many_zip R xs ys h.1)
 
 module _ {R : Type 0} (seed : ℕ) (posts : List PostId) (actors : List (ActorDone R)) (scripts : List ScriptDone) (workers : List (WorkerEnd R)) (j : Joined seed posts actors scripts workers)
     (front : List (ActorDone R)) (first second : ActorDone R) (both : actors ≡ front ++ first ∷ second ∷ []) (r0 r1 : ActReport R) (ran0 : first.ending ≡ Ran (Ok r0)) (ran1 : second.ending ≡ Ran (Ok r1))

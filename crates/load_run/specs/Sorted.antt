@@ -1,40 +1,25 @@
 -- The ended parts of a load, by their kinds.
-use Rattle.std.specs.Prelude.{◌≡◌, ℕ, ◌+◌, ◌≤◌, List, [], ◌∷◌, ◌++◌, flat_map, length}
+use Rattle.std.specs.Prelude.{◌≡◌, ℕ, ◌+◌, ◌≤◌, List, [], ◌++◌, map, flat_map}
 use Rattle.std.specs.Vec.{vec_len, vec_capacity}
-use Rattle.gate_parts.specs.declared.actor_part.ActorDone.{ActorDone}
-use Rattle.gate_parts.specs.declared.script_part.ScriptDone.{ScriptDone}
+use Rattle.thread_outside.specs.DialledDoors.{DialledState}
+use Rattle.thread_outside.specs.declared.kept_notes.KeptNotes.{KeptNotes}
+use Rattle.worker_core.specs.declared.io.Input.{Input}
+use Rattle.gate_parts.specs.declared.worker_part.WorkerDone.{WorkerDone}
 use Rattle.load_client.specs.declared.ended_client.EndedClient.{EndedClient}
+use Rattle.load_parts.specs.declared.client_part.ClientDone.{ClientDone}
 use Rattle.load_parts.specs.declared.load_part.LoadDone.{LoadDone}
-use Rattle.load_parts.specs.declared.load_part.LoadDone.TheVariants.{Actor, Script, Worker, Client}
+use Rattle.load_parts.specs.Kinds.{actor_of, script_of, worker_of, client_of}
 use Rattle.load_run.specs.declared.sorting.WorkerEnd.{WorkerEnd}
 use Rattle.load_run.specs.declared.sorting.Ends.{Ends}
 use Rattle.load_run.specs.Ends.{clock_of_done}
 
 module _ {C R : Type 0} where
-  abbrev pub actor_in : LoadDone C R → List (ActorDone R)
-  actor_in (Actor d) = d ∷ []
-  actor_in (Script d) = []
-  actor_in (Worker d) = []
-  actor_in (Client d) = []
+  -- a worker without its clock
+  abbrev pub end_of : WorkerDone DialledState C (KeptNotes Input) → WorkerEnd R
+  end_of d = record { ending = d.ending; door = d.door; readers = d.readers; passes = d.passes; notes = d.notes }
 
-  abbrev pub script_in : LoadDone C R → List ScriptDone
-  script_in (Actor d) = []
-  script_in (Script d) = d ∷ []
-  script_in (Worker d) = []
-  script_in (Client d) = []
-
-  -- without its clock
-  abbrev pub worker_in : LoadDone C R → List (WorkerEnd R)
-  worker_in (Actor d) = []
-  worker_in (Script d) = []
-  worker_in (Worker d) = record { ending = d.ending; door = d.door; readers = d.readers; passes = d.passes; notes = d.notes } ∷ []
-  worker_in (Client d) = []
-
-  abbrev pub client_in : LoadDone C R → List EndedClient
-  client_in (Actor d) = []
-  client_in (Script d) = []
-  client_in (Worker d) = []
-  client_in (Client d) = d.ended ∷ []
+  abbrev pub ended_of : ClientDone C → EndedClient
+  ended_of d = d.ended
 
   -- so many items more find room in each of the lists
   pub record HasRoom (more : ℕ) (e : Ends C R) : Type 0 where
@@ -46,10 +31,10 @@ module _ {C R : Type 0} where
 
   -- what these parts have left was added, kind by kind
   pub record Sorts (dones : List (LoadDone C R)) (old new : Ends C R) : Type 0 where
-    pub actors : new.actors.items ≡ old.actors.items ++ flat_map actor_in dones
-    pub scripts : new.scripts.items ≡ old.scripts.items ++ flat_map script_in dones
-    pub workers : new.workers.items ≡ old.workers.items ++ flat_map worker_in dones
-    pub clients : new.clients.items ≡ old.clients.items ++ flat_map client_in dones
+    pub actors : new.actors.items ≡ old.actors.items ++ flat_map actor_of dones
+    pub scripts : new.scripts.items ≡ old.scripts.items ++ flat_map script_of dones
+    pub workers : new.workers.items ≡ old.workers.items ++ map end_of (flat_map worker_of dones)
+    pub clients : new.clients.items ≡ old.clients.items ++ map ended_of (flat_map client_of dones)
     pub clocks : new.clocks.items ≡ old.clocks.items ++ flat_map clock_of_done dones
 
   pub record IsEmpty (e : Ends C R) : Type 0 where
