@@ -6,6 +6,14 @@ mod agreeing;
 mod ends;
 mod fault;
 mod faults;
+mod loading;
+mod parts;
+mod playing;
+mod rooms;
 mod running;
+mod sorting;
+mod summing;
+mod writing;
 
 pub use fault::LoadFault;
+pub use loading::load;

@@ -5,13 +5,10 @@ ghost use Rattle.std.specs.Vec.{vec_len, vec_capacity};
 ghost use Rattle.load_parts.specs.declared.load_part.LoadPart.TheVariants.{Actor, Script, Worker, Client};
 ghost use Rattle.load_run.specs.Parts.{all_parts};
 
-use gate_parts::{ActorPart, ScriptPart, WorkerPart};
-use load_parts::{ClientPart, LoadPart};
+use gate_parts::{ActorPart, ScriptPart};
+use load_parts::{ClientPart, DoorWorker, LoadPart};
 use std::sync::Wait;
 use team_run::add;
-use thread_outside::dialled_door::DialledDoor;
-use thread_outside::kept_notes::KeptNotes;
-use worker_core::Input;
 
 fn add_actors<C: Drop, R: Wait + Copy + Drop>(
     parts: &mut Vec<LoadPart<C, R>>,
@@ -43,7 +40,7 @@ fn add_scripts<C: Drop, R: Wait + Copy + Drop>(
 
 fn add_workers<C: Drop, R: Wait + Copy + Drop>(
     parts: &mut Vec<LoadPart<C, R>>,
-    mut workers: Vec<WorkerPart<DialledDoor<R>, C, KeptNotes<Input>, R>>,
+    mut workers: Vec<DoorWorker<C, R>>,
 )
     requires room { vec_len parts.old + length workers.items ≤ vec_capacity parts.old }
     ensures items { parts.new.items ≡ parts.old.items ++ map Worker workers.items }
@@ -75,7 +72,7 @@ pub fn add_parts<C: Drop, R: Wait + Copy + Drop>(
     parts: &mut Vec<LoadPart<C, R>>,
     actors: Vec<ActorPart<R>>,
     scripts: Vec<ScriptPart<R>>,
-    workers: Vec<WorkerPart<DialledDoor<R>, C, KeptNotes<Input>, R>>,
+    workers: Vec<DoorWorker<C, R>>,
     clients: Vec<ClientPart<C, R>>,
 )
     requires room { vec_len parts.old + (length actors.items + (length scripts.items + (length workers.items + length clients.items))) ≤ vec_capacity parts.old }

@@ -1,15 +1,15 @@
 //! What each kind of parts of a load has left.
 
 ghost use Rattle.std.specs.Prelude.{◌≡◌, ◌+◌, ◌≤◌, ◌++◌, ◌∷◌, [], ℕ, flat_map, length};
-ghost use Rattle.std.specs.Vec.{vec_len, vec_capacity};
 ghost use Rattle.load_run.specs.Sorted.{HasRoom, Sorts};
+ghost use Rattle.load_run.specs.Ends.{clock_of_part};
 ghost use Rattle.load_parts.specs.declared.load_part.LoadDone.TheVariants.{Worker, Client};
 
 use edit_post::SendPass;
-use gate_parts::{ActorDone, Ending, ScriptDone, WorkerDone};
+use gate_parts::{ActorDone, Ending, ScriptDone, WorkerDone, WorkerPart};
 use guild_hub::HubReader;
 use load_client::EndedClient;
-use load_parts::{ClientDone, LoadDone, LoadPart};
+use load_parts::{ClientDone, ClientPart, DoorWorker, DoorWorkerDone, LoadDone, LoadPart};
 use snowflake_id::Snowflake;
 use std::sync::Wait;
 use team_run::add;
@@ -29,7 +29,8 @@ pub struct WorkerEnd<R: Wait + Copy + Drop> {
 }
 
 /// What the parts of each kind have left, in their order, and the clocks of all.
-pub struct Ends<C, R: Wait + Copy + Drop> {
+#[derive(Drop)]
+pub struct Ends<C: Drop, R: Wait + Copy + Drop> {
     pub actors: Vec<ActorDone<R>>,
     pub scripts: Vec<ScriptDone>,
     pub workers: Vec<WorkerEnd<R>>,
@@ -37,9 +38,53 @@ pub struct Ends<C, R: Wait + Copy + Drop> {
     pub clocks: Vec<C>,
 }
 
-impl<C, R: Wait + Copy + Drop> Ends<C, R> {
+// The clock of a worker that was not started.
+fn clock_of_worker<C: Drop, R: Wait + Copy + Drop>(part: DoorWorker<C, R>) -> C
+    ensures { result ≡ part.clock }
+{
+    let WorkerPart {
+        worker,
+        door,
+        clock,
+        readers,
+        posts,
+        passes,
+        notes,
+        word,
+        seat,
+        ..
+    } = part;
+    drop(worker);
+    drop(door);
+    drop(readers);
+    drop(posts);
+    drop(passes);
+    drop(notes);
+    drop(word);
+    drop(seat);
+    clock
+}
+
+// The clock of a client that was not started.
+fn clock_of_client<C: Drop, R: Wait + Copy + Drop>(part: ClientPart<C, R>) -> C
+    ensures { result ≡ part.clock }
+{
+    let ClientPart {
+        client,
+        dial,
+        clock,
+        word,
+        ..
+    } = part;
+    drop(client);
+    drop(dial);
+    drop(word);
+    clock
+}
+
+impl<C: Drop, R: Wait + Copy + Drop> Ends<C, R> {
     // Adds what a worker has left.
-    fn add_worker(&mut self, done: WorkerDone<DialledDoor<R>, C, KeptNotes<Input>>)
+    fn add_worker(&mut self, done: DoorWorkerDone<C, R>)
         requires { HasRoom 1 self.old }
         ensures sorts { Sorts (Worker done ∷ []) self.old self.new }
         ensures room { (more : ℕ) → HasRoom (more + 1) self.old → HasRoom more self.new }
@@ -102,5 +147,32 @@ impl<C, R: Wait + Copy + Drop> Ends<C, R> {
             self.add_done(done);
         }
         dones.destroy_empty();
+    }
+
+    // Adds the clock of a part that was not started.
+    fn add_part(&mut self, part: LoadPart<C, R>)
+        requires { HasRoom 1 self.old }
+        ensures same { self.new ≡ record self.old { clocks = self.new.clocks } }
+        ensures clocks { self.new.clocks.items ≡ self.old.clocks.items ++ clock_of_part part }
+        ensures room { (more : ℕ) → HasRoom (more + 1) self.old → HasRoom more self.new }
+    {
+        match part {
+            LoadPart::Actor(part) => drop(part),
+            LoadPart::Script(part) => drop(part),
+            LoadPart::Worker(part) => add(&mut self.clocks, clock_of_worker(part)),
+            LoadPart::Client(part) => add(&mut self.clocks, clock_of_client(part)),
+        }
+    }
+
+    /// Adds the clocks of parts that were not started. It does not allocate: the caller has made the room.
+    pub fn add_back(&mut self, mut parts: Vec<LoadPart<C, R>>)
+        requires { HasRoom (length parts.items) self.old }
+        ensures same { self.new ≡ record self.old { clocks = self.new.clocks } }
+        ensures clocks { length self.new.clocks.items ≡ length self.old.clocks.items + length (flat_map clock_of_part parts.items) }
+        ensures room { (more : ℕ) → HasRoom (more + length parts.items) self.old → HasRoom more self.new }
+    {
+        while let Some(part) = parts.pop() {
+            self.add_part(part);
+        }
     }
 }

@@ -1,2 +1,3 @@
 pub mod Sendings
 pub mod Merging
+pub mod Passes
