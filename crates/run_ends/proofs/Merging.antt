@@ -1,7 +1,7 @@
 -- The logs of the guilds, by what was taken of the senders.
-use Rattle.std.proofs.Common.{◌≡◌, ℕ, zero, suc, ◌+◌, ◌%◌, ◌<◌, ◌==◌, true, Option, Some, List, [], ◌∷◌, ◌++◌, map, take, length, get_or, slice_get, not-suc-le-zero, sym, refl, ap, ap₂, ◌∙◌, subst, arith}
+use Rattle.std.proofs.Common.{◌≡◌, ℕ, ◌+◌, ◌<◌, Option, Some, List, [], ◌∷◌, ◌++◌, map, length, get_or, slice_get, sym, refl, ap, ap₂, ◌∙◌, subst, arith}
 use Rattle.std.specs.Prelude.{IfSome, IsSomeAnd}
-use Rattle.std.specs.List.{All, position, range_with_len}
+use Rattle.std.specs.List.{All, range_with_len}
 use Rattle.std.proofs.lemmas.List.{length-map, get_or-map}
 use Rattle.std.proofs.lemmas.List.Elements.{All-nil, All-cons, All-head, All-tail, All-map, All-same, All-weaker}
 use Rattle.std.proofs.lemmas.Option.{slice_get-get_or}
@@ -10,7 +10,7 @@ use Rattle.edit_post.specs.Merge.{Merge}
 use Rattle.edit_post.specs.Post.{PostId, Sender, Taker, new_sender, after_end, ended_lists}
 use Rattle.edit_post.specs.Requests.{requests_of}
 use Rattle.guild_hub.specs.Writes.{Publishing}
-use Rattle.guild_actor.specs.Acts.{edits_of, most, sealed_log}
+use Rattle.guild_actor.specs.Acts.{edits_of, sealed_log}
 use Rattle.guild_posts.specs.Posts.{edits_by, sent_all, post_of}
 use Rattle.guild_posts.proofs.Sent.{sent_at, sent_length, sent_sender, sent_posts}
 use Rattle.load_settle.specs.Passes.{IsTakenWhole}
@@ -36,13 +36,13 @@ taken_for posts guilds number ws passes takers t q guild has whole is lt of =
     let lt'' : q < length has.sent = omega (arith, lt', many_sent) in
     let es = edits_by guilds (length first) q ws in
     let one : get_or has.sent q d ≡ sent_all begun es =
-        sent_at guilds ws first has.sent has.are q d lt'
-        ∙ ap (λ s. sent_all s es) (get_or-map (λ post. new_sender post number) posts q t.post d lt) in
+    sent_at guilds ws first has.sent has.are q d lt'
+    ∙ ap (λ s. sent_all s es) (get_or-map (λ post. new_sender post number) posts q t.post d lt) in
     let y : Sender = after_end (sent_all begun es) in
     let at_place : slice_get passes q ≡ Some y =
-        ap (λ l. slice_get l q) has.ended
-        ∙ slice_get-get_or (map after_end has.sent) q d (omega (arith, lt'', length-map has.sent after_end))
-        ∙ ap Some (get_or-map after_end has.sent q d d lt'' ∙ ap after_end one) in
+    ap (λ l. slice_get l q) has.ended
+    ∙ slice_get-get_or (map after_end has.sent) q d (omega (arith, lt'', length-map has.sent after_end))
+    ∙ ap Some (get_or-map after_end has.sent q d d lt'' ∙ ap after_end one) in
     let taken : IsTakenWhole takers (q, y) = subst (λ o. IfSome o (λ (s : Sender). IsTakenWhole takers (q, s))) at_place (whole q) in
     let of_this : requests_of y.sender t.taken ≡ y.sent = subst (λ (o : Option Taker). IsSomeAnd o (λ (u : Taker). requests_of y.sender u.taken ≡ y.sent)) is taken in
     let same : y.sender ≡ number = sent_sender begun es in

@@ -2,7 +2,7 @@ use Rattle.std.proofs.Common.{◌≡◌, ◌≤◌, ◌++◌, List, length, All}
 use Rattle.edit_post.specs.Post.{PostId, Sender, Taker}
 use Rattle.load_settle.specs.Passes.{HasEndedAt, IsTakenWhole}
 use Rattle.run_ends.specs.Senders.{HaveEnded}
-use Rattle.run_ends.proofs.Passes.{WholeFrom}
+use Rattle.run_ends.proofs.Ending.{WholeFrom}
 use Rattle.run_ends.proofs.passes.add_passes.Given as goal
 
 abbrev pub invariant-loop-pass : goal.invariant-loop-pass

@@ -1,4 +1,4 @@
-use Rattle.std.proofs.Common.{◌≡◌, ◌++◌, [], length, reverse}
+use Rattle.std.proofs.Common.{◌≡◌, ◌++◌, length, reverse}
 use Rattle.run_ends.specs.Lists.{woven}
 use Rattle.run_ends.proofs.weaving.weave.Given as goal
 
