@@ -1,0 +1,10 @@
+//! Many tasks over one spawner: all are started before any is finished, and no task that was started is
+//! lost.
+#![tactic(auto)]
+
+mod adding;
+mod finishing;
+mod starting;
+
+pub use finishing::finish_all;
+pub use starting::start_all;
