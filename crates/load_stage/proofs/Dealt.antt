@@ -1,8 +1,6 @@
--- Items that are dealt one by one.
-use Rattle.std.proofs.Common.{◌≡◌, ℕ, zero, suc, ◌+◌, ◌-◌, ◌<◌, List, [], ◌∷◌, ◌++◌, map, take, drop, length, refl, sym, ap, subst, ◌∙◌, arith, append_assoc}
-use Rattle.std.specs.Prelude.{Some, None, slice_get}
-use Rattle.std.specs.List.{range_with_len, AllZip}
-use Rattle.load_stage.specs.Dealing.{evens, odds, paired, in_turn, AreFrom, IsAt}
+-- Lists that are dealt to several holders in turn.
+use Rattle.std.proofs.Common.{◌≡◌, ℕ, List, [], ◌∷◌, ◌++◌, map, take, drop, refl, sym, ap, ◌∙◌, append_assoc}
+use Rattle.load_stage.specs.Dealing.{evens, odds, woven, paired}
 
 pub evens_on : {X : Type 0} (xs : List X) → evens xs ≡ take 1 xs ++ evens (drop 1 (drop 1 xs))
 evens_on [] = refl
@@ -18,3 +16,23 @@ odds_on (x ∷ y ∷ xs) = refl
 pub on : {X : Type 0} (old new more rest rest_after whole : List X) → new ≡ old ++ more → rest ≡ more ++ rest_after → old ++ rest ≡ whole → new ++ rest_after ≡ whole
 on old new more rest rest_after whole n r w =
     ap (λ l. l ++ rest_after) n ∙ append_assoc old more rest_after ∙ ap (λ l. old ++ l) (sym r) ∙ w
+
+-- what was dealt in turn, woven again, is the list
+pub woven_back : {X : Type 0} (xs : List X) → woven (evens xs) (odds xs) ≡ xs
+woven_back [] = refl
+woven_back (x ∷ []) = refl
+woven_back (x ∷ y ∷ xs) = ap (λ l. x ∷ y ∷ l) (woven_back xs)
+
+pub map-evens : {X Y : Type 0} (f : X → Y) (xs : List X) → map f (evens xs) ≡ evens (map f xs)
+map-evens f [] = refl
+map-evens f (x ∷ []) = refl
+map-evens f (x ∷ y ∷ xs) = ap (λ l. f x ∷ l) (map-evens f xs)
+
+pub map-odds : {X Y : Type 0} (f : X → Y) (xs : List X) → map f (odds xs) ≡ odds (map f xs)
+map-odds f [] = refl
+map-odds f (x ∷ []) = refl
+map-odds f (x ∷ y ∷ xs) = ap (λ l. f y ∷ l) (map-odds f xs)
+
+pub paired-map : {X Y : Type 0} (f g : X → Y) (xs : List X) → paired (map f xs) (map g xs) ≡ map (λ x. f x ∷ g x ∷ []) xs
+paired-map f g [] = refl
+paired-map f g (x ∷ xs) = ap (λ l. (f x ∷ g x ∷ []) ∷ l) (paired-map f g xs)

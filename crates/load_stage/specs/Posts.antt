@@ -19,8 +19,8 @@ abbrev pub ArePassesOf : List PostId → ℕ → Vec Sender Global → Type 0
 ArePassesOf posts sender passes = passes.items ≡ new_passes posts sender
 
 -- the passes of two actors and seven senders at two posts
-pub record HasPosts (posts : List PostId) (first second : Taker) (passes : List (Vec Sender Global)) : Type 0 where
+pub record HasPosts (posts : List PostId) (takers : Taker × Taker) (passes : List (Vec Sender Global)) : Type 0 where
   pub two : length posts ≡ 2
-  pub first_is : IsTakerOf posts 0 first
-  pub second_is : IsTakerOf posts 1 second
+  pub first_is : IsTakerOf posts 0 takers.0
+  pub second_is : IsTakerOf posts 1 takers.1
   pub passes_are : AreFrom (ArePassesOf posts) 0 7 passes

@@ -1,41 +1,35 @@
 //! The parts of the two actors.
 
-ghost use Rattle.std.specs.Prelude.{◌≡◌, ◌∷◌, ◌++◌, [], length, OnOk};
-ghost use Rattle.edit_post.specs.Post.{PostId};
-ghost use Rattle.atomic_table.specs.Seated.{TableId};
+ghost use Rattle.std.specs.Prelude.{◌≡◌, [], IfOk, OnOk};
 ghost use Rattle.gate_parts.specs.Ready.{CanAct};
-ghost use Rattle.guild_hub.specs.Writes.{Publishing};
 ghost use Rattle.load_stage.specs.Dealing.{AreFrom};
-ghost use Rattle.load_stage.specs.Parts.{IsActor, Acts};
+ghost use Rattle.load_stage.specs.Hubs.{IsNewWriter};
+ghost use Rattle.load_stage.specs.Parts.{IsActor};
+ghost use Rattle.load_stage.specs.Posts.{IsTakerOf};
+ghost use Rattle.load_stage.specs.Seats.{HasSeats};
 
+use crate::dealing::deal_in_two;
 use crate::ground::Ground;
+use crate::seats::Seats;
 use edit_post::TakePass;
 use gate_parts::ActorPart;
 use guild_hub::HubWriter;
 use snowflake_id::Snowflake;
 use std::alloc::AllocError;
-use std::collections::VecDeque;
 use std::sync::Wait;
 use stop_flag::StopSeat;
 
-/// What an actor alone has.
-#[derive(Drop)]
-pub(crate) struct Acting<R: Wait + Drop> {
-    pub place: usize,
-    pub pass: TakePass,
-    pub writers: Vec<(Snowflake, HubWriter<R>)>,
-}
-
 // The part of an actor.
-fn part_of<R: Wait + Copy + Drop>(
+fn actor_part<R: Wait + Copy + Drop>(
     ground: Ground<R>,
-    acting: Acting<R>,
+    place: usize,
+    pass: TakePass,
+    writers: Vec<(Snowflake, HubWriter<R>)>,
     seat: StopSeat,
 ) -> ActorPart<R>
-    requires { CanAct ground.posts acting.place acting.pass acting.writers.items }
-    ensures shared { result.posts ≡ ground.posts }
-    ensures own { (result.place ≡ acting.place) × (result.pass ≡ acting.pass) × (result.writers ≡ acting.writers) }
-    ensures seat { result.seat ≡ seat }
+    requires { CanAct ground.posts place pass writers.items }
+    ensures posts { result.posts ≡ ground.posts }
+    ensures own { (result.place ≡ place) × (result.pass ≡ pass) × (result.writers ≡ writers) × (result.seat ≡ seat) }
 {
     let Ground {
         rt,
@@ -43,11 +37,6 @@ fn part_of<R: Wait + Copy + Drop>(
         posts,
         word,
     } = ground;
-    let Acting {
-        place,
-        pass,
-        writers,
-    } = acting;
     ActorPart {
         rt,
         alloc,
@@ -60,21 +49,45 @@ fn part_of<R: Wait + Copy + Drop>(
     }
 }
 
-/// Adds the part of an actor.
+// The part of an actor, with a share of what all parts share.
+fn actor<R: Wait + Copy + Drop>(
+    ground: &Ground<R>,
+    place: usize,
+    pass: TakePass,
+    writers: Vec<(Snowflake, HubWriter<R>)>,
+    seat: StopSeat,
+) -> Result<ActorPart<R>, AllocError>
+    requires { CanAct ground.now.posts place pass writers.items }
+    ensures posts { IfOk result (λ part. part.posts ≡ ground.now.posts) }
+    ensures own { IfOk result (λ part. (part.place ≡ place) × (part.pass ≡ pass) × (part.writers ≡ writers) × (part.seat ≡ seat)) }
+{
+    let ground = ground.share()?;
+    Ok(actor_part(ground, place, pass, writers, seat))
+}
+
+/// Adds the parts of both actors, to which the writers are dealt in turn.
 ///
 /// # Errors
 /// Out of memory.
-pub(crate) fn add_actor<R: Wait + Copy + Drop>(
+pub(crate) fn add_actors<R: Wait + Copy + Drop>(
     ground: &Ground<R>,
-    acting: Acting<R>,
-    seat: StopSeat,
+    takers: (TakePass, TakePass),
+    writers: Vec<(Snowflake, HubWriter<R>)>,
+    seats: &mut Seats,
     parts: &mut Vec<ActorPart<R>>,
 ) -> Result<(), AllocError>
-    requires { CanAct ground.now.posts acting.place acting.pass acting.writers.items }
-    ensures { OnOk result ((part : ActorPart R) × (parts.new.items ≡ parts.old.items ++ part ∷ []) × (part.posts ≡ ground.now.posts)
-        × (part.place ≡ acting.place) × (part.pass ≡ acting.pass) × (part.writers ≡ acting.writers) × (part.seat ≡ seat)) }
+    requires takers { IsTakerOf ground.now.posts 0 takers.0 × IsTakerOf ground.now.posts 1 takers.1 }
+    requires writers { AreFrom IsNewWriter 1 8 writers.items }
+    requires seats { HasSeats 0 22 seats.old }
+    requires none { parts.old.items ≡ [] }
+    ensures seats { OnOk result (HasSeats 2 20 seats.new × (seats.new.keeper ≡ seats.old.keeper)) }
+    ensures parts { OnOk result (AreFrom (IsActor ground.now.posts seats.old.keeper.flag writers.items) 0 2 parts.new.items) }
 {
-    let ground = ground.share()?;
-    parts.push(part_of(ground, acting, seat))?;
+    let (even, odd) = deal_in_two(ground.alloc, writers)?;
+    let (first, second) = takers;
+    let seat = seats.take_next();
+    parts.push(actor(ground, 0, first, even, seat)?)?;
+    let seat = seats.take_next();
+    parts.push(actor(ground, 1, second, odd, seat)?)?;
     Ok(())
 }

@@ -18,8 +18,7 @@ const SENDERS: u8 = 7;
 #[derive(Drop)]
 pub(crate) struct OpenPosts<R: Wait + Drop> {
     pub posts: Vec<Post<R>>,
-    pub first: TakePass,
-    pub second: TakePass,
+    pub takers: (TakePass, TakePass),
     pub passes: VecDeque<Vec<SendPass>>,
 }
 
@@ -57,7 +56,7 @@ pub(crate) fn open<R: Wait + Drop + Copy>(
     rt: R,
     alloc: Global,
 ) -> Result<OpenPosts<R>, AllocError>
-    ensures { IfOk result (λ o. HasPosts o.posts.items o.first o.second o.passes.items) }
+    ensures { IfOk result (λ o. HasPosts o.posts.items o.takers o.passes.items) }
 {
     let (post, senders, first) = open_post(rt, alloc)?;
     let (other_post, other_senders, second) = open_post(rt, alloc)?;
@@ -65,8 +64,7 @@ pub(crate) fn open<R: Wait + Drop + Copy>(
     let passes = pairs(alloc, senders, other_senders)?;
     Ok(OpenPosts {
         posts,
-        first,
-        second,
+        takers: (first, second),
         passes,
     })
 }
