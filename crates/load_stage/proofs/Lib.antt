@@ -1,2 +1,7 @@
 pub mod Dealt
 pub mod Numbered
+pub mod Passes
+pub mod Seated
+pub mod Written
+pub mod Dialled
+pub mod Staged

@@ -1,8 +1,9 @@
 -- Items by their numbers, and a list that is dealt from the front.
 use Rattle.std.proofs.Common.{◌≡◌, ℕ, zero, suc, ◌+◌, ◌-◌, ◌<◌, List, [], ◌∷◌, ◌++◌, map, take, drop, length, refl, sym, ap, ap₂, subst, ◌∙◌, arith, add-one, add-zero, zero-add}
-use Rattle.std.specs.Prelude.{Option, Some, None, slice_get}
+use Rattle.std.specs.Prelude.{Some, All, slice_get}
 use Rattle.std.specs.List.{range_with_len, AllZip}
 use Rattle.std.proofs.lemmas.List.{map-id}
+use Rattle.std.proofs.lemmas.List.Elements.{All-nil, All-cons}
 use Rattle.load_stage.specs.Dealing.{AreFrom, IsAt}
 
 module _ {X : Type 0} (Is : ℕ → X → Type 0) where
@@ -31,13 +32,14 @@ module _ {X : Type 0} (Is : ℕ → X → Type 0) where
   as_many first (suc count) [] all = absurd all
   as_many first (suc count) (x ∷ xs) all = ap suc (as_many (first + 1) count xs all.1)
 
-  -- the first item and those after it
-  pub first_of : (first count : ℕ) (xs ys : List X) (x : X) → AreFrom Is first count xs → xs ≡ x ∷ ys → Is first x × AreFrom Is (first + 1) (count - 1) ys
-  first_of first zero [] ys x all e = absurd (cc)
-  first_of first zero (y ∷ xs) ys x all e = absurd all
-  first_of first (suc count) xs ys x all e =
+  -- the first item, and those after it, whose numbers begin after its own
+  pub first_of : (first count later fewer : ℕ) (xs ys : List X) (x : X) → AreFrom Is first count xs → xs ≡ x ∷ ys → later ≡ first + 1 → fewer + 1 ≡ count
+      → Is first x × AreFrom Is later fewer ys
+  first_of first zero later fewer xs ys x all e l f = absurd (omega arith)
+  first_of first (suc count) later fewer xs ys x all e l f =
       let both : AreFrom Is first (suc count) (x ∷ ys) = subst (AreFrom Is first (suc count)) e all in
-      (both.0, subst (λ k. AreFrom Is (first + 1) k ys) (omega arith) both.1)
+      let same : count ≡ fewer = omega arith in
+      (both.0, subst (λ k. AreFrom Is k fewer ys) (sym l) (subst (λ k. AreFrom Is (first + 1) k ys) same both.1))
 
   -- the item at a place
   pub at_place : (first count : ℕ) (xs : List X) (place : ℕ) (x : X) → AreFrom Is first count xs → IsAt xs place x → Is (first + place) x
@@ -105,3 +107,19 @@ module _ {X : Type 0} (g : ℕ → X) where
       let here : Some x ≡ Some (g first) = at 0 (omega arith) ∙ ap (λ k. Some (g k)) (add-zero first) in
       let later : (k : ℕ) → k < count → slice_get xs k ≡ Some (g (first + 1 + k)) = λ k lt. at (suc k) (omega arith) ∙ ap (λ j. Some (g j)) (omega arith) in
       ap₂ (λ y ys. y ∷ ys) (cc) (by_places (first + 1) count xs (omega arith) later)
+
+  -- the same of the numbers from 0
+  pub from_zero : (count : ℕ) (xs : List X) → length xs ≡ count → ((k : ℕ) → k < count → slice_get xs k ≡ Some (g k)) → xs ≡ map g (range_with_len 0 count)
+  from_zero count xs long at = by_places 0 count xs long (λ k lt. at k lt ∙ ap (λ j. Some (g j)) (sym (zero-add k)))
+
+module _ {X : Type 0} (Is : ℕ → X → Type 0) where
+  -- the item at a place, where the numbers begin with 0
+  pub placed : (count : ℕ) (xs : List X) (place : ℕ) (x : X) → AreFrom Is 0 count xs → IsAt xs place x → Is place x
+  placed count xs place x all at = subst (λ k. Is k x) (zero-add place) (at_place Is 0 count xs place x all at)
+
+  -- what holds of each item
+  pub of_each : (P : X → Type 0) → ((n : ℕ) (x : X) → Is n x → P x) → (first count : ℕ) (xs : List X) → AreFrom Is first count xs → All P xs
+  of_each P f first zero [] all = All-nil P
+  of_each P f first zero (x ∷ xs) all = absurd all
+  of_each P f first (suc count) [] all = absurd all
+  of_each P f first (suc count) (x ∷ xs) all = All-cons P x xs (f first x all.0) (of_each P f (first + 1) count xs all.1)

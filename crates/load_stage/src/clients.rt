@@ -142,7 +142,9 @@ pub(crate) fn clocked_clients<C: Drop, R: Wait + Copy + Drop>(
     requires room { (parts.old.items ≡ []) × (12 ≤ vec_capacity parts.old) }
     ensures { AreFrom (IsClockedClient drafts.items clocks.old.items) 0 12 parts.new.items }
 {
-    for _ in 0..CLIENTS {
+    for number in 0..CLIENTS {
+        // Only the loop's invariant speaks of the number.
+        let _ = number;
         let draft = take_next(&mut drafts);
         let clock = take_next(clocks);
         parts.push_reserved(client_part(draft, clock));

@@ -1,9 +1,9 @@
 //! The hubs of the eight guilds of a load, each with a writer and a reader for each worker.
 
-ghost use Rattle.std.specs.Prelude.{◌≡◌, ◌∷◌, ◌++◌, [], length, IfOk, OnOk};
+ghost use Rattle.std.specs.Prelude.{◌≡◌, ℕ, ◌≤◌, ◌∷◌, ◌++◌, [], length, IfOk, OnOk};
 ghost use Rattle.guild_hub.specs.Sights.{Seeing};
-ghost use Rattle.load_maker.specs.Edits.{guild_id};
-ghost use Rattle.load_stage.specs.Hubs.{HasHubs, HasReaders, IsNewWriter, new_reader};
+ghost use Rattle.guild_hub.specs.Writes.{Publishing};
+ghost use Rattle.load_stage.specs.Hubs.{HasHubs, HasReaders, IsNewWriter};
 
 use crate::dealing::take_next;
 use guild_hub::{HubReader, HubWriter, hub};
@@ -72,7 +72,7 @@ impl<R: Wait + Drop> Hubs<R> {
     // Opens the hub of a guild. On an `Err` some of its ends may be missing.
     fn open_guild(&mut self, rt: R, alloc: Global, number: u8) -> Result<(), AllocError>
         requires { HasReaders self.old.writers.items self.old.readers }
-        ensures writer { OnOk result ((w : Writer) × IsNewWriter number w × (self.new.writers.items ≡ self.old.writers.items ++ w ∷ [])) }
+        ensures writer { OnOk result ((w : ℕ × Publishing) × IsNewWriter number w × (self.new.writers.items ≡ self.old.writers.items ++ w ∷ [])) }
         ensures readers { OnOk result (HasReaders self.new.writers.items self.new.readers) }
     {
         let guild = Snowflake(u64::from(number) * ID_STEP);

@@ -158,7 +158,9 @@ pub(crate) fn clocked_workers<C: Drop, R: Wait + Copy + Drop>(
     ensures clocks { clocks.new.items ≡ drop 3 clocks.old.items }
     ensures parts { AreFrom (IsClockedWorker drafts.items clocks.old.items) 0 3 parts.new.items }
 {
-    for _ in 0..WORKERS {
+    for number in 0..WORKERS {
+        // Only the loop's invariant speaks of the number.
+        let _ = number;
         let draft = take_next(&mut drafts);
         let clock = take_next(clocks);
         parts.push_reserved(worker_part(draft, clock));
