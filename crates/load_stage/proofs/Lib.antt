@@ -1,7 +1,9 @@
 pub mod Dealt
 pub mod Numbered
+pub mod Posted
 pub mod Passes
 pub mod Seated
+pub mod Opened
 pub mod Written
 pub mod Dialled
 pub mod Staged

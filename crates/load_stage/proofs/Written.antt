@@ -2,7 +2,6 @@
 use Rattle.std.proofs.Common.{◌≡◌, ℕ, zero, suc, ◌+◌, ◌<◌, false, List, [], ◌∷◌, ◌++◌, map, length, refl, sym, ap, ap₂, subst, ◌∙◌, arith}
 use Rattle.std.specs.Prelude.{Option, Some, None, All, option_map, slice_get}
 use Rattle.std.specs.List.{range_with_len, AllZip}
-use Rattle.std.proofs.lemmas.List.{map_push}
 use Rattle.std.proofs.lemmas.List.Elements.{All-nil, All-cons}
 use Rattle.edit_post.specs.Post.{PostId, Sender, Taker, new_taker}
 use Rattle.guild_hub.specs.Logs.{published}
@@ -13,9 +12,8 @@ use Rattle.guild_places.specs.Places.{AreDistinct, guilds_of}
 use Rattle.worker_run.specs.Hubs.{IsReader}
 use Rattle.gate_parts.specs.Ready.{CanAct, CanWork}
 use Rattle.load_maker.specs.Edits.{guild_id}
-use Rattle.load_stage.specs.declared.hubs.Readers.{Readers}
 use Rattle.load_stage.specs.Dealing.{AreFrom, evens, odds, dealt_to}
-use Rattle.load_stage.specs.Hubs.{guild_ids, IsNewWriter, IsReaderOf, new_reader, HasReaders}
+use Rattle.load_stage.specs.Hubs.{guild_ids, IsNewWriter, IsReaderOf, new_reader}
 use Rattle.load_stage.specs.Posts.{IsTakerOf, new_passes}
 use Rattle.load_stage.proofs.Dealt.{map-evens, map-odds}
 use Rattle.load_stage.proofs.Numbered.{to_map, weaker}
@@ -26,17 +24,6 @@ Writer = ℕ × Publishing
 
 abbrev Reader : Type 0
 Reader = ℕ × Seeing
-
--- one writer more, and a reader for each worker
-pub readers_more : (writers more : List Writer) (w : Writer) (old new : Readers) → HasReaders writers old → more ≡ writers ++ w ∷ []
-    → (new.first.items ≡ old.first.items ++ new_reader w ∷ []) × (new.second.items ≡ old.second.items ++ new_reader w ∷ []) × (new.third.items ≡ old.third.items ++ new_reader w ∷ [])
-    → HasReaders more new
-readers_more writers more w old new has m added =
-    subst (λ l. HasReaders l new) (sym m) (record {
-      first = added.0 ∙ ap (λ l. l ++ new_reader w ∷ []) has.first ∙ sym (map_push new_reader writers w);
-      second = added.1 ∙ ap (λ l. l ++ new_reader w ∷ []) has.second ∙ sym (map_push new_reader writers w);
-      third = added.2 ∙ ap (λ l. l ++ new_reader w ∷ []) has.third ∙ sym (map_push new_reader writers w);
-    })
 
 -- ---- their guilds
 

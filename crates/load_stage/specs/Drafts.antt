@@ -1,7 +1,6 @@
 -- internal: cited by private functions only. The parts of a load that have no clocks yet.
 use Rattle.std.specs.Prelude.{◌≡◌, ℕ, ◌+◌, List, [], ◌∷◌, map, All, length}
-use Rattle.std.specs.Vec.{Vec}
-use Rattle.std.specs.Global.{Global}
+use Rattle.std.specs.Global.{Vec}
 use Rattle.atomic_table.specs.Seated.{TableId}
 use Rattle.edit_post.specs.Post.{PostId}
 use Rattle.guild_hub.specs.Sights.{Seeing}
@@ -30,7 +29,7 @@ use Rattle.load_stage.specs.Posts.{new_passes, HasPosts}
 use Rattle.load_stage.specs.Seats.{HasSeats}
 
 abbrev pub Readers : Type 0
-Readers = Vec (ℕ × Seeing) Global
+Readers = Vec (ℕ × Seeing)
 
 module _ {R : Type 0} where
   -- the worker with this number, which has its door and its readers among these

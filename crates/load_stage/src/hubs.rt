@@ -53,7 +53,7 @@ impl Readers {
     }
 }
 
-impl<R: Wait + Drop> Hubs<R> {
+impl<R: Wait + Copy + Drop> Hubs<R> {
     // No hubs yet.
     fn none(alloc: Global) -> Hubs<R>
         ensures writers { result.writers.items ≡ [] }
@@ -87,8 +87,6 @@ impl<R: Wait + Drop> Hubs<R> {
         requires none { self.old.writers.items ≡ [] }
         requires readers { HasReaders self.old.writers.items self.old.readers }
         ensures { OnOk result (HasHubs self.new.writers.items self.new.readers) }
-    where
-        R: Copy,
     {
         for before in 0..GUILDS {
             self.open_guild(rt, alloc, before + 1)?;
@@ -101,7 +99,7 @@ impl<R: Wait + Drop> Hubs<R> {
 ///
 /// # Errors
 /// Out of memory, or a place that could not be had.
-pub(crate) fn open<R: Wait + Drop + Copy>(rt: R, alloc: Global) -> Result<Hubs<R>, AllocError>
+pub(crate) fn open<R: Wait + Copy + Drop>(rt: R, alloc: Global) -> Result<Hubs<R>, AllocError>
     ensures { IfOk result (λ hubs. HasHubs hubs.writers.items hubs.readers) }
 {
     let mut hubs = Hubs::none(alloc);

@@ -16,4 +16,3 @@ mod stage;
 mod workers;
 
 pub use stage::{Stage, stage};
-pub use workers::LoadWorker;

@@ -52,7 +52,7 @@ fn both<R: Wait + Drop>(
 ///
 /// # Errors
 /// Out of memory.
-pub(crate) fn open<R: Wait + Drop + Copy>(
+pub(crate) fn open<R: Wait + Copy + Drop>(
     rt: R,
     alloc: Global,
 ) -> Result<OpenPosts<R>, AllocError>

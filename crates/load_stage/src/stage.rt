@@ -8,10 +8,10 @@ use crate::clients::clocked_clients;
 use crate::drafting::{Draft, Parts, draft};
 use crate::ground::Ground;
 use crate::seats::Seats;
-use crate::workers::{LoadWorker, clocked_workers};
+use crate::workers::clocked_workers;
 use gate_outside::clocks::Clock;
 use gate_parts::{ActorPart, Posts, ScriptPart, StartWord};
-use load_parts::ClientPart;
+use load_parts::{ClientPart, DoorWorker};
 use std::alloc::{AllocError, Global};
 use std::collections::VecDeque;
 use std::sync::Wait;
@@ -19,7 +19,7 @@ use stop_flag::{StopFlag, StopSeat};
 
 /// All that a load begins with: what its parts share, and the parts themselves.
 #[derive(Drop)]
-pub struct Stage<C: Drop, R: Wait + Copy + Drop> {
+pub struct Stage<C, R: Wait + Copy + Drop> {
     /// The posts of both actors.
     pub posts: Posts<R>,
     /// The word by which all parts begin.
@@ -33,15 +33,15 @@ pub struct Stage<C: Drop, R: Wait + Copy + Drop> {
     /// The parts of the four scripts.
     pub scripts: Vec<ScriptPart<R>>,
     /// The parts of the three workers.
-    pub workers: Vec<LoadWorker<C, R>>,
+    pub workers: Vec<DoorWorker<C, R>>,
     /// The parts of the twelve clients.
     pub clients: Vec<ClientPart<C, R>>,
 }
 
 // Room for the parts that have clocks.
 #[derive(Drop)]
-struct Room<C: Drop, R: Wait + Copy + Drop> {
-    workers: Vec<LoadWorker<C, R>>,
+struct Room<C, R: Wait + Copy + Drop> {
+    workers: Vec<DoorWorker<C, R>>,
     clients: Vec<ClientPart<C, R>>,
 }
 

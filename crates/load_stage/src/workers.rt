@@ -18,6 +18,7 @@ use edit_post::SendPass;
 use gate_parts::WorkerPart;
 use guild_hub::HubReader;
 use load_client::NameGoal;
+use load_parts::DoorWorker;
 use snowflake_id::Snowflake;
 use std::alloc::{AllocError, Global};
 use std::collections::VecDeque;
@@ -25,13 +26,10 @@ use std::sync::Wait;
 use stop_flag::StopSeat;
 use thread_outside::dialled_door::DialledDoor;
 use thread_outside::kept_notes::KeptNotes;
-use worker_core::{Input, Worker};
+use worker_core::Worker;
 
 /// How many workers a load has.
 const WORKERS: u8 = 3;
-
-/// The part of a worker of a load.
-pub(crate) type LoadWorker<C, R> = WorkerPart<DialledDoor<R>, C, KeptNotes<Input>, R>;
 
 /// A worker's part that has no clock yet.
 #[derive(Drop)]
@@ -112,7 +110,7 @@ pub(crate) fn add_workers<R: Wait + Copy + Drop>(
 }
 
 // The part of a worker. It does not allocate.
-fn worker_part<C: Drop, R: Wait + Copy + Drop>(draft: WorkerDraft<R>, clock: C) -> LoadWorker<C, R>
+fn worker_part<C: Drop, R: Wait + Copy + Drop>(draft: WorkerDraft<R>, clock: C) -> DoorWorker<C, R>
     requires { CanBegin draft }
     ensures { IsWorkerOf draft clock result }
 {
@@ -150,7 +148,7 @@ fn worker_part<C: Drop, R: Wait + Copy + Drop>(draft: WorkerDraft<R>, clock: C) 
 pub(crate) fn clocked_workers<C: Drop, R: Wait + Copy + Drop>(
     mut drafts: VecDeque<WorkerDraft<R>>,
     clocks: &mut VecDeque<C>,
-    parts: &mut Vec<LoadWorker<C, R>>,
+    parts: &mut Vec<DoorWorker<C, R>>,
 )
     requires drafts { (length drafts.items ≡ 3) × All CanBegin drafts.items }
     requires clocks { 3 ≤ length clocks.old.items }
