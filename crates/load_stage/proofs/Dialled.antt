@@ -1,11 +1,17 @@
 -- Three doors and their dials.
-use Rattle.std.proofs.Common.{◌≡◌, ℕ, List, [], ◌∷◌, map, refl, sym, ap, subst, ◌∙◌}
+use Rattle.std.proofs.Common.{◌≡◌, ℕ, List, [], ◌∷◌, ◌++◌, map, refl, sym, ap, subst, ◌∙◌}
 use Rattle.std.specs.List.{range_with_len}
 use Rattle.std.specs.Global.{Global}
 use Rattle.crossbeam_queue.specs.SegTies.{SegId}
 use Rattle.thread_outside.specs.DialledDoors.{DialledState, DoorDialState, new_dialled, new_door_dial}
 use Rattle.load_stage.specs.Dealing.{AreFrom, in_turn}
 use Rattle.load_stage.specs.Doors.{IsDoorOf, IsDialOf, HasDoors}
+
+-- three items, one after another
+pub three_pushed : {X : Type 0} (none one two three : List X) (a b c : X) → none ≡ [] → one ≡ none ++ a ∷ [] → two ≡ one ++ b ∷ [] → three ≡ two ++ c ∷ []
+    → three ≡ a ∷ b ∷ c ∷ []
+three_pushed none one two three a b c n o w t =
+    t ∙ ap (λ l. l ++ c ∷ []) (w ∙ ap (λ l. l ++ b ∷ []) (o ∙ ap (λ l. l ++ a ∷ []) n))
 
 abbrev dials_of : SegId Global → List DoorDialState
 dials_of queue = map (new_door_dial queue) (range_with_len 0 4)

@@ -63,7 +63,8 @@ fn add_doors<R: Wait + Copy + Drop>(
     let first = add_door(rt, alloc, doors)?;
     let second = add_door(rt, alloc, doors)?;
     let third = add_door(rt, alloc, doors)?;
-    in_turn(alloc, first, second, third)
+    let dials = in_turn(alloc, first, second, third)?;
+    Ok(dials)
 }
 
 /// Opens the doors, which nobody has dialled.
