@@ -3,7 +3,6 @@ pub mod Numbered
 pub mod Posted
 pub mod Passes
 pub mod Seated
-pub mod Opened
 pub mod Written
 pub mod Dialled
 pub mod Staged
