@@ -24,7 +24,6 @@ abbrev pub AnyIs : LoadFault → List (Option LoadFault) → Type 0
 AnyIs f [] = ⊥
 AnyIs f (o ∷ os) = (o ≡ Some f) ⊎ AnyIs f os
 
-
 -- which of two it is
 either : (a o : Option LoadFault) (f : LoadFault) → sooner a o ≡ Some f → (a ≡ Some f) ⊎ (o ≡ Some f)
 either None o f e = inr e

@@ -45,7 +45,7 @@ scripts_sent seed posts k zero (d ∷ ds) h all = elim h [ ]
 scripts_sent seed posts k (suc n) [] h all = elim h [ ]
 scripts_sent seed posts k (suc n) (d ∷ ds) h all =
     let sends : Sends guild_ids (script seed k) (new_passes posts k) (Ran (Ok tt)) d.passes.items =
-        subst (λ e. Sends guild_ids (script seed k) (new_passes posts k) e d.passes.items) (All-head HasSentAll d ds all) h.0 in
+    subst (λ e. Sends guild_ids (script seed k) (new_passes posts k) e d.passes.items) (All-head HasSentAll d ds all) h.0 in
     (record { sent = sends.0; are = sends.1; ended = sends.2 }, scripts_sent seed posts (k + 1) n ds h.1 (All-tail HasSentAll d ds all))
 
 -- ---- workers

@@ -104,7 +104,11 @@ fn sooner(one: Option<LoadFault>, other: Option<LoadFault>) -> Option<LoadFault>
 fn start_fault(started: bool) -> Option<LoadFault>
     ensures { result ≡ start_fault started }
 {
-    if started { None } else { Some(LoadFault::Start) }
+    if started {
+        None
+    } else {
+        Some(LoadFault::Start)
+    }
 }
 
 /// The fault that a load answers whose parts have ended so: of several that which comes first in the order of

@@ -31,8 +31,7 @@ pub fn play<C: Clock + Drop, R: Wait + time::Clock + Copy + Drop, S: Spawner<Loa
     stage: Stage<C, R>,
     rooms: Rooms<C, R>,
     started: Vec<S::Held>,
-) -> Played<C, R>
-{
+) -> Played<C, R> {
     let Stage {
         posts,
         word,
