@@ -1,0 +1,5 @@
+pub mod Sendings
+pub mod Merging
+pub mod Ending
+pub mod Readers
+pub mod Turns
