@@ -1,9 +1,8 @@
 -- What a worker's part of a run does.
 use Rattle.std.specs.Prelude.{◌≡◌, ℕ, List, map, Option, Result}
-use Rattle.edit_post.specs.Post.{Sender, after_end}
+use Rattle.edit_post.specs.Post.{after_end}
 use Rattle.gate_outside.specs.Clocks.{ClockTale}
 use Rattle.gate_outside.specs.Doors.{DoorTale}
-use Rattle.guild_hub.specs.Sights.{Seeing}
 use Rattle.worker_core.specs.InCode.{KeptWorker}
 use Rattle.worker_core.specs.declared.io.Input.{Input as Given}
 use Rattle.worker_run.specs.Histories.{History}

@@ -1,8 +1,8 @@
 //! The grammar of the words, as `clap` has it.
 
-ghost use Rattle.std.specs.Prelude.{◌≡◌, IfOk};
-ghost use Rattle.clap.specs.Words.{app_of};
-ghost use Rattle.gate_words.specs.Grammar.{one_word, gate, HasNoGlobals};
+ghost use Rattle.std.specs.Prelude.{◌≡◌, IfOk, codes};
+ghost use Rattle.clap.specs.Words.{app_of, new_app};
+ghost use Rattle.gate_words.specs.Grammar.{one_word, without_help, gate, HasNoGlobals};
 
 use clap::Arg;
 use std::alloc::{AllocError, Global};
@@ -20,17 +20,21 @@ fn one_word<'a>(
     clap::Command::new(alloc, name).arg(word)
 }
 
-/// The command with its subcommands. It takes neither the name of the program nor words for help or the
-/// version.
+// The command without its subcommands. It takes neither the name of the program nor words for help.
+fn without_help<'a>(alloc: Global) -> clap::Command<'a>
+    ensures { app_of result ≡ without_help (new_app (codes "gate")) }
+{
+    clap::Command::new(alloc, "gate")
+        .no_binary_name(true)
+        .disable_help_flag(true)
+        .disable_help_subcommand(true)
+}
+
+/// The command with its subcommands.
 pub fn grammar<'a>(alloc: Global) -> Result<clap::Command<'a>, AllocError>
     ensures { IfOk result (λ command. app_of command ≡ gate) }
 {
     let run = one_word(alloc, "run", "FILE")?;
     let load = one_word(alloc, "load", "SEED")?;
-    clap::Command::new(alloc, "gate")
-        .no_binary_name(true)
-        .disable_help_flag(true)
-        .disable_help_subcommand(true)
-        .subcommand(run)?
-        .subcommand(load)
+    without_help(alloc).subcommand(run)?.subcommand(load)
 }

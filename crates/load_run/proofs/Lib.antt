@@ -9,3 +9,5 @@ pub mod Clients
 pub mod Staged
 pub mod Faults
 pub mod Played
+pub mod Out
+pub mod Popped

@@ -1,0 +1,10 @@
+use Rattle.std.proofs.Common.{◌≡◌, ◌∙◌, ap, ap₂}
+use Rattle.std.proofs.lemmas.Result.{IfOk-weaker}
+use Rattle.clap.specs.Words.{App, with_subcommand}
+use Rattle.gate_words.proofs.grammar.grammar.Goals as goal
+
+pub returns : goal.returns
+returns c =
+    let top = λ (a : App). a.top in
+    let with_run = c.in_ok-subcommand.ensures.shape c.in_ok-run.ensures.globals ∙ ap₂ with_subcommand c.without_help.ensures (ap top c.in_ok-run.ensures.app) in
+    IfOk-weaker c.subcommand-2.result _ _ (λ command h. h.shape c.in_ok-load.ensures.globals ∙ ap₂ with_subcommand with_run (ap top c.in_ok-load.ensures.app)) c.subcommand-2.ensures
