@@ -40,3 +40,7 @@ flat_one f (x ∷ xs) = ap (λ l. f x ∷ l) (flat_one f xs)
 
 abbrev pub Anything : {T : Type 0} → T → Type 0
 Anything x = Unit {0}
+
+pub flat_itself : {T : Type 0} (xs : List T) → flat_map (λ x. x ∷ []) xs ≡ xs
+flat_itself [] = refl
+flat_itself (x ∷ xs) = ap (λ l. x ∷ l) (flat_itself xs)

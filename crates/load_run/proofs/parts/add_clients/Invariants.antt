@@ -1,0 +1,16 @@
+use Rattle.std.proofs.Common.{◌≡◌, ◌+◌, ◌≤◌, [], ◌∷◌, length}
+use Rattle.std.specs.Vec.{vec_len, vec_capacity}
+use Rattle.load_parts.specs.declared.load_part.LoadPart.TheVariants.{Client}
+use Rattle.load_run.proofs.Popped.{Passed, Anything}
+use Rattle.load_run.proofs.parts.add_clients.Given as goal
+
+abbrev pub invariant-loop-part : goal.invariant-loop-part
+invariant-loop-part g l = record {
+  items : Passed Anything (λ p. Client p ∷ []) l.fn.clients.items l.clients.items l.fn.parts.items l.parts.items;
+  room : vec_len l.parts + length l.clients.items ≤ vec_capacity l.parts;
+  count : vec_len l.parts + length l.clients.items ≡ vec_len l.fn.parts + length l.fn.clients.items;
+  larger : vec_capacity l.fn.parts ≤ vec_capacity l.parts;
+}
+
+abbrev pub decreases-loop-part : goal.decreases-loop-part
+decreases-loop-part g l = length l.clients.items
