@@ -74,7 +74,7 @@ module _ {C R : Type 0} (clock_tale : C → ClockTale) where
   client_fits p (done.Worker e) gave = absurd gave
   client_fits p (done.Client e) gave = (e, refl, gave)
 
-  none_left : (ds : List (LoadDone C R)) → AllZip (LoadGives {C} {R} clock_tale) [] ds → ds ≡ []
+  none_left : (ds : List (LoadDone C R)) → AllZip (LoadGives {C = C} {R = R} clock_tale) [] ds → ds ≡ []
   none_left [] gave = refl
   none_left (d ∷ ds) gave = absurd gave
 
