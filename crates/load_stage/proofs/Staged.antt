@@ -23,11 +23,12 @@ use Rattle.load_stage.specs.declared.drafting.Parts.{Parts}
 use Rattle.load_stage.specs.declared.clients.ClientDraft.{ClientDraft}
 use Rattle.load_stage.specs.declared.workers.WorkerDraft.{WorkerDraft}
 use Rattle.load_stage.specs.Bots.{load_bots, worker_url}
+use Rattle.load_stage.specs.Clients.{IsClient}
 use Rattle.load_stage.specs.Dealing.{AreFrom, IsAt, dealt_to}
 use Rattle.load_stage.specs.Doors.{IsDoorOf, IsDialOf}
 use Rattle.load_stage.specs.Drafts.{AreParts, IsWorkerDraft, IsClientDraft, IsClockedWorker, IsClockedClient}
 use Rattle.load_stage.specs.Hubs.{guild_ids, IsReaderOf, new_reader}
-use Rattle.load_stage.specs.Parts.{IsActor, IsScript, IsWorker, IsClient}
+use Rattle.load_stage.specs.Parts.{IsActor, IsScript, IsWorker}
 use Rattle.load_stage.specs.Posts.{IsTakerOf}
 use Rattle.load_stage.proofs.Numbered.{weaker, to_map, placed, at_dropped, of_each}
 use Rattle.load_stage.proofs.Passes.{are_passes}

@@ -41,8 +41,8 @@ guilds_of_readers (w ∷ ws) = ap (λ l. w.0 ∷ l) (guilds_of_readers ws)
 distinct_ids : AreDistinct guild_ids
 distinct_ids = (refl, (refl, (refl, (refl, (refl, (refl, (refl, (refl, tt))))))))
 
-pub distinct : (ws : List Writer) → AreFrom IsNewWriter 1 8 ws → AreDistinct (guilds_of ws)
-distinct ws all = rw guilds_are ws all distinct_ids
+pub distinct_guilds : (ws : List Writer) → AreFrom IsNewWriter 1 8 ws → AreDistinct (guilds_of ws)
+distinct_guilds ws all = subst AreDistinct (sym (guilds_are ws all)) distinct_ids
 
 -- ---- the writers that are dealt to an actor
 
@@ -113,5 +113,5 @@ can_work posts sender passes ws readers some p all r =
       some = some;
       passes_are = are_passes posts sender passes p;
       readers_are = all_readers 1 8 ws all;
-      distinct = rw guilds_of_readers ws (distinct ws all);
+      distinct = subst AreDistinct (sym (guilds_of_readers ws)) (distinct_guilds ws all);
     })
