@@ -141,7 +141,7 @@ impl<R: Wait + Copy + Drop> Parts<R> {
 ///
 /// # Errors
 /// Out of memory, or a place at a hub that could not be had.
-pub(crate) fn draft<R: Wait + Copy + Drop>(
+pub(crate) fn drafted<R: Wait + Copy + Drop>(
     rt: R,
     alloc: Global,
     seed: u64,

@@ -1,0 +1,109 @@
+//! An actor's part of a run.
+ghost use Rattle.gate_parts.specs.Ready.{CanAct, CanAct-prop};
+
+use crate::acting::act_at;
+use crate::ending::Ending;
+use crate::posts::Posts;
+use crate::seats::{finds_stop, set_after};
+use crate::start_word::StartWord;
+use edit_post::TakePass;
+use guild_actor::ActReport;
+use guild_hub::HubWriter;
+use snowflake_id::Snowflake;
+use std::alloc::{AllocError, Global};
+use std::sync::Wait;
+use std::time::Clock;
+use stop_flag::StopSeat;
+
+/// An actor's part of a run.
+#[derive(Drop)]
+pub struct ActorPart<R: Wait + Drop> {
+    /// The handle.
+    pub rt: R,
+    /// What it allocates by.
+    pub alloc: Global,
+    /// The posts of all actors.
+    pub posts: Posts<R>,
+    /// The place of its own post.
+    pub place: usize,
+    /// Its pass.
+    pub pass: TakePass,
+    /// The logs of its guilds.
+    pub writers: Vec<(Snowflake, HubWriter<R>)>,
+    /// The word by which it begins.
+    pub word: StartWord,
+    /// Its seat at the stop flag.
+    pub seat: StopSeat,
+    /// Its pass is that of its post and has taken nothing, and its logs are new and of distinct guilds.
+    pub ghost ready: { CanAct posts place pass writers.items } by { CanAct-prop posts place pass writers.items },
+}
+
+/// An actor's part that has ended.
+#[derive(Drop)]
+pub struct ActorDone<R: Wait + Drop> {
+    /// How it ended.
+    pub ending: Ending<Result<ActReport<R>, AllocError>>,
+    /// Its seat at the stop flag, which has set it after a fault.
+    pub seat: StopSeat,
+}
+
+impl<R: Wait + Clock + Drop> ActorPart<R> {
+    ghost use Rattle.std.specs.Prelude.{◌≡◌, false};
+    ghost use Rattle.gate_parts.specs.declared.ending.Ending.TheVariants.{Stopped};
+    ghost use Rattle.gate_parts.specs.Endings.{has_stopped};
+    ghost use Rattle.gate_parts.specs.Actors.{ActorGives};
+
+    // Does nothing.
+    fn stop(self) -> ActorDone<R>
+        ensures { (result.ending ≡ Stopped) × (result.seat ≡ self.seat) }
+    {
+        let ActorPart {
+            pass,
+            writers,
+            seat,
+            ..
+        } = self;
+        drop(writers);
+        drop(pass);
+        ActorDone {
+            ending: Ending::Stopped,
+            seat,
+        }
+    }
+
+    // Acts, and sets the flag after a fault.
+    fn act(self) -> ActorDone<R>
+        ensures ran { has_stopped result.ending ≡ false }
+        ensures gives { ActorGives self result }
+    {
+        let ActorPart {
+            rt,
+            alloc,
+            posts,
+            place,
+            pass,
+            writers,
+            word: _,
+            mut seat,
+        } = self;
+        let acted = act_at(&rt, alloc, posts.as_slice(), place, pass, writers);
+        set_after(&mut seat, acted.is_err());
+        ActorDone {
+            ending: Ending::Ran(acted),
+            seat,
+        }
+    }
+
+    /// Waits for the word, and then acts on the post at its place, until every sender has ended and each log
+    /// has its seal. If it finds the stop flag set, it does nothing, and each log ends without a seal. It sets
+    /// the flag if memory runs out.
+    pub fn run(mut self) -> ActorDone<R>
+        ensures { ActorGives self result }
+    {
+        self.word.wait(&self.rt);
+        if finds_stop(&mut self.seat) {
+            return self.stop();
+        }
+        self.act()
+    }
+}
