@@ -71,7 +71,7 @@ dealt_distinct (suc n) ws g =
     let all : guilds_of (odds ws) ≡ odds guild_ids = map-odds (λ (w : Writer). w.0) ws ∙ ap (λ l. odds l) g in
     subst AreDistinct (sym all) (refl, (refl, (refl, (refl, tt))))
 
-taker_at : (post : Option PostId) (pass : Taker) → option_map (λ p. new_taker p 7) post ≡ Some pass → (post ≡ Some pass.post) × (pass.taken ≡ [])
+pub taker_at : (post : Option PostId) (pass : Taker) → option_map (λ p. new_taker p 7) post ≡ Some pass → (post ≡ Some pass.post) × (pass.taken ≡ [])
 taker_at None pass e = absurd (cc)
 taker_at (Some p) pass e =
     let same : new_taker p 7 ≡ pass = cc in

@@ -1,6 +1,6 @@
 //! All parts of a load, of which none has a clock yet.
 
-ghost use Rattle.std.specs.Prelude.{◌≡◌, [], length, IfOk, OnOk};
+ghost use Rattle.std.specs.Prelude.{◌≡◌, ◌∷◌, [], IfOk, OnOk};
 ghost use Rattle.load_stage.specs.Drafts.{AreParts, IsDraft, IsSupply};
 ghost use Rattle.load_stage.specs.Seats.{HasSeats};
 

@@ -1,6 +1,6 @@
 //! All that a load begins with.
 
-ghost use Rattle.std.specs.Prelude.{◌≡◌, ◌≤◌, [], length, vec_capacity, IfOk, IfErr};
+ghost use Rattle.std.specs.Prelude.{◌≡◌, ℕ, ◌≤◌, [], length, vec_capacity, IfOk, IfErr};
 ghost use Rattle.load_stage.specs.Drafts.{IsDraft};
 ghost use Rattle.load_stage.specs.Stages.{IsStage};
 

@@ -1,11 +1,17 @@
-use Rattle.std.proofs.Common.{◌≡◌, ◌+◌, ◌-◌, ap, subst, ◌∙◌, arith}
+use Rattle.std.proofs.Common.{◌≡◌, ◌+◌, ◌-◌, ◌<◌, ap, subst, ◌∙◌, arith}
 use Rattle.stop_flag.specs.Flags.{new_seat}
 use Rattle.load_stage.specs.Drafts.{IsWorkerDraft}
 use Rattle.load_stage.specs.Posts.{ArePassesOf}
 use Rattle.load_stage.specs.Seats.{HasSeats}
 use Rattle.load_stage.proofs.Numbered.{added, first_of, next_at}
-use Rattle.load_stage.proofs.Seated.{next_seat}
+use Rattle.load_stage.proofs.Seated.{next_seat, seat_left}
 use Rattle.load_stage.proofs.workers.add_workers.Goals as goal
+
+pub take_next-seat-requires : goal.take_next-seat-requires
+take_next-seat-requires g c =
+    let n = c.loop-number.number in
+    let some : 0 < 16 - n = omega arith in
+    seat_left (6 + n) (16 - n) c.loop-number.seats c.loop-number.invariant.seats some
 
 pub loop-number-preserved : goal.loop-number-preserved
 loop-number-preserved g c =

@@ -1,5 +1,5 @@
-use Rattle.std.proofs.Common.{sym, subst, arith}
-use Rattle.load_stage.specs.Dealing.{IsAt}
+use Rattle.std.proofs.Common.{◌≡◌, drop, sym, subst, arith}
+use Rattle.load_stage.specs.Dealing.{AreFrom, IsAt}
 use Rattle.load_stage.specs.Drafts.{CanBegin, IsClockedWorker}
 use Rattle.load_stage.proofs.Numbered.{added, all_at, next_at}
 use Rattle.load_stage.proofs.workers.clocked_workers.Goals as goal
@@ -28,3 +28,13 @@ loop-number-preserved g c =
             is_of = c.worker_part.ensures.made;
           });
     }
+
+pub returns-clause-clocks : goal.returns-clause-clocks
+returns-clause-clocks g c =
+    let three : c.loop-number.number ≡ 3 = omega arith in
+    subst (λ k. c.loop-number.clocks.items ≡ drop k c.args.clocks.now.items) three c.loop-number.invariant.clocks
+
+pub returns-clause-parts : goal.returns-clause-parts
+returns-clause-parts g c =
+    let three : c.loop-number.number ≡ 3 = omega arith in
+    subst (λ k. AreFrom (IsClockedWorker c.args.drafts.items c.args.clocks.now.items) 0 k c.loop-number.parts.items) three c.loop-number.invariant.parts
