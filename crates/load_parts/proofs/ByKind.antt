@@ -87,28 +87,28 @@ module _ {C R : Type 0} (clock_tale : C → ClockTale) where
       let c = in_front done.Client (LoadGives clock_tale) (ClientGives clock_tale) part.Client client_fits clients [] w.1 clients_left in
       let none = none_left c.1 c.4 in
       let of_actors : flat_map actor_of dones ≡ a.0 =
-          ap (flat_map actor_of) a.2 ∙ own done.Actor actor_of (λ e. refl) a.0 a.1 ∙ ap (λ (l : List (ActorDone R)). a.0 ++ l) (
-            ap (flat_map actor_of) s.2 ∙ other done.Script actor_of (λ e. refl) s.0 s.1
-            ∙ ap (flat_map actor_of) w.2 ∙ other done.Worker actor_of (λ e. refl) w.0 w.1
-            ∙ ap (flat_map actor_of) c.2 ∙ other done.Client actor_of (λ e. refl) c.0 c.1
-            ∙ ap (flat_map actor_of) none) ∙ append-nil a.0 in
+      ap (flat_map actor_of) a.2 ∙ own done.Actor actor_of (λ e. refl) a.0 a.1 ∙ ap (λ (l : List (ActorDone R)). a.0 ++ l) (
+      ap (flat_map actor_of) s.2 ∙ other done.Script actor_of (λ e. refl) s.0 s.1
+      ∙ ap (flat_map actor_of) w.2 ∙ other done.Worker actor_of (λ e. refl) w.0 w.1
+      ∙ ap (flat_map actor_of) c.2 ∙ other done.Client actor_of (λ e. refl) c.0 c.1
+      ∙ ap (flat_map actor_of) none) ∙ append-nil a.0 in
       let of_scripts : flat_map script_of dones ≡ s.0 =
-          ap (flat_map script_of) a.2 ∙ other done.Actor script_of (λ e. refl) a.0 a.1
-          ∙ ap (flat_map script_of) s.2 ∙ own done.Script script_of (λ e. refl) s.0 s.1 ∙ ap (λ (l : List ScriptDone). s.0 ++ l) (
-            ap (flat_map script_of) w.2 ∙ other done.Worker script_of (λ e. refl) w.0 w.1
-            ∙ ap (flat_map script_of) c.2 ∙ other done.Client script_of (λ e. refl) c.0 c.1
-            ∙ ap (flat_map script_of) none) ∙ append-nil s.0 in
+      ap (flat_map script_of) a.2 ∙ other done.Actor script_of (λ e. refl) a.0 a.1
+      ∙ ap (flat_map script_of) s.2 ∙ own done.Script script_of (λ e. refl) s.0 s.1 ∙ ap (λ (l : List ScriptDone). s.0 ++ l) (
+      ap (flat_map script_of) w.2 ∙ other done.Worker script_of (λ e. refl) w.0 w.1
+      ∙ ap (flat_map script_of) c.2 ∙ other done.Client script_of (λ e. refl) c.0 c.1
+      ∙ ap (flat_map script_of) none) ∙ append-nil s.0 in
       let of_workers : flat_map worker_of dones ≡ w.0 =
-          ap (flat_map worker_of) a.2 ∙ other done.Actor worker_of (λ e. refl) a.0 a.1
-          ∙ ap (flat_map worker_of) s.2 ∙ other done.Script worker_of (λ e. refl) s.0 s.1
-          ∙ ap (flat_map worker_of) w.2 ∙ own done.Worker worker_of (λ e. refl) w.0 w.1 ∙ ap (λ (l : List (WorkerDone DialledState C (KeptNotes Given))). w.0 ++ l) (
-            ap (flat_map worker_of) c.2 ∙ other done.Client worker_of (λ e. refl) c.0 c.1
-            ∙ ap (flat_map worker_of) none) ∙ append-nil w.0 in
+      ap (flat_map worker_of) a.2 ∙ other done.Actor worker_of (λ e. refl) a.0 a.1
+      ∙ ap (flat_map worker_of) s.2 ∙ other done.Script worker_of (λ e. refl) s.0 s.1
+      ∙ ap (flat_map worker_of) w.2 ∙ own done.Worker worker_of (λ e. refl) w.0 w.1 ∙ ap (λ (l : List (WorkerDone DialledState C (KeptNotes Given))). w.0 ++ l) (
+      ap (flat_map worker_of) c.2 ∙ other done.Client worker_of (λ e. refl) c.0 c.1
+      ∙ ap (flat_map worker_of) none) ∙ append-nil w.0 in
       let of_clients : flat_map client_of dones ≡ c.0 =
-          ap (flat_map client_of) a.2 ∙ other done.Actor client_of (λ e. refl) a.0 a.1
-          ∙ ap (flat_map client_of) s.2 ∙ other done.Script client_of (λ e. refl) s.0 s.1
-          ∙ ap (flat_map client_of) w.2 ∙ other done.Worker client_of (λ e. refl) w.0 w.1
-          ∙ ap (flat_map client_of) c.2 ∙ own done.Client client_of (λ e. refl) c.0 c.1 ∙ ap (λ (l : List (ClientDone C)). c.0 ++ l) (ap (flat_map client_of) none) ∙ append-nil c.0 in
+      ap (flat_map client_of) a.2 ∙ other done.Actor client_of (λ e. refl) a.0 a.1
+      ∙ ap (flat_map client_of) s.2 ∙ other done.Script client_of (λ e. refl) s.0 s.1
+      ∙ ap (flat_map client_of) w.2 ∙ other done.Worker client_of (λ e. refl) w.0 w.1
+      ∙ ap (flat_map client_of) c.2 ∙ own done.Client client_of (λ e. refl) c.0 c.1 ∙ ap (λ (l : List (ClientDone C)). c.0 ++ l) (ap (flat_map client_of) none) ∙ append-nil c.0 in
       record {
         actors_gave = subst (AllZip ActorGives actors) (sym of_actors) a.3;
         scripts_gave = subst (AllZip ScriptGives scripts) (sym of_scripts) s.3;

@@ -8,5 +8,4 @@ use std::sync::Wait;
 /// they gave is, in order, what the parts of that kind may give.
 pub fn split_by_kind<C: Clock, R: Wait + Copy + Drop>()
     ensures { SplitsByKind C R C.tale }
-{
-}
+{}

@@ -17,11 +17,7 @@ use thread_outside::running::{self, Running};
 pub fn begin_part<
     C: Clock + Drop + Send + 'static,
     R: Threads + Wait + time::Clock + Copy + Drop + Send + Sync + 'static,
->(
-    rt: &R,
-    alloc: Global,
-    part: LoadPart<C, R>,
-) -> Result<Running<LoadPart<C, R>>, LoadPart<C, R>>
+>(rt: &R, alloc: Global, part: LoadPart<C, R>) -> Result<Running<LoadPart<C, R>>, LoadPart<C, R>>
     ensures held { IfOk result (λ held. held ≡ part) }
     ensures back { IfErr result (λ back. back ≡ part) }
 {
@@ -32,10 +28,7 @@ pub fn begin_part<
 pub fn end_part<
     C: Clock + Drop + Send + 'static,
     R: Threads + Wait + time::Clock + Copy + Drop + Send + Sync + 'static,
->(
-    rt: &R,
-    held: Running<LoadPart<C, R>>,
-) -> LoadDone<C, R>
+>(rt: &R, held: Running<LoadPart<C, R>>) -> LoadDone<C, R>
     ensures { LoadGives C.tale held result }
 {
     running::end(rt, held)

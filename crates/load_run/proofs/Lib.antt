@@ -11,3 +11,4 @@ pub mod Faults
 pub mod Played
 pub mod Out
 pub mod Popped
+pub mod Added

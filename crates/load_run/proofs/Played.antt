@@ -50,9 +50,9 @@ module _ {C R : Type 0} (clock_tale : C → ClockTale) (seed : ℕ) (posts : Lis
   AllKnown [] = Unit {0}
   AllKnown (p ∷ ps) = Knows p × AllKnown ps
 
-  known_actors : (as : List (ActorPart R)) (rest : List (LoadPart C R)) → AllKnown rest → AllKnown (map part.Actor as ++ rest)
+  known_actors : (az : List (ActorPart R)) (rest : List (LoadPart C R)) → AllKnown rest → AllKnown (map part.Actor az ++ rest)
   known_actors [] rest h = h
-  known_actors (a ∷ as) rest h = (tt, known_actors as rest h)
+  known_actors (a ∷ az) rest h = (tt, known_actors az rest h)
 
   known_scripts : (k n : ℕ) (ss : List (ScriptPart R)) (rest : List (LoadPart C R)) → AllZip (IsScript posts flag seed) (range_with_len k n) ss → AllKnown rest → AllKnown (map part.Script ss ++ rest)
   known_scripts k n [] rest z h = h
@@ -69,10 +69,10 @@ module _ {C R : Type 0} (clock_tale : C → ClockTale) (seed : ℕ) (posts : Lis
   known_clients k zero (c ∷ cs) z = elim z [ ]
   known_clients k (suc n) (c ∷ cs) z = ((k, z.0), known_clients (k + 1) n cs z.1)
 
-  pub all_known : (as : List (ActorPart R)) (ss : List (ScriptPart R)) (ws : List (WorkerPart DialledState C (KeptNotes Input) R)) (cs : List (ClientPart C R))
-      → AllZip (IsScript posts flag seed) (range_with_len 0 4) ss → AllZip (IsWorker posts flag writers queues clocks) (range_with_len 0 3) ws → AllZip (IsClient flag queues clocks) (range_with_len 0 12) cs → AllKnown (all_parts as ss ws cs)
-  all_known as ss ws cs s w c =
-      known_actors as (map part.Script ss ++ (map part.Worker ws ++ map part.Client cs))
+  pub all_known : (az : List (ActorPart R)) (ss : List (ScriptPart R)) (ws : List (WorkerPart DialledState C (KeptNotes Input) R)) (cs : List (ClientPart C R))
+      → AllZip (IsScript posts flag seed) (range_with_len 0 4) ss → AllZip (IsWorker posts flag writers queues clocks) (range_with_len 0 3) ws → AllZip (IsClient flag queues clocks) (range_with_len 0 12) cs → AllKnown (all_parts az ss ws cs)
+  all_known az ss ws cs s w c =
+      known_actors az (map part.Script ss ++ (map part.Worker ws ++ map part.Client cs))
       (known_scripts 0 4 ss (map part.Worker ws ++ map part.Client cs) s (known_workers 0 3 ws (map part.Client cs) w (known_clients 0 12 cs c)))
 
   pub known_front : (front back : List (LoadPart C R)) → AllKnown (front ++ back) → AllKnown front

@@ -5,7 +5,7 @@ use Rattle.std.proofs.lemmas.List.{reverse-reverse}
 use Rattle.std.proofs.lemmas.List.Elements.{All-nil, All-push}
 use Rattle.team_run.proofs.Lists.{taken_first}
 
-flat_more : {T X : Type 0} (g : T → List X) (xs : List T) (x : T) → flat_map g (xs ++ x ∷ []) ≡ flat_map g xs ++ g x
+pub flat_more : {T X : Type 0} (g : T → List X) (xs : List T) (x : T) → flat_map g (xs ++ x ∷ []) ≡ flat_map g xs ++ g x
 flat_more g [] x = append-nil (g x)
 flat_more g (y ∷ xs) x = ap (λ l. g y ++ l) (flat_more g xs x) ∙ sym (append_assoc (g y) (flat_map g xs) (g x))
 

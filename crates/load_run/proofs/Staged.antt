@@ -83,8 +83,8 @@ one_client clock_tale flag queues clocks n p d is gives = record {
 }
 
 -- a list of what was made of items
-pub zip_map : {A B D : Type 0} (f : B → D) (T : A → D → Type 0) (as : List A) (bs : List B) → AllZip (λ a b. T a (f b)) as bs → AllZip T as (map f bs)
+pub zip_map : {A B D : Type 0} (f : B → D) (T : A → D → Type 0) (xs : List A) (ys : List B) → AllZip (λ a b. T a (f b)) xs ys → AllZip T xs (map f ys)
 zip_map f T [] [] h = tt
-zip_map f T [] (b ∷ bs) h = elim h [ ]
-zip_map f T (a ∷ as) [] h = elim h [ ]
-zip_map f T (a ∷ as) (b ∷ bs) h = (h.0, zip_map f T as bs h.1)
+zip_map f T [] (b ∷ ys) h = elim h [ ]
+zip_map f T (a ∷ xs) [] h = elim h [ ]
+zip_map f T (a ∷ xs) (b ∷ ys) h = (h.0, zip_map f T xs ys h.1)

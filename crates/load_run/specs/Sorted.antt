@@ -13,13 +13,13 @@ use Rattle.load_run.specs.declared.sorting.WorkerEnd.{WorkerEnd}
 use Rattle.load_run.specs.declared.sorting.Ends.{Ends}
 use Rattle.load_run.specs.Ends.{clock_of_done}
 
+abbrev pub ended_of : {C : Type 0} → ClientDone C → EndedClient
+ended_of d = d.ended
+
 module _ {C R : Type 0} where
   -- a worker without its clock
   abbrev pub end_of : WorkerDone DialledState C (KeptNotes Input) → WorkerEnd R
   end_of d = record { ending = d.ending; door = d.door; readers = d.readers; passes = d.passes; notes = d.notes }
-
-  abbrev pub ended_of : ClientDone C → EndedClient
-  ended_of d = d.ended
 
   -- so many items more find room in each of the lists
   pub record HasRoom (more : ℕ) (e : Ends C R) : Type 0 where

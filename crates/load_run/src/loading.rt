@@ -4,7 +4,7 @@ ghost use Rattle.std.specs.Prelude.{◌≡◌, ◌++◌, length, OnOk, OnErr};
 
 use crate::fault::LoadFault;
 use crate::playing::{Played, play};
-use crate::rooms::rooms;
+use crate::rooms::make_rooms;
 use crate::sorting::Ends;
 use crate::summing::{Senders, sum_up};
 use crate::writing::write_out;
@@ -68,7 +68,7 @@ pub fn load<
 ) -> (Vec<C>, Result<(), LoadFault>)
     requires { length clocks.items ≡ 15 }
 {
-    let Ok(rooms) = rooms(alloc) else {
+    let Ok(rooms) = make_rooms(alloc) else {
         return (clocks, Err(LoadFault::Memory));
     };
     let Ok(started) = Vec::with_capacity(alloc, PARTS) else {

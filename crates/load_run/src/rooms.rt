@@ -22,7 +22,7 @@ pub struct Rooms<C: Drop, R: Wait + Copy + Drop> {
 }
 
 // Room for what each kind of parts leaves.
-fn ends<C: Drop, R: Wait + Copy + Drop>(alloc: Global) -> Result<Ends<C, R>, AllocError>
+fn make_ends<C: Drop, R: Wait + Copy + Drop>(alloc: Global) -> Result<Ends<C, R>, AllocError>
     ensures { IfOk result (λ ends. IsEmpty ends × HasRoom 21 ends) }
 {
     Ok(Ends {
@@ -34,8 +34,8 @@ fn ends<C: Drop, R: Wait + Copy + Drop>(alloc: Global) -> Result<Ends<C, R>, All
     })
 }
 
-/// Room for all.
-pub fn rooms<C: Drop, R: Wait + Copy + Drop>(alloc: Global) -> Result<Rooms<C, R>, AllocError>
+/// Makes the room.
+pub fn make_rooms<C: Drop, R: Wait + Copy + Drop>(alloc: Global) -> Result<Rooms<C, R>, AllocError>
     ensures parts { IfOk result (λ r. (r.parts.items ≡ []) × (21 ≤ vec_capacity r.parts)) }
     ensures back { IfOk result (λ r. r.back.items ≡ []) }
     ensures dones { IfOk result (λ r. (r.dones.items ≡ []) × (21 ≤ vec_capacity r.dones)) }
@@ -43,7 +43,7 @@ pub fn rooms<C: Drop, R: Wait + Copy + Drop>(alloc: Global) -> Result<Rooms<C, R
 {
     let parts = Vec::with_capacity(alloc, PARTS)?;
     let dones = Vec::with_capacity(alloc, PARTS)?;
-    let ends = ends(alloc)?;
+    let ends = make_ends(alloc)?;
     Ok(Rooms {
         parts,
         back: Vec::new(alloc),

@@ -5,4 +5,5 @@ pub mod Passes
 pub mod Seated
 pub mod Written
 pub mod Dialled
+pub mod Drafted
 pub mod Staged

@@ -2,8 +2,8 @@
 use Rattle.std.proofs.Common.{◌≡◌, ℕ, zero, suc, ◌+◌, ◌-◌, ◌<◌, List, [], ◌∷◌, ◌++◌, map, take, drop, length, refl, sym, ap, ap₂, subst, ◌∙◌, arith, add-one, add-zero, zero-add}
 use Rattle.std.specs.Prelude.{Some, All, slice_get}
 use Rattle.std.specs.List.{range_with_len, AllZip}
-use Rattle.std.proofs.lemmas.List.{map-id}
-use Rattle.std.proofs.lemmas.List.Elements.{All-nil, All-cons}
+use Rattle.std.proofs.lemmas.List.{map-id, length-drop}
+use Rattle.std.proofs.lemmas.List.Elements.{All-nil, All-cons, All-head, All-tail}
 use Rattle.load_stage.specs.Dealing.{AreFrom, IsAt}
 
 module _ {X : Type 0} (Is : ℕ → X → Type 0) where
@@ -72,6 +72,20 @@ module _ {X : Type 0} where
       let both = drop_first n xs later x (sym l ∙ e) in
       (both.0, rw (add-one n) (sym both.1))
 
+  -- there is a next item
+  pub next_left : (n : ℕ) (xs left : List X) → left ≡ drop n xs → n < length xs → 0 < length left
+  next_left n xs left l lt =
+      let long : length left ≡ length xs - n = ap length l ∙ length-drop n xs in
+      omega arith
+
+  -- what holds of each item holds of that at a place
+  pub all_at : (P : X → Type 0) (xs : List X) (n : ℕ) (x : X) → All P xs → IsAt xs n x → P x
+  all_at P [] n x all at = absurd (cc)
+  all_at P (y ∷ ys) zero x all at =
+      let same : y ≡ x = cc in
+      subst P same (All-head P y ys all)
+  all_at P (y ∷ ys) (suc n) x all at = all_at P ys n x (All-tail P y ys all) at
+
   -- a place in a list of which some were dealt
   pub at_dropped : (n : ℕ) (xs : List X) (place : ℕ) (x : X) → IsAt (drop n xs) place x → IsAt xs (n + place) x
   at_dropped zero xs place x at = subst (λ k. IsAt xs k x) (sym (zero-add place)) at
@@ -116,6 +130,10 @@ module _ {X : Type 0} (Is : ℕ → X → Type 0) where
   -- the item at a place, where the numbers begin with 0
   pub placed : (count : ℕ) (xs : List X) (place : ℕ) (x : X) → AreFrom Is 0 count xs → IsAt xs place x → Is place x
   placed count xs place x all at = subst (λ k. Is k x) (zero-add place) (at_place Is 0 count xs place x all at)
+
+  -- one item more, where the numbers begin with 0
+  pub added : (count : ℕ) (xs more : List X) (x : X) → AreFrom Is 0 count xs → more ≡ xs ++ x ∷ [] → Is count x → AreFrom Is 0 (count + 1) more
+  added count xs more x all m is = one_more Is 0 count xs more x all m (subst (λ k. Is k x) (sym (zero-add count)) is)
 
   -- what holds of each item
   pub of_each : (P : X → Type 0) → ((n : ℕ) (x : X) → Is n x → P x) → (first count : ℕ) (xs : List X) → AreFrom Is first count xs → All P xs

@@ -41,8 +41,8 @@ guilds_of_readers (w ∷ ws) = ap (λ l. w.0 ∷ l) (guilds_of_readers ws)
 distinct_ids : AreDistinct guild_ids
 distinct_ids = (refl, (refl, (refl, (refl, (refl, (refl, (refl, (refl, tt))))))))
 
-pub distinct : (ws : List Writer) → AreFrom IsNewWriter 1 8 ws → AreDistinct (guilds_of ws)
-distinct ws all = rw guilds_are ws all distinct_ids
+pub distinct_guilds : (ws : List Writer) → AreFrom IsNewWriter 1 8 ws → AreDistinct (guilds_of ws)
+distinct_guilds ws all = subst AreDistinct (sym (guilds_are ws all)) distinct_ids
 
 -- ---- the writers that are dealt to an actor
 
@@ -71,7 +71,7 @@ dealt_distinct (suc n) ws g =
     let all : guilds_of (odds ws) ≡ odds guild_ids = map-odds (λ (w : Writer). w.0) ws ∙ ap (λ l. odds l) g in
     subst AreDistinct (sym all) (refl, (refl, (refl, (refl, tt))))
 
-taker_at : (post : Option PostId) (pass : Taker) → option_map (λ p. new_taker p 7) post ≡ Some pass → (post ≡ Some pass.post) × (pass.taken ≡ [])
+pub taker_at : (post : Option PostId) (pass : Taker) → option_map (λ p. new_taker p 7) post ≡ Some pass → (post ≡ Some pass.post) × (pass.taken ≡ [])
 taker_at None pass e = absurd (cc)
 taker_at (Some p) pass e =
     let same : new_taker p 7 ≡ pass = cc in
@@ -113,5 +113,5 @@ can_work posts sender passes ws readers some p all r =
       some = some;
       passes_are = are_passes posts sender passes p;
       readers_are = all_readers 1 8 ws all;
-      distinct = rw guilds_of_readers ws (distinct ws all);
+      distinct = subst AreDistinct (sym (guilds_of_readers ws)) (distinct_guilds ws all);
     })

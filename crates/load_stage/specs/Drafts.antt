@@ -56,35 +56,33 @@ module _ {R : Type 0} where
 
   module _ {C : Type 0} where
     -- the part of a worker that has a clock now
-    pub record IsWorkerOf (draft : WorkerDraft R) (clock : C) (part : WorkerPart DialledState C (KeptNotes Input) R) : Type 0 where
+    pub record IsWorkerOf (draft : WorkerDraft R) (part : WorkerPart DialledState C (KeptNotes Input) R) : Type 0 where
       pub posts_are : part.posts ≡ draft.ground.posts
       pub passes_are : part.passes ≡ draft.passes
       pub readers_are : part.readers ≡ draft.readers
       pub worker_is : part.worker ≡ draft.worker
       pub door_is : part.door ≡ draft.door
-      pub clock_is : part.clock ≡ clock
       pub notes_are : part.notes.notes.items ≡ []
       pub seat_is : part.seat ≡ draft.seat
 
     -- the part of a client that has a clock now
-    pub record IsClientOf (draft : ClientDraft R) (clock : C) (part : ClientPart C R) : Type 0 where
+    pub record IsClientOf (draft : ClientDraft R) (part : ClientPart C R) : Type 0 where
       pub client_is : part.client ≡ draft.client
       pub dial_is : part.dial ≡ draft.dial
-      pub clock_is : part.clock ≡ clock
 
     -- the part of the worker with this number, of those that had no clocks
     pub record IsClockedWorker (drafts : List (WorkerDraft R)) (clocks : List C) (number : ℕ) (part : WorkerPart DialledState C (KeptNotes Input) R) : Type 0 where
       pub draft : WorkerDraft R
       pub is_draft : IsAt drafts number draft
       pub is_clock : IsAt clocks number part.clock
-      pub is_of : IsWorkerOf draft part.clock part
+      pub is_of : IsWorkerOf draft part
 
     -- the same of a client
     pub record IsClockedClient (drafts : List (ClientDraft R)) (clocks : List C) (number : ℕ) (part : ClientPart C R) : Type 0 where
       pub draft : ClientDraft R
       pub is_draft : IsAt drafts number draft
       pub is_clock : IsAt clocks number part.clock
-      pub is_of : IsClientOf draft part.clock part
+      pub is_of : IsClientOf draft part
 
   -- what the parts of a load are made from
   pub record IsSupply (posts : List PostId) (supply : Supply R) : Type 0 where

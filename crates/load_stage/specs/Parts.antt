@@ -14,12 +14,10 @@ use Rattle.worker_core.specs.declared.io.Input.{Input}
 use Rattle.gate_parts.specs.declared.actor_part.ActorPart.{ActorPart}
 use Rattle.gate_parts.specs.declared.script_part.ScriptPart.{ScriptPart}
 use Rattle.gate_parts.specs.declared.worker_part.WorkerPart.{WorkerPart}
-use Rattle.load_parts.specs.declared.client_part.ClientPart.{ClientPart}
 use Rattle.load_maker.specs.Script.{script}
 use Rattle.load_stage.specs.Bots.{load_bots, worker_url}
-use Rattle.load_stage.specs.Clients.{client_with}
 use Rattle.load_stage.specs.Dealing.{dealt_to, IsAt}
-use Rattle.load_stage.specs.Doors.{IsDoorOf, IsDialOf}
+use Rattle.load_stage.specs.Doors.{IsDoorOf}
 use Rattle.load_stage.specs.Hubs.{guild_ids, new_reader}
 use Rattle.load_stage.specs.Posts.{IsTakerOf, new_passes}
 
@@ -50,9 +48,3 @@ module _ {R : Type 0} (posts : List PostId) (flag : TableId) where
     pub clock_is : IsAt clocks number part.clock
     pub notes_are : part.notes.notes.items ≡ []
     pub seat_is : part.seat ≡ new_seat flag (6 + number)
-
--- the client with this number has its dial to the door of its worker, and a clock of its own
-pub record IsClient {C R : Type 0} (flag : TableId) (queues : List (SegId Global)) (clocks : List C) (number : ℕ) (part : ClientPart C R) : Type 0 where
-  pub client_is : part.client ≡ client_with (new_seat flag (9 + number)) number
-  pub dial_is : IsDialOf queues number part.dial
-  pub clock_is : IsAt clocks (3 + number) part.clock

@@ -9,9 +9,10 @@ use Rattle.guild_places.specs.Places.{AreDistinct, guilds_of}
 use Rattle.guild_posts.specs.Posts.{ArePasses}
 use Rattle.stop_flag.specs.Flags.{SeatState, new_seat, new_keeper}
 use Rattle.load_stage.specs.declared.stage.Stage.{Stage}
+use Rattle.load_stage.specs.Clients.{IsClient}
 use Rattle.load_stage.specs.Dealing.{AreFrom, dealt_to, woven}
 use Rattle.load_stage.specs.Hubs.{IsNewWriter, IsReaderOf, guild_ids}
-use Rattle.load_stage.specs.Parts.{IsActor, IsScript, IsWorker, IsClient}
+use Rattle.load_stage.specs.Parts.{IsActor, IsScript, IsWorker}
 
 module _ {C R : Type 0} where
   -- the posts of the passes of the actors

@@ -94,11 +94,13 @@ pub(crate) fn add_clients<R: Wait + Copy + Drop>(
     ensures drafts { OnOk result (AreFrom (IsClientDraft seats.old.keeper.flag dials.old.items) 0 12 drafts.new.items) }
 {
     for number in 0..CLIENTS {
-        let (ground, client) = begun(ground, number, seats.take_next())?;
+        let dial = take_next(dials);
+        let seat = seats.take_next();
+        let (share, client) = begun(ground, number, seat)?;
         drafts.push_back(ClientDraft {
-            ground,
+            ground: share,
             client,
-            dial: take_next(dials),
+            dial,
         })?;
     }
     Ok(())
@@ -107,7 +109,8 @@ pub(crate) fn add_clients<R: Wait + Copy + Drop>(
 // The part of a client. It does not allocate.
 fn client_part<C: Drop, R: Wait + Copy + Drop>(draft: ClientDraft<R>, clock: C) -> ClientPart<C, R>
     requires { HasNotFailed draft }
-    ensures { IsClientOf draft clock result }
+    ensures made { IsClientOf draft result }
+    ensures clock { result.clock ≡ clock }
 {
     let ClientDraft {
         ground,

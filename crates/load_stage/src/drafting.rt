@@ -1,6 +1,6 @@
 //! All parts of a load, of which none has a clock yet.
 
-ghost use Rattle.std.specs.Prelude.{◌≡◌, [], length, IfOk, OnOk};
+ghost use Rattle.std.specs.Prelude.{◌≡◌, ◌∷◌, [], IfOk, OnOk};
 ghost use Rattle.load_stage.specs.Drafts.{AreParts, IsDraft, IsSupply};
 ghost use Rattle.load_stage.specs.Seats.{HasSeats};
 
@@ -141,7 +141,7 @@ impl<R: Wait + Copy + Drop> Parts<R> {
 ///
 /// # Errors
 /// Out of memory, or a place at a hub that could not be had.
-pub(crate) fn draft<R: Wait + Copy + Drop>(
+pub(crate) fn drafted<R: Wait + Copy + Drop>(
     rt: R,
     alloc: Global,
     seed: u64,

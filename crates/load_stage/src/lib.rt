@@ -15,4 +15,4 @@ mod seats;
 mod stage;
 mod workers;
 
-pub use stage::{Stage, stage};
+pub use stage::{Stage, set_stage};

@@ -1,11 +1,11 @@
 //! All that a load begins with.
 
-ghost use Rattle.std.specs.Prelude.{◌≡◌, ◌≤◌, [], length, vec_capacity, IfOk, IfErr};
+ghost use Rattle.std.specs.Prelude.{◌≡◌, ℕ, ◌≤◌, [], length, vec_capacity, IfOk, IfErr};
 ghost use Rattle.load_stage.specs.Drafts.{IsDraft};
 ghost use Rattle.load_stage.specs.Stages.{IsStage};
 
 use crate::clients::clocked_clients;
-use crate::drafting::{Draft, Parts, draft};
+use crate::drafting::{Draft, Parts, drafted};
 use crate::ground::Ground;
 use crate::seats::Seats;
 use crate::workers::clocked_workers;
@@ -46,7 +46,7 @@ struct Room<C, R: Wait + Copy + Drop> {
 }
 
 // Makes room for the parts that have clocks.
-fn room<C: Drop, R: Wait + Copy + Drop>(alloc: Global) -> Result<Room<C, R>, AllocError>
+fn make_room<C: Drop, R: Wait + Copy + Drop>(alloc: Global) -> Result<Room<C, R>, AllocError>
     ensures empty { IfOk result (λ r. (r.workers.items ≡ []) × (r.clients.items ≡ [])) }
     ensures room { IfOk result (λ r. (3 ≤ vec_capacity r.workers) × (12 ≤ vec_capacity r.clients)) }
 {
@@ -109,7 +109,7 @@ fn begin<C: Drop, R: Wait + Copy + Drop>(
 ///
 /// # Errors
 /// Out of memory, or a place at a hub that could not be had. The clocks come back.
-pub fn stage<C: Clock + Drop, R: Wait + Copy + Drop>(
+pub fn set_stage<C: Clock + Drop, R: Wait + Copy + Drop>(
     rt: R,
     alloc: Global,
     seed: u64,
@@ -119,10 +119,10 @@ pub fn stage<C: Clock + Drop, R: Wait + Copy + Drop>(
     ensures stage { IfOk result (IsStage seed clocks.items) }
     ensures back { IfErr result (λ back. back ≡ clocks) }
 {
-    let Ok(room) = room(alloc) else {
+    let Ok(room) = make_room(alloc) else {
         return Err(clocks);
     };
-    match draft(rt, alloc, seed) {
+    match drafted(rt, alloc, seed) {
         Ok(draft) => Ok(begin(draft, room, clocks)),
         Err(AllocError) => {
             drop(room);

@@ -96,14 +96,18 @@ pub(crate) fn add_workers<R: Wait + Copy + Drop>(
     ensures drafts { OnOk result (AreFrom (IsWorkerDraft ground.now.posts seats.old.keeper.flag served.old.doors.items served.old.readers.items) 0 3 drafts.new.items) }
 {
     for number in 0..WORKERS {
-        let (ground, worker) = begun(ground, number)?;
+        let (share, worker) = begun(ground, number)?;
+        let door = take_next(&mut served.doors);
+        let its_readers = take_next(&mut served.readers);
+        let its_passes = take_next(passes);
+        let seat = seats.take_next();
         drafts.push_back(WorkerDraft {
-            ground,
+            ground: share,
             worker,
-            door: take_next(&mut served.doors),
-            readers: take_next(&mut served.readers),
-            passes: take_next(passes),
-            seat: seats.take_next(),
+            door,
+            readers: its_readers,
+            passes: its_passes,
+            seat,
         })?;
     }
     Ok(())
@@ -112,7 +116,8 @@ pub(crate) fn add_workers<R: Wait + Copy + Drop>(
 // The part of a worker. It does not allocate.
 fn worker_part<C: Drop, R: Wait + Copy + Drop>(draft: WorkerDraft<R>, clock: C) -> DoorWorker<C, R>
     requires { CanBegin draft }
-    ensures { IsWorkerOf draft clock result }
+    ensures made { IsWorkerOf draft result }
+    ensures clock { result.clock ≡ clock }
 {
     let WorkerDraft {
         ground,
