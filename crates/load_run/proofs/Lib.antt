@@ -7,8 +7,9 @@ pub mod Actors
 pub mod Settling
 pub mod Clients
 pub mod Staged
-pub mod Faults
+pub mod Ranks
 pub mod Played
 pub mod Out
 pub mod Popped
 pub mod Added
+pub mod Agreed

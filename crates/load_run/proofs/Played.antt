@@ -27,7 +27,8 @@ use Rattle.load_parts.specs.declared.load_part.LoadPart.{LoadPart}
 use Rattle.load_parts.specs.declared.load_part.LoadPart.TheVariants as part
 use Rattle.load_parts.specs.declared.load_part.LoadDone.{LoadDone}
 use Rattle.load_parts.specs.declared.load_part.LoadDone.TheVariants as done
-use Rattle.load_stage.specs.Parts.{IsActor, IsScript, IsWorker, IsClient}
+use Rattle.load_stage.specs.Parts.{IsActor, IsScript, IsWorker}
+use Rattle.load_stage.specs.Clients.{IsClient}
 use Rattle.load_run.specs.declared.fault.LoadFault.{LoadFault}
 use Rattle.load_run.specs.declared.fault.LoadFault.TheVariants.{Memory, Spent, Start, Door, Write, Out, BadText}
 use Rattle.load_run.specs.Causes.{LoadCause, ScriptSpent, WorkerEnded, ClientEnded}
@@ -35,10 +36,10 @@ use Rattle.load_run.specs.Ends.{clock_of_part, clock_of_done}
 use Rattle.load_run.specs.Faults.{fault_of, first_fault, start_fault}
 use Rattle.load_run.specs.Parts.{all_parts}
 use Rattle.load_run.specs.Sorted.{end_of, ended_of}
-use Rattle.load_run.proofs.Faults.{AnyIs, of_actor, of_script, of_worker, of_client}
+use Rattle.load_run.proofs.Ranks.{AnyIs, of_actor, of_script, of_worker, of_client}
 use Rattle.load_run.proofs.Staged.{one_script, one_worker, one_client}
 
-module _ {C R : Type 0} (clock_tale : C → ClockTale) (seed : ℕ) (posts : List PostId) (flag : TableId) (writers : List (ℕ × Publishing)) (queues : List (SegId Global)) (clocks : List C) where
+module _ (C R : Type 0) (clock_tale : C → ClockTale) (seed : ℕ) (posts : List PostId) (flag : TableId) (writers : List (ℕ × Publishing)) (queues : List (SegId Global)) (clocks : List C) where
   -- how a part was set up
   abbrev Knows : LoadPart C R → Type 0
   Knows (part.Actor p) = Unit {0}
@@ -94,15 +95,27 @@ module _ {C R : Type 0} (clock_tale : C → ClockTale) (seed : ℕ) (posts : Lis
     cause_of (part.Worker p) (done.Worker d) f knows gives e =
         let ends = one_worker posts flag writers clock_tale queues clocks knows.0 p d knows.1 gives in
         ⊎_elim (by_memory f) (λ h. ⊎_elim
-          (λ (s : (f ≡ Spent) × (d.ending ≡ _)). subst Cause (sym s.0) (inr (posts, (writers, (knows.0, (end_of d, (ends, s.1)))))))
-          (λ (s : (f ≡ Door) × (d.ending ≡ _)). subst Cause (sym s.0) (posts, (writers, (knows.0, (end_of d, (ends, s.1))))))
-          h) (of_worker d.ending f e)
+        (λ (s : (f ≡ Spent) × (d.ending ≡ _)). subst Cause (sym s.0) (inr (posts, (writers, (knows.0, (end_of d, (ends, s.1)))))))
+        (λ (s : (f ≡ Door) × (d.ending ≡ _)). subst Cause (sym s.0) (posts, (writers, (knows.0, (end_of d, (ends, s.1))))))
+        h) (of_worker d.ending f e)
     cause_of (part.Client p) (done.Client d) f knows gives e =
         let ends = one_client clock_tale flag queues clocks knows.0 p d knows.1 gives in
         ⊎_elim (by_memory f) (λ h. ⊎_elim
-          (λ (s : (code : ℕ) × ((f ≡ Out code) × (d.ended.driven ≡ Err (drive.Out code)))). subst Cause (sym s.1.0) (flag, (knows.0, (ended_of d, (ends, s.1.1)))))
-          (λ (s : (f ≡ BadText) × (d.ended.driven ≡ Err drive.BadText)). subst Cause (sym s.0) (flag, (knows.0, (ended_of d, (ends, s.1)))))
-          h) (of_client d.ended.driven f e)
+        (λ (s : (code : ℕ) × ((f ≡ Out code) × (d.ended.driven ≡ Err (drive.Out code)))). subst Cause (sym s.1.0) (flag, (knows.0, (ended_of d, (ends, s.1.1)))))
+        (λ (s : (f ≡ BadText) × (d.ended.driven ≡ Err drive.BadText)). subst Cause (sym s.0) (flag, (knows.0, (ended_of d, (ends, s.1)))))
+        h) (of_client d.ended.driven f e)
+    cause_of (part.Actor p) (done.Script d) f knows gives e = elim gives [ ]
+    cause_of (part.Actor p) (done.Worker d) f knows gives e = elim gives [ ]
+    cause_of (part.Actor p) (done.Client d) f knows gives e = elim gives [ ]
+    cause_of (part.Script p) (done.Actor d) f knows gives e = elim gives [ ]
+    cause_of (part.Script p) (done.Worker d) f knows gives e = elim gives [ ]
+    cause_of (part.Script p) (done.Client d) f knows gives e = elim gives [ ]
+    cause_of (part.Worker p) (done.Actor d) f knows gives e = elim gives [ ]
+    cause_of (part.Worker p) (done.Script d) f knows gives e = elim gives [ ]
+    cause_of (part.Worker p) (done.Client d) f knows gives e = elim gives [ ]
+    cause_of (part.Client p) (done.Actor d) f knows gives e = elim gives [ ]
+    cause_of (part.Client p) (done.Script d) f knows gives e = elim gives [ ]
+    cause_of (part.Client p) (done.Worker d) f knows gives e = elim gives [ ]
 
     pub any_cause : (ps : List (LoadPart C R)) (ds : List (LoadDone C R)) (f : LoadFault) → AllKnown ps → AllZip (LoadGives clock_tale) ps ds → AnyIs f (map fault_of ds) → Cause f
     any_cause [] [] f known z any = absurd any
@@ -118,6 +131,18 @@ module _ {C R : Type 0} (clock_tale : C → ClockTale) where
   same_clock (part.Script p) (done.Script d) g = refl
   same_clock (part.Worker p) (done.Worker d) g = refl
   same_clock (part.Client p) (done.Client d) g = refl
+  same_clock (part.Actor p) (done.Script d) g = elim g [ ]
+  same_clock (part.Actor p) (done.Worker d) g = elim g [ ]
+  same_clock (part.Actor p) (done.Client d) g = elim g [ ]
+  same_clock (part.Script p) (done.Actor d) g = elim g [ ]
+  same_clock (part.Script p) (done.Worker d) g = elim g [ ]
+  same_clock (part.Script p) (done.Client d) g = elim g [ ]
+  same_clock (part.Worker p) (done.Actor d) g = elim g [ ]
+  same_clock (part.Worker p) (done.Script d) g = elim g [ ]
+  same_clock (part.Worker p) (done.Client d) g = elim g [ ]
+  same_clock (part.Client p) (done.Actor d) g = elim g [ ]
+  same_clock (part.Client p) (done.Script d) g = elim g [ ]
+  same_clock (part.Client p) (done.Worker d) g = elim g [ ]
 
   pub same_clocks : (ps : List (LoadPart C R)) (ds : List (LoadDone C R)) → AllZip (LoadGives clock_tale) ps ds → length (flat_map clock_of_done ds) ≡ length (flat_map clock_of_part ps)
   same_clocks [] [] z = refl

@@ -1,8 +1,6 @@
 -- What the scripts and the workers of a load have sent.
 use Rattle.std.proofs.Common.{◌≡◌, ℕ, zero, suc, ◌+◌, List, [], ◌∷◌, ◌++◌, map, length, Ok, refl, sym, ap, ap₂, ◌∙◌, subst, arith}
 use Rattle.std.specs.List.{All, AllZip, range_with_len}
-use Rattle.std.specs.Vec.{Vec}
-use Rattle.std.specs.Global.{Global}
 use Rattle.std.proofs.lemmas.List.Elements.{All-nil, All-cons, All-head, All-tail}
 use Rattle.edit_apply.specs.declared.Edit.{Edit}
 use Rattle.edit_post.specs.Post.{PostId, Sender}

@@ -27,10 +27,10 @@ use Rattle.load_client.specs.declared.load_client.LoadClient.{LoadClient}
 use Rattle.load_parts.specs.Clients.{ClientGives}
 use Rattle.load_parts.specs.declared.client_part.ClientPart.{ClientPart}
 use Rattle.load_parts.specs.declared.client_part.ClientDone.{ClientDone}
-use Rattle.load_stage.specs.Clients.{load_client}
 use Rattle.load_stage.specs.Dealing.{dealt_to}
 use Rattle.load_stage.specs.Hubs.{guild_ids}
-use Rattle.load_stage.specs.Parts.{IsActor, IsScript, IsWorker, IsClient}
+use Rattle.load_stage.specs.Parts.{IsActor, IsScript, IsWorker}
+use Rattle.load_stage.specs.Clients.{IsClient}
 use Rattle.run_ends.specs.Senders.{new_passes}
 use Rattle.load_run.specs.declared.sorting.WorkerEnd.{WorkerEnd}
 use Rattle.load_run.specs.Joined.{ActorEnds, ScriptEnds, WorkerEnds, ClientEnds}
@@ -58,7 +58,7 @@ module _ {R : Type 0} (posts : List PostId) (flag : TableId) (writers : List (�
       (subst (λ (gs : List ℕ). Sends gs p.lines.items p.passes.items d.ending d.passes.items) is.index_is gives.sends))
 
   pub one_worker : {C : Type 0} (clock_tale : C → ClockTale) (queues : List (SegId Global)) (clocks : List C) (n : ℕ) (p : WorkerPart DialledState C (KeptNotes Input) R) (d : WorkerDone DialledState C (KeptNotes Input))
-      → IsWorker posts flag writers queues clocks n p → WorkerGives dialled_tale (λ door. door.plan.faults) clock_tale (λ kept. Some kept.notes.items) p d → WorkerEnds posts writers n (end_of d)
+      → IsWorker posts flag writers queues clocks n p → WorkerGives dialled_tale (λ door. door.plan.faults) clock_tale (λ kept. Some kept.notes.items) p d → WorkerEnds {R = R} posts writers n (end_of d)
   one_worker clock_tale queues clocks n p d is gives = record {
     worker = p.worker;
     is_new = is.worker_is;

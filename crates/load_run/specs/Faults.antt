@@ -2,6 +2,8 @@
 use Rattle.std.specs.Prelude.{ℕ, Bool, true, false, List, map, nat_lt, if◌then◌else◌, Option, Some, None, Result, Ok, Err}
 use Rattle.std.specs.List.{fold}
 use Rattle.std.specs.declared.alloc.AllocError.{AllocError}
+use Rattle.gate_outside.specs.declared.faults.Fault.{Fault}
+use Rattle.gate_outside.specs.declared.faults.Fault.TheVariants as outside
 use Rattle.edit_post.specs.declared.send_refused.SendRefused.{SendRefused}
 use Rattle.edit_post.specs.declared.send_refused.SendRefused.TheVariants as post
 use Rattle.worker_run.specs.declared.fault.WorkFault.{WorkFault}
@@ -74,3 +76,8 @@ module _ {C R : Type 0} where
   -- the fault that a load answers whose parts ended so, and whether all had started
   abbrev pub first_fault : Bool → List (LoadDone C R) → Option LoadFault
   first_fault started dones = fold sooner (start_fault started) (map fault_of dones)
+
+-- the fault of a sink
+abbrev pub by_sink : Fault → LoadFault
+by_sink outside.Failed = Write
+by_sink outside.Memory = Memory

@@ -2,6 +2,7 @@
 use Rattle.std.specs.Prelude.{◌≡◌, ℕ, ◌+◌, List, Option, Some, map, length, slice_get}
 use Rattle.std.specs.List.{AllZip, range_with_len}
 use Rattle.atomic_table.specs.Seated.{TableId}
+use Rattle.stop_flag.specs.Flags.{new_seat}
 use Rattle.edit_post.specs.Post.{PostId, new_taker}
 use Rattle.gate_outside.specs.Clocks.{ClockTale}
 use Rattle.gate_outside.specs.Dials.{DialTale}
@@ -20,11 +21,12 @@ use Rattle.gate_parts.specs.Workers.{WorksOrStops}
 use Rattle.gate_parts.specs.declared.actor_part.ActorDone.{ActorDone}
 use Rattle.gate_parts.specs.declared.script_part.ScriptDone.{ScriptDone}
 use Rattle.load_stage.specs.Bots.{load_bots, worker_url}
-use Rattle.load_stage.specs.Clients.{load_client}
+use Rattle.load_stage.specs.Clients.{client_with}
 use Rattle.load_stage.specs.Dealing.{AreFrom, dealt_to}
 use Rattle.load_stage.specs.Hubs.{guild_ids, IsNewWriter, new_reader}
 use Rattle.run_ends.specs.Senders.{new_passes}
 use Rattle.load_run.specs.declared.sorting.WorkerEnd.{WorkerEnd}
+use Rattle.load_run.specs.declared.sorting.Ends.{Ends}
 
 module _ {R : Type 0} (posts : List PostId) (writers : List (ℕ × Publishing)) where
   -- an actor has acted on its post for every second guild
@@ -56,7 +58,7 @@ pub record ClientEnds (flag : TableId) (number : ℕ) (ended : EndedClient) : Ty
   pub dial_after : DialTale
   pub clock : ClockTale
   pub clock_after : ClockTale
-  pub has_ended : HasEnded (load_client flag number) visits dial dial_after clock clock_after ended
+  pub has_ended : HasEnded (client_with (new_seat flag (9 + number)) number) visits dial dial_after clock clock_after ended
 
 -- all parts of a load with this seed but for its clients
 pub record Joined {R : Type 0} (seed : ℕ) (posts : List PostId) (actors : List (ActorDone R)) (scripts : List ScriptDone) (workers : List (WorkerEnd R)) : Type 0 where
@@ -70,3 +72,7 @@ pub record Joined {R : Type 0} (seed : ℕ) (posts : List PostId) (actors : List
 -- the clients of a load
 abbrev pub ClientsJoined : List EndedClient → Type 0
 ClientsJoined clients = (flag : TableId) × AreFrom (ClientEnds flag) 0 12 clients
+
+-- all parts of a load, by what each kind has left
+abbrev pub HasJoined : {C R : Type 0} → ℕ → List PostId → Ends C R → Type 0
+HasJoined seed posts e = Joined seed posts e.actors.items e.scripts.items e.workers.items × ClientsJoined e.clients.items

@@ -2,6 +2,7 @@
 use Rattle.std.specs.Prelude.{◌≡◌, ℕ, ◌+◌, ◌/◌, ◌%◌, List, ◌++◌, map, All, Some, None, Ok}
 use Rattle.std.specs.List.{AllZip, range_with_len}
 use Rattle.atomic_table.specs.Seated.{TableId}
+use Rattle.stop_flag.specs.Flags.{new_seat}
 use Rattle.edit_apply.specs.declared.Edit.{Edit}
 use Rattle.gate_outside.specs.Clocks.{ClockTale}
 use Rattle.gate_outside.specs.Dials.{DialTale}
@@ -24,7 +25,7 @@ use Rattle.load_client.specs.Agreement.{AgreeSo}
 use Rattle.load_client.specs.Ended.{HasEnded}
 use Rattle.load_client.specs.declared.ended_client.EndedClient.{EndedClient}
 use Rattle.load_stage.specs.Bots.{load_bots, worker_url}
-use Rattle.load_stage.specs.Clients.{load_client, intents_of}
+use Rattle.load_stage.specs.Clients.{client_with, intents_of}
 use Rattle.load_stage.specs.Hubs.{guild_ids}
 use Rattle.log_summary.specs.Summary.{summary_text}
 use Rattle.run_ends.specs.Logs.{IsMergedLog}
@@ -57,7 +58,7 @@ pub record ClientRan (logs : List (ℕ × Published)) (number : ℕ) (agree : �
   pub clock : ClockTale
   pub clock_after : ClockTale
   pub ended : EndedClient
-  pub has_ended : HasEnded (load_client flag number) visits dial dial_after clock clock_after ended
+  pub has_ended : HasEnded (client_with (new_seat flag (9 + number)) number) visits dial dial_after clock clock_after ended
   pub finished : ended.driven ≡ Ok Finished
   pub agrees : AgreeSo (viewer_of number) ended.client.kept (map (λ (log : ℕ × Published). whole_record log.1) logs) agree
 

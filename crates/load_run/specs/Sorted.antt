@@ -11,6 +11,7 @@ use Rattle.load_parts.specs.declared.load_part.LoadDone.{LoadDone}
 use Rattle.load_parts.specs.Kinds.{actor_of, script_of, worker_of, client_of}
 use Rattle.load_run.specs.declared.sorting.WorkerEnd.{WorkerEnd}
 use Rattle.load_run.specs.declared.sorting.Ends.{Ends}
+use Rattle.load_run.specs.declared.rooms.Rooms.{Rooms}
 use Rattle.load_run.specs.Ends.{clock_of_done}
 
 abbrev pub ended_of : {C : Type 0} → ClientDone C → EndedClient
@@ -43,3 +44,13 @@ module _ {C R : Type 0} where
     pub workers : e.workers.items ≡ []
     pub clients : e.clients.items ≡ []
     pub clocks : e.clocks.items ≡ []
+
+  -- room for so many parts, for what they give, and for what each kind leaves
+  pub record AreRoomy (n : ℕ) (r : Rooms C R) : Type 0 where
+    pub parts_none : r.parts.items ≡ []
+    pub parts_room : n ≤ vec_capacity r.parts
+    pub back_none : r.back.items ≡ []
+    pub dones_none : r.dones.items ≡ []
+    pub dones_room : n ≤ vec_capacity r.dones
+    pub ends_none : IsEmpty r.ends
+    pub ends_room : HasRoom n r.ends

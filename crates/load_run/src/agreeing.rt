@@ -21,8 +21,12 @@ fn viewer_of(number: u8) -> Viewer
     ensures { result ≡ viewer_of number }
 {
     let user = Snowflake(u64::from(1 + number / 3 % 3));
-    let bits = if number % 2 == 0 { 515 } else { 1 };
-    viewer(user, Intents::of_bits(bits).unwrap())
+    let intents = if number % 2 == 0 {
+        Intents::of_bits(515).unwrap()
+    } else {
+        Intents::of_bits(1).unwrap()
+    };
+    viewer(user, intents)
 }
 
 // The records of the sealed logs.

@@ -1,10 +1,12 @@
 //! A load, from its seed to its summary.
 
-ghost use Rattle.std.specs.Prelude.{◌≡◌, ◌++◌, length, OnOk, OnErr};
+ghost use Rattle.std.specs.Prelude.{◌≡◌, ℕ, length};
+ghost use Rattle.load_run.specs.Causes.{Loads, HasLoadCause, StartsParts};
+ghost use Rattle.load_run.specs.Joined.{Joined, ClientsJoined};
 
 use crate::fault::LoadFault;
 use crate::playing::{Played, play};
-use crate::rooms::make_rooms;
+use crate::rooms::{PARTS, make_rooms};
 use crate::sorting::Ends;
 use crate::summing::{Senders, sum_up};
 use crate::writing::write_out;
@@ -12,8 +14,10 @@ use gate_outside::clocks::Clock;
 use gate_outside::faults::Fault;
 use gate_outside::spawners::Spawner;
 use gate_outside::streams::Sink;
+use gate_parts::Posts;
+use load_client::EndedClient;
 use load_parts::LoadPart;
-use load_stage::stage;
+use load_stage::set_stage;
 use std::alloc::Global;
 use std::sync::Wait;
 use std::time;
@@ -41,7 +45,12 @@ fn finish<C: Drop, R: Wait + Copy + Drop, K: Sink>(
     senders: Senders<R>,
     clients: Vec<EndedClient>,
     sink: &mut K,
-) -> Result<(), LoadFault> {
+) -> Result<(), LoadFault>
+    requires senders { Joined seed posts senders.actors.items senders.scripts.items senders.workers.items }
+    requires clients { ClientsJoined clients.items }
+    ensures loads { Loads seed (K.got sink.old) (K.got sink.new) (K.waits sink.old) result }
+    ensures cause { (team : ℕ) → HasLoadCause R seed team team (K.faults sink.old) (K.faults sink.new) result }
+{
     let text = sum_up(alloc, seed, posts.as_slice(), senders, clients)?;
     write_out(sink, text.as_str())?;
     Ok(())
@@ -67,6 +76,10 @@ pub fn load<
     sink: &mut K,
 ) -> (Vec<C>, Result<(), LoadFault>)
     requires { length clocks.items ≡ 15 }
+    ensures clocks { length result.0.items ≡ 15 }
+    ensures loads { Loads seed (K.got sink.old) (K.got sink.new) (K.waits sink.old) result.1 }
+    ensures causes { HasLoadCause R seed (S.faults team.old) (S.faults team.new) (K.faults sink.old) (K.faults sink.new) result.1 }
+    ensures starts { StartsParts (S.starts team.old) (S.starts team.new) result.1 }
 {
     let Ok(rooms) = make_rooms(alloc) else {
         return (clocks, Err(LoadFault::Memory));
@@ -75,7 +88,7 @@ pub fn load<
         drop(rooms);
         return (clocks, Err(LoadFault::Memory));
     };
-    let stage = match stage(rt, alloc, seed, clocks) {
+    let stage = match set_stage(rt, alloc, seed, clocks) {
         Ok(stage) => stage,
         Err(clocks) => {
             drop(rooms);

@@ -1,7 +1,13 @@
 //! The parts of a load run, and what they leave is sorted.
 
-ghost use Rattle.std.specs.Prelude.{◌≡◌, ℕ, List, [], length, IfNone};
-ghost use Rattle.load_stage.specs.declared.stage.Stage.{Stage as AStage};
+ghost use Rattle.std.specs.Prelude.{◌≡◌, ◌≤◌, ℕ, List, [], Some, None, length};
+ghost use Rattle.std.specs.Vec.{vec_capacity};
+ghost use Rattle.team_run.specs.Teams.{many_more};
+ghost use Rattle.load_stage.specs.Stages.{IsStage};
+ghost use Rattle.load_run.specs.Causes.{LoadCause};
+ghost use Rattle.load_run.specs.Joined.{HasJoined};
+ghost use Rattle.load_run.specs.Sorted.{AreRoomy};
+ghost use Rattle.load_run.specs.declared.fault.LoadFault.{LoadFault as AFault};
 
 use crate::fault::LoadFault;
 use crate::faults::first_fault;
@@ -31,7 +37,17 @@ pub fn play<C: Clock + Drop, R: Wait + time::Clock + Copy + Drop, S: Spawner<Loa
     stage: Stage<C, R>,
     rooms: Rooms<C, R>,
     started: Vec<S::Held>,
-) -> Played<C, R> {
+) -> Played<C, R>
+    requires stage { (seed : ℕ) × ((clocks : List C) × IsStage seed clocks stage) }
+    requires rooms { AreRoomy 21 rooms }
+    requires started { (started.items ≡ []) × (21 ≤ vec_capacity started) }
+    ensures posts { result.posts ≡ stage.posts }
+    ensures clocks { length result.ends.clocks.items ≡ 15 }
+    ensures ended { (seed : ℕ) (clocks : List C) → IsStage seed clocks stage → result.fault ≡ None → HasJoined seed stage.posts result.ends }
+    ensures cause { (seed : ℕ) (clocks : List C) → IsStage seed clocks stage → (f : AFault) → result.fault ≡ Some f → (sink : ℕ) → LoadCause R seed (S.faults team.old) (S.faults team.new) sink sink f }
+    ensures whole { result.fault ≡ None → (S.faults team.new ≡ S.faults team.old) × ((S.starts team.new).asked ≡ many_more 21 (S.starts team.old).asked) }
+    ensures late { (S.starts team.old).finished ≡ 0 → (S.starts team.new).late ≡ (S.starts team.old).late }
+{
     let Stage {
         posts,
         word,

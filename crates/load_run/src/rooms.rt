@@ -2,7 +2,7 @@
 
 ghost use Rattle.std.specs.Prelude.{◌≡◌, ◌≤◌, [], IfOk};
 ghost use Rattle.std.specs.Vec.{vec_capacity};
-ghost use Rattle.load_run.specs.Sorted.{HasRoom, IsEmpty};
+ghost use Rattle.load_run.specs.Sorted.{HasRoom, IsEmpty, AreRoomy};
 
 use crate::sorting::Ends;
 use load_parts::{LoadDone, LoadPart};
@@ -10,7 +10,7 @@ use std::alloc::{AllocError, Global};
 use std::sync::Wait;
 
 // How many parts a load has.
-const PARTS: usize = 21;
+pub const PARTS: usize = 21;
 
 /// Room for all parts of a load, for what they give, and for what each kind leaves.
 #[derive(Drop)]
@@ -36,10 +36,7 @@ fn make_ends<C: Drop, R: Wait + Copy + Drop>(alloc: Global) -> Result<Ends<C, R>
 
 /// Makes the room.
 pub fn make_rooms<C: Drop, R: Wait + Copy + Drop>(alloc: Global) -> Result<Rooms<C, R>, AllocError>
-    ensures parts { IfOk result (λ r. (r.parts.items ≡ []) × (21 ≤ vec_capacity r.parts)) }
-    ensures back { IfOk result (λ r. r.back.items ≡ []) }
-    ensures dones { IfOk result (λ r. (r.dones.items ≡ []) × (21 ≤ vec_capacity r.dones)) }
-    ensures ends { IfOk result (λ r. IsEmpty r.ends × HasRoom 21 r.ends) }
+    ensures { IfOk result (AreRoomy 21) }
 {
     let parts = Vec::with_capacity(alloc, PARTS)?;
     let dones = Vec::with_capacity(alloc, PARTS)?;

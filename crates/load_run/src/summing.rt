@@ -29,6 +29,7 @@ pub struct Senders<R: Wait + Copy + Drop> {
 }
 
 // The passes of all senders, in order, and the readers of all workers.
+#[derive(Drop)]
 struct Left {
     passes: Vec<Vec<SendPass>>,
     readers: Vec<(Snowflake, HubReader)>,

@@ -14,7 +14,7 @@ loop-part-preserved g c =
     let new = c.add_part.new.self in
     let fewer : length at.parts.items ≡ length rest + 1 = ap length c.in-Some.ensures.items ∙ length-append rest (part ∷ []) in
     let clocks : length (flat_map clock_of_part at.parts.items) ≡ length (flat_map clock_of_part rest) + length (clock_of_part part) =
-        ap (λ l. length (flat_map clock_of_part l)) c.in-Some.ensures.items ∙ ap length (flat_more clock_of_part rest part) ∙ length-append (flat_map clock_of_part rest) (clock_of_part part) in
+    ap (λ l. length (flat_map clock_of_part l)) c.in-Some.ensures.items ∙ ap length (flat_more clock_of_part rest part) ∙ length-append (flat_map clock_of_part rest) (clock_of_part part) in
     let more : length new.clocks.items ≡ length at.self.clocks.items + length (clock_of_part part) = ap length c.add_part.ensures.clocks ∙ length-append at.self.clocks.items (clock_of_part part) in record {
       same = c.add_part.ensures.same ∙ ap (λ (e : Ends g.row.C.Denot g.row.R.Denot). record e { clocks = new.clocks }) at.invariant.same;
       clocks = omega (arith, at.invariant.clocks, clocks, more);
