@@ -1,0 +1,20 @@
+//! The parts of a load as one kind of task: actors, scripts, workers and clients, what each gives, a team
+//! that runs them, and what they gave, kind by kind.
+#![tactic(auto)]
+
+mod client_part;
+mod function;
+mod laws;
+mod load_dones;
+mod load_part;
+mod start_count;
+mod task_team;
+mod threads;
+
+pub use client_part::{ClientDone, ClientPart};
+pub use function::{Closure, Function};
+pub use laws::split_by_kind;
+pub use load_dones::{LoadDones, split};
+pub use load_part::{DoorWorker, DoorWorkerDone, LoadDone, LoadPart};
+pub use task_team::{Started, TaskTeam};
+pub use threads::{begin_part, end_part};
