@@ -52,10 +52,7 @@ fn both<R: Wait + Drop>(
 ///
 /// # Errors
 /// Out of memory.
-pub(crate) fn open<R: Wait + Copy + Drop>(
-    rt: R,
-    alloc: Global,
-) -> Result<OpenPosts<R>, AllocError>
+pub(crate) fn open<R: Wait + Copy + Drop>(rt: R, alloc: Global) -> Result<OpenPosts<R>, AllocError>
     ensures { IfOk result (λ o. HasPosts o.posts.items o.takers o.passes.items) }
 {
     let (post, senders, first) = open_post(rt, alloc)?;
