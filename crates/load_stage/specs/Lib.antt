@@ -1,0 +1,10 @@
+pub mod Dealing
+pub mod Posts
+pub mod Hubs
+pub mod Doors
+pub mod Bots
+pub mod Clients
+pub mod Seats
+pub mod Parts
+pub mod Stages
+pub mod Drafts

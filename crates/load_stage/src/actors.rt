@@ -1,0 +1,93 @@
+//! The parts of the two actors.
+
+ghost use Rattle.std.specs.Prelude.{◌≡◌, [], IfOk, OnOk};
+ghost use Rattle.gate_parts.specs.Ready.{CanAct};
+ghost use Rattle.load_stage.specs.Dealing.{AreFrom};
+ghost use Rattle.load_stage.specs.Hubs.{IsNewWriter};
+ghost use Rattle.load_stage.specs.Parts.{IsActor};
+ghost use Rattle.load_stage.specs.Posts.{IsTakerOf};
+ghost use Rattle.load_stage.specs.Seats.{HasSeats};
+
+use crate::dealing::deal_in_two;
+use crate::ground::Ground;
+use crate::seats::Seats;
+use edit_post::TakePass;
+use gate_parts::ActorPart;
+use guild_hub::HubWriter;
+use snowflake_id::Snowflake;
+use std::alloc::AllocError;
+use std::sync::Wait;
+use stop_flag::StopSeat;
+
+// The part of an actor.
+fn actor_part<R: Wait + Copy + Drop>(
+    ground: Ground<R>,
+    place: usize,
+    pass: TakePass,
+    writers: Vec<(Snowflake, HubWriter<R>)>,
+    seat: StopSeat,
+) -> ActorPart<R>
+    requires { CanAct ground.posts place pass writers.items }
+    ensures posts { result.posts ≡ ground.posts }
+    ensures own { (result.place ≡ place) × (result.pass ≡ pass) × (result.writers ≡ writers) × (result.seat ≡ seat) }
+{
+    let Ground {
+        rt,
+        alloc,
+        posts,
+        word,
+    } = ground;
+    ActorPart {
+        rt,
+        alloc,
+        posts,
+        place,
+        pass,
+        writers,
+        word,
+        seat,
+    }
+}
+
+// The part of an actor, with a share of what all parts share.
+fn actor<R: Wait + Copy + Drop>(
+    ground: &Ground<R>,
+    place: usize,
+    pass: TakePass,
+    writers: Vec<(Snowflake, HubWriter<R>)>,
+    seat: StopSeat,
+) -> Result<ActorPart<R>, AllocError>
+    requires { CanAct ground.now.posts place pass writers.items }
+    ensures posts { IfOk result (λ part. part.posts ≡ ground.now.posts) }
+    ensures own { IfOk result (λ part. (part.place ≡ place) × (part.pass ≡ pass) × (part.writers ≡ writers) × (part.seat ≡ seat)) }
+{
+    let ground = ground.share()?;
+    Ok(actor_part(ground, place, pass, writers, seat))
+}
+
+/// Adds the parts of both actors, to which the writers are dealt in turn.
+///
+/// # Errors
+/// Out of memory.
+pub(crate) fn add_actors<R: Wait + Copy + Drop>(
+    ground: &Ground<R>,
+    takers: (TakePass, TakePass),
+    writers: Vec<(Snowflake, HubWriter<R>)>,
+    seats: &mut Seats,
+    parts: &mut Vec<ActorPart<R>>,
+) -> Result<(), AllocError>
+    requires takers { IsTakerOf ground.now.posts 0 takers.0 × IsTakerOf ground.now.posts 1 takers.1 }
+    requires writers { AreFrom IsNewWriter 1 8 writers.items }
+    requires seats { HasSeats 0 22 seats.old }
+    requires none { parts.old.items ≡ [] }
+    ensures seats { OnOk result (HasSeats 2 20 seats.new × (seats.new.keeper ≡ seats.old.keeper)) }
+    ensures parts { OnOk result (AreFrom (IsActor ground.now.posts seats.old.keeper.flag writers.items) 0 2 parts.new.items) }
+{
+    let (even, odd) = deal_in_two(ground.alloc, writers)?;
+    let (first, second) = takers;
+    let seat = seats.take_next();
+    parts.push(actor(ground, 0, first, even, seat)?)?;
+    let seat = seats.take_next();
+    parts.push(actor(ground, 1, second, odd, seat)?)?;
+    Ok(())
+}

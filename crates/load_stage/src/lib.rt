@@ -1,0 +1,18 @@
+//! All that a load begins with: its posts, hubs and doors, and the parts that run beside one another.
+#![tactic(auto)]
+
+mod actors;
+mod bots;
+mod clients;
+mod dealing;
+mod doors;
+mod drafting;
+mod ground;
+mod hubs;
+mod posts;
+mod scripts;
+mod seats;
+mod stage;
+mod workers;
+
+pub use stage::{Stage, set_stage};
