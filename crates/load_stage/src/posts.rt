@@ -1,6 +1,6 @@
 //! The two posts of a load, and the passes of its parts.
 
-ghost use Rattle.std.specs.Prelude.{◌≡◌, ◌∷◌, [], length, map, IfOk};
+ghost use Rattle.std.specs.Prelude.{◌≡◌, ◌∷◌, [], map, IfOk};
 ghost use Rattle.std.specs.List.{range_with_len};
 ghost use Rattle.edit_post.specs.Post.{new_sender, new_taker};
 ghost use Rattle.load_stage.specs.Posts.{HasPosts};
