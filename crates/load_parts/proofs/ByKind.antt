@@ -23,7 +23,7 @@ use Rattle.load_parts.specs.declared.load_part.LoadDone.TheVariants as done
 use Rattle.load_parts.specs.Clients.{ClientGives}
 use Rattle.load_parts.specs.Parts.{LoadGives, DoorWorkerGives}
 use Rattle.load_parts.specs.Kinds.{actor_of, script_of, worker_of, client_of}
-use Rattle.load_parts.specs.ByKind.{parts_of, GaveByKind, SplitsByKind}
+use Rattle.load_parts.specs.ByKind.{GaveByKind, SplitsByKind}
 
 -- the items of one kind, among those of all kinds
 module _ {E D : Type 0} (made : E → D) where
@@ -78,40 +78,58 @@ module _ {C R : Type 0} (clock_tale : C → ClockTale) where
   none_left [] gave = refl
   none_left (d ∷ ds) gave = absurd gave
 
+-- what is found of each kind where the kinds stand one after another
+module _ {C R : Type 0} (xs : List (ActorDone R)) (ss : List ScriptDone) (ws : List (WorkerDone DialledState C (KeptNotes Given))) (cs : List (ClientDone C)) where
+  -- the clients, and nothing after them
+  abbrev last : List (LoadDone C R)
+  last = map done.Client cs ++ []
+
+  abbrev after_scripts : List (LoadDone C R)
+  after_scripts = map done.Worker ws ++ last
+
+  abbrev after_actors : List (LoadDone C R)
+  after_actors = map done.Script ss ++ after_scripts
+
+  abbrev whole : List (LoadDone C R)
+  whole = map done.Actor xs ++ after_actors
+
+  of_actors : flat_map actor_of whole ≡ xs
+  of_actors = own done.Actor actor_of (λ e. refl) xs after_actors ∙ ap (λ (l : List (ActorDone R)). xs ++ l) (
+      other done.Script actor_of (λ e. refl) ss after_scripts ∙ (other done.Worker actor_of (λ e. refl) ws last ∙ other done.Client actor_of (λ e. refl) cs [])) ∙ append-nil xs
+
+  of_scripts : flat_map script_of whole ≡ ss
+  of_scripts = other done.Actor script_of (λ e. refl) xs after_actors ∙ (own done.Script script_of (λ e. refl) ss after_scripts ∙ ap (λ (l : List ScriptDone). ss ++ l) (
+      other done.Worker script_of (λ e. refl) ws last ∙ other done.Client script_of (λ e. refl) cs []) ∙ append-nil ss)
+
+  of_workers : flat_map worker_of whole ≡ ws
+  of_workers = other done.Actor worker_of (λ e. refl) xs after_actors ∙ (other done.Script worker_of (λ e. refl) ss after_scripts ∙ (own done.Worker worker_of (λ e. refl) ws last
+      ∙ ap (λ (l : List (WorkerDone DialledState C (KeptNotes Given))). ws ++ l) (other done.Client worker_of (λ e. refl) cs []) ∙ append-nil ws))
+
+  of_clients : flat_map client_of whole ≡ cs
+  of_clients = other done.Actor client_of (λ e. refl) xs after_actors ∙ (other done.Script client_of (λ e. refl) ss after_scripts ∙ (other done.Worker client_of (λ e. refl) ws last
+      ∙ (own done.Client client_of (λ e. refl) cs [] ∙ append-nil cs)))
+
+module _ {C R : Type 0} (clock_tale : C → ClockTale) where
+  -- each kind gave what its parts may give, where the kinds stand one after another
+  in_order : (actors : List (ActorPart R)) (scripts : List (ScriptPart R)) (workers : List (WorkerPart DialledState C (KeptNotes Given) R)) (clients : List (ClientPart C R)) (dones : List (LoadDone C R))
+      (xs : List (ActorDone R)) (ss : List ScriptDone) (ws : List (WorkerDone DialledState C (KeptNotes Given))) (cs : List (ClientDone C))
+      → dones ≡ whole xs ss ws cs → AllZip ActorGives actors xs → AllZip ScriptGives scripts ss → AllZip (DoorWorkerGives clock_tale) workers ws → AllZip (ClientGives clock_tale) clients cs
+      → GaveByKind C R clock_tale actors scripts workers clients dones
+  in_order actors scripts workers clients dones xs ss ws cs is a s w c = subst (GaveByKind C R clock_tale actors scripts workers clients) (sym is) (record {
+    actors_gave = subst (AllZip ActorGives actors) (sym (of_actors xs ss ws cs)) a;
+    scripts_gave = subst (AllZip ScriptGives scripts) (sym (of_scripts xs ss ws cs)) s;
+    workers_gave = subst (AllZip (DoorWorkerGives clock_tale) workers) (sym (of_workers xs ss ws cs)) w;
+    clients_gave = subst (AllZip (ClientGives clock_tale) clients) (sym (of_clients xs ss ws cs)) c;
+  })
+
   pub by_kind : SplitsByKind C R clock_tale
   by_kind actors scripts workers clients dones gave =
-      let a = in_front done.Actor (LoadGives clock_tale) ActorGives part.Actor actor_fits actors (map part.Script scripts ++ (map part.Worker workers ++ map part.Client clients)) dones gave in
-      let s = in_front done.Script (LoadGives clock_tale) ScriptGives part.Script script_fits scripts (map part.Worker workers ++ map part.Client clients) a.1 a.4 in
-      let w = in_front done.Worker (LoadGives clock_tale) (DoorWorkerGives clock_tale) part.Worker worker_fits workers (map part.Client clients) s.1 s.4 in
+      let a = in_front done.Actor (LoadGives clock_tale) ActorGives part.Actor (actor_fits clock_tale) actors (map part.Script scripts ++ (map part.Worker workers ++ map part.Client clients)) dones gave in
+      let s = in_front done.Script (LoadGives clock_tale) ScriptGives part.Script (script_fits clock_tale) scripts (map part.Worker workers ++ map part.Client clients) a.1 a.4 in
+      let w = in_front done.Worker (LoadGives clock_tale) (DoorWorkerGives clock_tale) part.Worker (worker_fits clock_tale) workers (map part.Client clients) s.1 s.4 in
       let clients_left : AllZip (LoadGives clock_tale) (map part.Client clients ++ []) w.1 = subst (λ (l : List (LoadPart C R)). AllZip (LoadGives clock_tale) l w.1) (sym (append-nil (map part.Client clients))) w.4 in
-      let c = in_front done.Client (LoadGives clock_tale) (ClientGives clock_tale) part.Client client_fits clients [] w.1 clients_left in
-      let none = none_left c.1 c.4 in
-      let of_actors : flat_map actor_of dones ≡ a.0 =
-      ap (flat_map actor_of) a.2 ∙ own done.Actor actor_of (λ e. refl) a.0 a.1 ∙ ap (λ (l : List (ActorDone R)). a.0 ++ l) (
-      ap (flat_map actor_of) s.2 ∙ other done.Script actor_of (λ e. refl) s.0 s.1
-      ∙ ap (flat_map actor_of) w.2 ∙ other done.Worker actor_of (λ e. refl) w.0 w.1
-      ∙ ap (flat_map actor_of) c.2 ∙ other done.Client actor_of (λ e. refl) c.0 c.1
-      ∙ ap (flat_map actor_of) none) ∙ append-nil a.0 in
-      let of_scripts : flat_map script_of dones ≡ s.0 =
-      ap (flat_map script_of) a.2 ∙ other done.Actor script_of (λ e. refl) a.0 a.1
-      ∙ ap (flat_map script_of) s.2 ∙ own done.Script script_of (λ e. refl) s.0 s.1 ∙ ap (λ (l : List ScriptDone). s.0 ++ l) (
-      ap (flat_map script_of) w.2 ∙ other done.Worker script_of (λ e. refl) w.0 w.1
-      ∙ ap (flat_map script_of) c.2 ∙ other done.Client script_of (λ e. refl) c.0 c.1
-      ∙ ap (flat_map script_of) none) ∙ append-nil s.0 in
-      let of_workers : flat_map worker_of dones ≡ w.0 =
-      ap (flat_map worker_of) a.2 ∙ other done.Actor worker_of (λ e. refl) a.0 a.1
-      ∙ ap (flat_map worker_of) s.2 ∙ other done.Script worker_of (λ e. refl) s.0 s.1
-      ∙ ap (flat_map worker_of) w.2 ∙ own done.Worker worker_of (λ e. refl) w.0 w.1 ∙ ap (λ (l : List (WorkerDone DialledState C (KeptNotes Given))). w.0 ++ l) (
-      ap (flat_map worker_of) c.2 ∙ other done.Client worker_of (λ e. refl) c.0 c.1
-      ∙ ap (flat_map worker_of) none) ∙ append-nil w.0 in
-      let of_clients : flat_map client_of dones ≡ c.0 =
-      ap (flat_map client_of) a.2 ∙ other done.Actor client_of (λ e. refl) a.0 a.1
-      ∙ ap (flat_map client_of) s.2 ∙ other done.Script client_of (λ e. refl) s.0 s.1
-      ∙ ap (flat_map client_of) w.2 ∙ other done.Worker client_of (λ e. refl) w.0 w.1
-      ∙ ap (flat_map client_of) c.2 ∙ own done.Client client_of (λ e. refl) c.0 c.1 ∙ ap (λ (l : List (ClientDone C)). c.0 ++ l) (ap (flat_map client_of) none) ∙ append-nil c.0 in
-      record {
-        actors_gave = subst (AllZip ActorGives actors) (sym of_actors) a.3;
-        scripts_gave = subst (AllZip ScriptGives scripts) (sym of_scripts) s.3;
-        workers_gave = subst (AllZip (DoorWorkerGives clock_tale) workers) (sym of_workers) w.3;
-        clients_gave = subst (AllZip (ClientGives clock_tale) clients) (sym of_clients) c.3;
-      }
+      let c = in_front done.Client (LoadGives clock_tale) (ClientGives clock_tale) part.Client (client_fits clock_tale) clients [] w.1 clients_left in
+      let after_clients : w.1 ≡ last a.0 s.0 w.0 c.0 = c.2 ∙ ap (λ (l : List (LoadDone C R)). map done.Client c.0 ++ l) (none_left clock_tale c.1 c.4) in
+      let after_workers : s.1 ≡ after_scripts a.0 s.0 w.0 c.0 = w.2 ∙ ap (λ (l : List (LoadDone C R)). map done.Worker w.0 ++ l) after_clients in
+      let after_all_scripts : a.1 ≡ after_actors a.0 s.0 w.0 c.0 = s.2 ∙ ap (λ (l : List (LoadDone C R)). map done.Script s.0 ++ l) after_workers in
+      in_order actors scripts workers clients dones a.0 s.0 w.0 c.0 (a.2 ∙ ap (λ (l : List (LoadDone C R)). map done.Actor a.0 ++ l) after_all_scripts) a.3 s.3 w.3 c.3

@@ -1,13 +1,12 @@
 -- What the parts of a load gave, kind by kind.
-use Rattle.std.specs.Prelude.{List, ◌++◌, map, flat_map, Some}
+use Rattle.std.specs.Prelude.{List, ◌++◌, map, flat_map}
 use Rattle.std.specs.List.{AllZip}
 use Rattle.gate_outside.specs.Clocks.{ClockTale}
-use Rattle.thread_outside.specs.DialledDoors.{DialledState, dialled_tale}
+use Rattle.thread_outside.specs.DialledDoors.{DialledState}
 use Rattle.thread_outside.specs.declared.kept_notes.KeptNotes.{KeptNotes}
 use Rattle.worker_core.specs.declared.io.Input.{Input as Given}
 use Rattle.gate_parts.specs.Actors.{ActorGives}
 use Rattle.gate_parts.specs.Scripts.{ScriptGives}
-use Rattle.gate_parts.specs.Workers.{WorkerGives}
 use Rattle.gate_parts.specs.declared.actor_part.ActorPart.{ActorPart}
 use Rattle.gate_parts.specs.declared.script_part.ScriptPart.{ScriptPart}
 use Rattle.gate_parts.specs.declared.worker_part.WorkerPart.{WorkerPart}

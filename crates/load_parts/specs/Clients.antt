@@ -1,5 +1,5 @@
 -- What a client's part of a load does.
-use Rattle.std.specs.Prelude.{◌≡◌, ℕ, List}
+use Rattle.std.specs.Prelude.{List}
 use Rattle.gate_outside.specs.Clocks.{ClockTale}
 use Rattle.gate_outside.specs.Dials.{DialTale}
 use Rattle.thread_outside.specs.DialledDoors.{door_dial_tale}

@@ -1,5 +1,5 @@
 -- The parts of a load that have ended, kind by kind.
-use Rattle.std.specs.Prelude.{◌≡◌, ℕ, ◌≤◌, ◌<◌, List, [], ◌∷◌, ◌++◌, flat_map, vec_len, vec_capacity}
+use Rattle.std.specs.Prelude.{◌≡◌, ℕ, ◌≤◌, List, [], ◌∷◌, flat_map, vec_len, vec_capacity}
 use Rattle.thread_outside.specs.DialledDoors.{DialledState}
 use Rattle.thread_outside.specs.declared.kept_notes.KeptNotes.{KeptNotes}
 use Rattle.worker_core.specs.declared.io.Input.{Input as Given}

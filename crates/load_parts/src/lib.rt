@@ -7,14 +7,16 @@ mod function;
 mod laws;
 mod load_dones;
 mod load_part;
+mod part_threads;
 mod start_count;
 mod task_team;
-mod threads;
+mod team_work;
 
 pub use client_part::{ClientDone, ClientPart};
 pub use function::{Closure, Function};
 pub use laws::split_by_kind;
 pub use load_dones::{LoadDones, split};
 pub use load_part::{DoorWorker, DoorWorkerDone, LoadDone, LoadPart};
+pub use part_threads::with_part_threads;
 pub use task_team::{Started, TaskTeam};
-pub use threads::{begin_part, end_part};
+pub use team_work::{TeamWork, with_threads};

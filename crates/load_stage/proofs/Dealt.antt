@@ -1,5 +1,5 @@
 -- Lists that are dealt to several holders in turn.
-use Rattle.std.proofs.Common.{◌≡◌, ℕ, List, [], ◌∷◌, ◌++◌, map, take, drop, refl, sym, ap, ◌∙◌, append_assoc}
+use Rattle.std.proofs.Common.{◌≡◌, List, [], ◌∷◌, ◌++◌, map, take, drop, refl, sym, ap, ◌∙◌, append_assoc}
 use Rattle.load_stage.specs.Dealing.{evens, odds, woven, paired}
 
 evens_on : {X : Type 0} (xs : List X) → evens xs ≡ take 1 xs ++ evens (drop 1 (drop 1 xs))

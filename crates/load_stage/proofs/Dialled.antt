@@ -1,5 +1,5 @@
 -- Three doors and their dials.
-use Rattle.std.proofs.Common.{◌≡◌, ℕ, List, [], ◌∷◌, ◌++◌, map, refl, sym, ap, subst, ◌∙◌}
+use Rattle.std.proofs.Common.{◌≡◌, List, [], ◌∷◌, ◌++◌, map, refl, sym, ap, subst, ◌∙◌}
 use Rattle.std.specs.List.{range_with_len}
 use Rattle.std.specs.Global.{Global}
 use Rattle.crossbeam_queue.specs.SegTies.{SegId}
@@ -23,7 +23,7 @@ pub has_doors : (a b c : SegId Global) (doors : List DialledState) (first second
 has_doors a b c doors first second third dials d f s t e =
     let queues = a ∷ b ∷ c ∷ [] in
     let whole : dials ≡ in_turn (dials_of a) (dials_of b) (dials_of c) =
-        e ∙ ap (λ l. in_turn l second third) f ∙ ap (λ l. in_turn (dials_of a) l third) s ∙ ap (λ l. in_turn (dials_of a) (dials_of b) l) t in
+    e ∙ ap (λ l. in_turn l second third) f ∙ ap (λ l. in_turn (dials_of a) l third) s ∙ ap (λ l. in_turn (dials_of a) (dials_of b) l) t in
     record {
       queues = queues;
       three = refl;

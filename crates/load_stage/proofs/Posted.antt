@@ -1,5 +1,5 @@
 -- Two posts and the passes at them.
-use Rattle.std.proofs.Common.{◌≡◌, ℕ, List, [], ◌∷◌, map, refl, sym, ap, ap₂, subst, ◌∙◌}
+use Rattle.std.proofs.Common.{◌≡◌, List, [], ◌∷◌, map, refl, sym, ap, ap₂, subst, ◌∙◌}
 use Rattle.std.specs.Prelude.{Some}
 use Rattle.std.specs.List.{range_with_len}
 use Rattle.std.specs.Global.{Vec}
@@ -16,7 +16,7 @@ pub has_posts : (first second : PostId) (posts : List PostId) (takers : Taker ×
     → map (λ (v : Vec Sender). v.items) passes ≡ paired senders others → HasPosts posts takers passes
 has_posts first second posts takers senders others passes p t0 t1 s0 s1 e =
     let all : map (λ (v : Vec Sender). v.items) passes ≡ map (λ n. new_sender first n ∷ new_sender second n ∷ []) (range_with_len 0 7) =
-        e ∙ ap₂ (λ x y. paired x y) s0 s1 ∙ paired-map (new_sender first) (new_sender second) (range_with_len 0 7) in
+    e ∙ ap₂ (λ x y. paired x y) s0 s1 ∙ paired-map (new_sender first) (new_sender second) (range_with_len 0 7) in
     subst (λ l. HasPosts l takers passes) (sym p) (record {
       two = refl;
       first_is = ap Some (sym t0);

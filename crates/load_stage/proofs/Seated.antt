@@ -1,5 +1,5 @@
 -- Seats that are dealt.
-use Rattle.std.proofs.Common.{◌≡◌, ℕ, ◌+◌, ◌<◌, List, ◌∷◌, length, sym, ap, subst, ◌∙◌}
+use Rattle.std.proofs.Common.{◌≡◌, ℕ, ◌+◌, ◌<◌, ◌∷◌, length, sym, ap, subst, ◌∙◌}
 use Rattle.stop_flag.specs.Flags.{SeatState, new_keeper}
 use Rattle.load_stage.specs.declared.seats.Seats.{Seats}
 use Rattle.load_stage.specs.Dealing.{AreFrom}

@@ -1,16 +1,16 @@
 -- What follows of the parts of a load.
-use Rattle.std.proofs.Common.{◌≡◌, ℕ, zero, suc, ◌+◌, ◌<◌, List, [], ◌∷◌, ◌++◌, map, drop, length, refl, sym, ap, ap₂, subst, ◌∙◌, arith}
-use Rattle.std.specs.Prelude.{Some, All, slice_get}
+use Rattle.std.proofs.Common.{◌≡◌, ℕ, ◌+◌, List, [], ◌∷◌, ◌++◌, map, drop, length, sym, ap, ap₂, subst, ◌∙◌, arith}
+use Rattle.std.specs.Prelude.{Some, All}
 use Rattle.std.specs.List.{range_with_len, AllZip}
 use Rattle.std.specs.Global.{Global, Vec}
 use Rattle.std.proofs.lemmas.List.Elements.{All-append, All-map}
 use Rattle.atomic_table.specs.Seated.{TableId}
 use Rattle.crossbeam_queue.specs.SegTies.{SegId}
-use Rattle.edit_post.specs.Post.{PostId, Sender}
+use Rattle.edit_post.specs.Post.{PostId}
 use Rattle.guild_hub.specs.Writes.{Publishing}
 use Rattle.guild_posts.specs.Posts.{ArePasses}
 use Rattle.stop_flag.specs.Flags.{SeatState, KeeperState, new_seat}
-use Rattle.thread_outside.specs.DialledDoors.{DialledState, DoorDialState}
+use Rattle.thread_outside.specs.DialledDoors.{DialledState}
 use Rattle.thread_outside.specs.declared.kept_notes.KeptNotes.{KeptNotes}
 use Rattle.world_law.specs.Model.{first_worker}
 use Rattle.worker_core.specs.Represents.{Represents}
@@ -21,14 +21,12 @@ use Rattle.gate_parts.specs.declared.worker_part.WorkerPart.{WorkerPart}
 use Rattle.load_parts.specs.declared.client_part.ClientPart.{ClientPart}
 use Rattle.load_stage.specs.declared.drafting.Draft.{Draft}
 use Rattle.load_stage.specs.declared.drafting.Parts.{Parts}
-use Rattle.load_stage.specs.declared.clients.ClientDraft.{ClientDraft}
-use Rattle.load_stage.specs.declared.workers.WorkerDraft.{WorkerDraft}
 use Rattle.load_stage.specs.Bots.{load_bots, worker_url}
 use Rattle.load_stage.specs.Clients.{IsClient}
-use Rattle.load_stage.specs.Dealing.{AreFrom, IsAt, dealt_to}
+use Rattle.load_stage.specs.Dealing.{AreFrom}
 use Rattle.load_stage.specs.Doors.{IsDoorOf, IsDialOf}
 use Rattle.load_stage.specs.Drafts.{AreParts, IsDraft, IsWorkerDraft, IsClientDraft, IsClockedWorker, IsClockedClient}
-use Rattle.load_stage.specs.Hubs.{guild_ids, IsReaderOf, new_reader}
+use Rattle.load_stage.specs.Hubs.{guild_ids, IsReaderOf}
 use Rattle.load_stage.specs.Parts.{IsActor, IsScript, IsWorker}
 use Rattle.load_stage.specs.Stages.{IsStage}
 use Rattle.load_stage.proofs.Dealt.{woven_back}
@@ -151,9 +149,9 @@ module _ {C R : Type 0} where
           → AreFrom (IsActor posts flag writers) 0 2 actors → AreFrom (IsScript posts flag seed) 0 4 scripts
           → AreFrom (IsWorker posts flag writers queues clocks) 0 3 workers → AreFrom (IsClient flag queues clocks) 0 12 clients → seat ≡ new_seat flag 21
           → map (λ (part : ActorPart R). part.seat) actors
-              ++ (map (λ (part : ScriptPart R). part.seat) scripts
-              ++ (map (λ (part : AWorker C R). part.seat) workers
-              ++ (map (λ (part : ClientPart C R). part.client.seat) clients ++ seat ∷ []))) ≡ map (new_seat flag) (range_with_len 0 22)
+          ++ (map (λ (part : ScriptPart R). part.seat) scripts
+          ++ (map (λ (part : AWorker C R). part.seat) workers
+          ++ (map (λ (part : ClientPart C R). part.client.seat) clients ++ seat ∷ []))) ≡ map (new_seat flag) (range_with_len 0 22)
       seats_follow seed actors scripts workers clients seat acts ss ws cs is =
           ap₂ (λ x y. x ++ y) (actor_seats posts flag writers actors acts)
           (ap₂ (λ x y. x ++ y) (script_seats posts flag seed scripts ss)
@@ -165,15 +163,15 @@ module _ {C R : Type 0} where
       → IsDraft seed draft → keeper ≡ draft.seats.keeper → seat ≡ new_seat draft.seats.keeper.flag 21
       → AreFrom (IsClockedWorker draft.parts.workers.items clocks) 0 3 workers.items → AreFrom (IsClockedClient draft.parts.clients.items (drop 3 clocks)) 0 12 clients.items
       → IsStage seed clocks (record {
-          posts = draft.ground.posts;
-          word = draft.ground.word;
-          keeper = keeper;
-          seat = seat;
-          actors = draft.parts.actors;
-          scripts = draft.parts.scripts;
-          workers = workers;
-          clients = clients;
-        })
+        posts = draft.ground.posts;
+        word = draft.ground.word;
+        keeper = keeper;
+        seat = seat;
+        actors = draft.parts.actors;
+        scripts = draft.parts.scripts;
+        workers = workers;
+        clients = clients;
+      })
   staged seed clocks draft keeper seat workers clients is same seat_is ws cs =
       let posts = draft.ground.posts in
       let flag = draft.seats.keeper.flag in

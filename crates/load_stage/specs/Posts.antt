@@ -1,5 +1,5 @@
 -- The posts of a load and the passes of its parts.
-use Rattle.std.specs.Prelude.{◌≡◌, ℕ, ◌+◌, List, Option, Some, map, option_map, slice_get, length}
+use Rattle.std.specs.Prelude.{◌≡◌, ℕ, List, Some, map, option_map, slice_get, length}
 use Rattle.std.specs.Global.{Vec}
 use Rattle.edit_post.specs.Post.{PostId, Sender, Taker, new_sender, new_taker}
 use Rattle.load_stage.specs.Dealing.{AreFrom}

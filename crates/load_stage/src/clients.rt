@@ -1,6 +1,6 @@
 //! The parts of the twelve clients.
 
-ghost use Rattle.std.specs.Prelude.{◌≡◌, ◌<◌, ◌≤◌, [], length, drop, vec_capacity, All, IfOk, OnOk};
+ghost use Rattle.std.specs.Prelude.{◌≡◌, ◌≤◌, [], length, vec_capacity, All, IfOk, OnOk};
 ghost use Rattle.load_stage.specs.Clients.{client_with, intents_of};
 ghost use Rattle.load_stage.specs.Dealing.{AreFrom};
 ghost use Rattle.load_stage.specs.Drafts.{HasNotFailed, IsClientDraft, IsClientOf, IsClockedClient};

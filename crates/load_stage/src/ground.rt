@@ -21,11 +21,7 @@ impl<R: Wait + Copy + Drop> Ground<R> {
     ///
     /// # Errors
     /// Out of memory.
-    pub(crate) fn new(
-        rt: R,
-        alloc: Global,
-        posts: Vec<Post<R>>,
-    ) -> Result<Ground<R>, AllocError>
+    pub(crate) fn new(rt: R, alloc: Global, posts: Vec<Post<R>>) -> Result<Ground<R>, AllocError>
         ensures { IfOk result (λ ground. ground.posts ≡ posts.items) }
     {
         let word = StartWord::new(alloc)?;

@@ -1,6 +1,6 @@
 //! The hubs of the eight guilds of a load, each with a writer and a reader for each worker.
 
-ghost use Rattle.std.specs.Prelude.{◌≡◌, ℕ, ◌≤◌, ◌∷◌, ◌++◌, [], length, IfOk, OnOk};
+ghost use Rattle.std.specs.Prelude.{◌≡◌, ℕ, ◌∷◌, ◌++◌, [], length, IfOk, OnOk};
 ghost use Rattle.guild_hub.specs.Sights.{Seeing};
 ghost use Rattle.guild_hub.specs.Writes.{Publishing};
 ghost use Rattle.load_stage.specs.Hubs.{HasHubs, HasReaders, IsNewWriter};

@@ -1,6 +1,6 @@
 //! The two posts of a load, and the passes of its parts.
 
-ghost use Rattle.std.specs.Prelude.{◌≡◌, ◌∷◌, [], length, map, IfOk};
+ghost use Rattle.std.specs.Prelude.{◌≡◌, ◌∷◌, [], map, IfOk};
 ghost use Rattle.std.specs.List.{range_with_len};
 ghost use Rattle.edit_post.specs.Post.{new_sender, new_taker};
 ghost use Rattle.load_stage.specs.Posts.{HasPosts};
@@ -52,10 +52,7 @@ fn both<R: Wait + Drop>(
 ///
 /// # Errors
 /// Out of memory.
-pub(crate) fn open<R: Wait + Copy + Drop>(
-    rt: R,
-    alloc: Global,
-) -> Result<OpenPosts<R>, AllocError>
+pub(crate) fn open<R: Wait + Copy + Drop>(rt: R, alloc: Global) -> Result<OpenPosts<R>, AllocError>
     ensures { IfOk result (λ o. HasPosts o.posts.items o.takers o.passes.items) }
 {
     let (post, senders, first) = open_post(rt, alloc)?;

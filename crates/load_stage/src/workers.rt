@@ -1,6 +1,6 @@
 //! The parts of the three workers.
 
-ghost use Rattle.std.specs.Prelude.{◌≡◌, ◌<◌, ◌≤◌, [], length, drop, vec_capacity, All, IfOk, OnOk};
+ghost use Rattle.std.specs.Prelude.{◌≡◌, ◌≤◌, [], length, drop, vec_capacity, All, IfOk, OnOk};
 ghost use Rattle.world_law.specs.Model.{first_worker};
 ghost use Rattle.worker_core.specs.Represents.{Represents};
 ghost use Rattle.load_stage.specs.Bots.{load_bots, worker_url};

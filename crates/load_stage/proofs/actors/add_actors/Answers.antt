@@ -14,7 +14,7 @@ actor-requires-2 g c =
 pub returns-clause-seats : goal.returns-clause-seats
 returns-clause-seats g c =
     let one = next_seat 0 22 1 21 c.args.seats.now c.take_next-seat.new.self c.take_next-seat.result c.requires.seats
-        c.take_next-seat.ensures.left c.take_next-seat.ensures.keeper refl refl in
+    c.take_next-seat.ensures.left c.take_next-seat.ensures.keeper refl refl in
     let two = next_seat 1 21 2 20 c.take_next-seat.new.self c.take_next-seat-2.new.self c.take_next-seat-2.result one.1
-        c.take_next-seat-2.ensures.left c.take_next-seat-2.ensures.keeper refl refl in
+    c.take_next-seat-2.ensures.left c.take_next-seat-2.ensures.keeper refl refl in
     (two.1, c.take_next-seat-2.ensures.keeper ∙ c.take_next-seat.ensures.keeper)

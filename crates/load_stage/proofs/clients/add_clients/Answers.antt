@@ -15,14 +15,15 @@ loop-number-preserved g c =
     let fewer : 13 - (n + 1) + 1 ≡ 13 - n = omega arith in
     let dial = next_at n c.args.dials.now.items c.loop-number.dials.items c.take_next-dial.new.items.items c.take_next-dial.result kept.dials c.take_next-dial.ensures in
     let seat = next_seat (9 + n) (13 - n) (9 + (n + 1)) (13 - (n + 1)) c.loop-number.seats c.take_next-seat.new.self c.take_next-seat.result
-        kept.seats c.take_next-seat.ensures.left c.take_next-seat.ensures.keeper later fewer in
+    kept.seats c.take_next-seat.ensures.left c.take_next-seat.ensures.keeper later fewer in
+    let seat_is : c.take_next-seat.result ≡ new_seat c.args.seats.now.keeper.flag (9 + n) = seat.0 ∙ ap (λ k. new_seat k.flag (9 + n)) kept.keeper in
     record {
       dials = dial.1;
       seats = seat.1;
       keeper = c.take_next-seat.ensures.keeper ∙ kept.keeper;
       drafts = added (IsClientDraft c.args.seats.now.keeper.flag c.args.dials.now.items) n c.loop-number.drafts.items c.push_back.new.self.items _
           kept.drafts c.in_ok-push_back.ensures.items (record {
-            client_is = c.in_ok-share.ensures ∙ ap (λ s. client_with s n) (seat.0 ∙ ap (λ k. new_seat k.flag (9 + n)) kept.keeper);
+            client_is = c.in_ok-share.ensures ∙ ap (λ s. client_with s n) seat_is;
             dial_is = dial.0;
           });
     }

@@ -6,4 +6,3 @@ returns g c =
     has_posts c.in_ok-post.post c.in_ok-other_post.other_post c.in_ok-posts.posts.items (c.in_ok-post.first, c.in_ok-other_post.second)
     c.in_ok-post.senders.items c.in_ok-other_post.other_senders.items c.in_ok-passes.passes.items
     c.in_ok-posts.ensures c.in_ok-post.ensures.taker c.in_ok-other_post.ensures.taker c.in_ok-post.ensures.senders c.in_ok-other_post.ensures.senders c.in_ok-passes.ensures
-

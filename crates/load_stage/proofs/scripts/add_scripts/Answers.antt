@@ -15,7 +15,7 @@ script-requires-clause-passes g c =
     let n = c.loop-number.number in
     let fewer : 7 - (n + 1) + 1 ≡ 7 - n = omega arith in
     let first = first_of (ArePassesOf posts) n (7 - n) (n + 1) (7 - (n + 1)) c.loop-number.passes.items c.take_next-its_passes.new.items.items c.take_next-its_passes.result
-        c.loop-number.invariant.passes c.take_next-its_passes.ensures refl fewer in
+    c.loop-number.invariant.passes c.take_next-its_passes.ensures refl fewer in
     can_send posts n c.take_next-its_passes.result.items c.requires.some first.0
 
 pub loop-number-preserved : goal.loop-number-preserved
@@ -27,9 +27,9 @@ loop-number-preserved g c =
     let later : 2 + (n + 1) ≡ 2 + n + 1 = omega arith in
     let fewer_seats : 20 - (n + 1) + 1 ≡ 20 - n = omega arith in
     let first = first_of (ArePassesOf posts) n (7 - n) (n + 1) (7 - (n + 1)) c.loop-number.passes.items c.take_next-its_passes.new.items.items c.take_next-its_passes.result
-        kept.passes c.take_next-its_passes.ensures refl fewer in
+    kept.passes c.take_next-its_passes.ensures refl fewer in
     let seat = next_seat (2 + n) (20 - n) (2 + (n + 1)) (20 - (n + 1)) c.loop-number.seats c.take_next-seat.new.self c.take_next-seat.result
-        kept.seats c.take_next-seat.ensures.left c.take_next-seat.ensures.keeper later fewer_seats in
+    kept.seats c.take_next-seat.ensures.left c.take_next-seat.ensures.keeper later fewer_seats in
     let made = c.in_ok-script.ensures in
     record {
       passes = first.1;

@@ -25,9 +25,9 @@ loop-number-preserved g c =
     let door = next_at n c.args.served.now.doors.items c.loop-number.served.doors.items c.take_next-door.new.items.items c.take_next-door.result kept.doors c.take_next-door.ensures in
     let readers = next_at n c.args.served.now.readers.items c.loop-number.served.readers.items c.take_next-its_readers.new.items.items c.take_next-its_readers.result kept.readers c.take_next-its_readers.ensures in
     let first = first_of (ArePassesOf posts) (4 + n) (3 - n) (4 + (n + 1)) (3 - (n + 1)) c.loop-number.passes.items c.take_next-its_passes.new.items.items c.take_next-its_passes.result
-        kept.passes c.take_next-its_passes.ensures later fewer in
+    kept.passes c.take_next-its_passes.ensures later fewer in
     let seat = next_seat (6 + n) (16 - n) (6 + (n + 1)) (16 - (n + 1)) c.loop-number.seats c.take_next-seat.new.self c.take_next-seat.result
-        kept.seats c.take_next-seat.ensures.left c.take_next-seat.ensures.keeper later_seat fewer_seats in
+    kept.seats c.take_next-seat.ensures.left c.take_next-seat.ensures.keeper later_seat fewer_seats in
     record {
       doors = door.1;
       readers = readers.1;
