@@ -13,3 +13,4 @@ pub mod Out
 pub mod Popped
 pub mod Added
 pub mod Agreed
+pub mod Joining

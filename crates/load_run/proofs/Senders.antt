@@ -32,7 +32,7 @@ use Rattle.load_run.proofs.Writers.{Writer, Log, IsSealedOf}
 abbrev Sending : Type 0
 Sending = ℕ × Edit
 
-abbrev script_passes : ScriptDone → List Sender
+abbrev pub script_passes : ScriptDone → List Sender
 script_passes d = d.passes.items
 
 -- scripts that have sent all
@@ -48,8 +48,15 @@ scripts_sent seed posts k (suc n) (d ∷ ds) h all =
 
 -- ---- workers
 
+guilds_read : (ws : List Writer) → guilds_of (map new_reader ws) ≡ guilds_of ws
+guilds_read [] = refl
+guilds_read (w ∷ ws) = ap (λ gs. w.0 ∷ gs) (guilds_read ws)
+
+next_sender : (k : ℕ) → 4 + (k + 1) ≡ 4 + k + 1
+next_sender k = omega (arith)
+
 module _ {R : Type 0} where
-  abbrev worker_passes : WorkerEnd R → List Sender
+  abbrev pub worker_passes : WorkerEnd R → List Sender
   worker_passes e = e.passes.items
 
   -- what is known of a worker that has served
@@ -63,10 +70,6 @@ module _ {R : Type 0} where
   served posts writers number e ends has =
       let works : WorksOrStops ends.worker ends.before (Ran (Ok has.0)) ends.after = subst (λ x. WorksOrStops ends.worker ends.before x ends.after) has.1 ends.works in
       record { ends = ends; report = has.0; history = works.0; works = works.1 }
-
-  guilds_read : (ws : List Writer) → guilds_of (map new_reader ws) ≡ guilds_of ws
-  guilds_read [] = refl
-  guilds_read (w ∷ ws) = ap (λ gs. w.0 ∷ gs) (guilds_read ws)
 
   -- what it has sent
   pub has_sent : (posts : List PostId) (writers : List Writer) (number : ℕ) (e : WorkerEnd R) → guilds_of writers ≡ guild_ids → (s : Served posts writers number e)
@@ -102,7 +105,7 @@ module _ {R : Type 0} where
   workers_sent posts writers ids k (e ∷ es) [] h = elim h [ ]
   workers_sent posts writers ids k (e ∷ es) (w ∷ ws) h = (
     subst (λ (edits : List Sending). HasSent posts guild_ids (4 + k) edits e.passes.items) h.0.1 (has_sent posts writers k e ids h.0.0),
-    workers_sent posts writers ids (k + 1) es ws h.1,
+    subst (λ (i : ℕ). HaveSent posts guild_ids i ws (map worker_passes es)) (next_sender k) (workers_sent posts writers ids (k + 1) es ws h.1),
   )
 
   pub many_wished : (posts : List PostId) (writers : List Writer) (k : ℕ) (es : List (WorkerEnd R)) (wished : List (List Sending)) → AllServed posts writers k es wished → length wished ≡ length es

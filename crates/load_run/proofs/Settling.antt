@@ -1,11 +1,11 @@
 -- What is settled of a load whose parts have ended without a fault.
-use Rattle.std.proofs.Common.{◌≡◌, ℕ, suc, ◌+◌, ◌<◌, List, [], ◌∷◌, ◌++◌, map, flat_map, length, Ok, Some, slice_get, refl, sym, ap, ap₂, ◌∙◌, subst, arith}
+use Rattle.std.proofs.Common.{◌≡◌, ℕ, suc, ◌+◌, ◌<◌, List, [], ◌∷◌, ◌++◌, map, flat_map, length, Result, Ok, Err, IfOk, OnOk, Some, slice_get, refl, sym, ap, ap₂, ◌∙◌, subst, arith}
 use Rattle.std.specs.List.{All, AllZip, range_with_len}
 use Rattle.std.proofs.lemmas.List.{length-map, length-append}
 use Rattle.std.proofs.lemmas.List.Elements.{All-nil, All-cons, All-append, All-same}
 use Rattle.collections.specs.ById.{IsById}
 use Rattle.edit_apply.specs.declared.Edit.{Edit}
-use Rattle.edit_post.specs.Post.{PostId, Sender, Taker, HasEnded}
+use Rattle.edit_post.specs.Post.{PostId, Sender, Taker, HasEnded, new_taker}
 use Rattle.guild_hub.specs.Logs.{Published}
 use Rattle.guild_actor.specs.Acts.{sealed_log}
 use Rattle.guild_actor.specs.declared.report.ActReport.{ActReport}
@@ -40,10 +40,10 @@ module _ {R : Type 0} (seed : ℕ) (posts : List PostId) (actors : List (ActorDo
   ends : ActorEnds posts j.writers 0 first × ActorEnds posts j.writers 1 second
   ends = two_of (ActorEnds posts j.writers) front first second (subst (λ l. AllZip (ActorEnds posts j.writers) (range_with_len 0 2) l) both j.actors_are)
 
-  acts0 : ActsAs _ (evens j.writers) r0
+  acts0 : ActsAs (new_taker ends.0.post 7) (evens j.writers) r0
   acts0 = acted posts j.writers 0 first r0 ends.0 ran0
 
-  acts1 : ActsAs _ (odds j.writers) r1
+  acts1 : ActsAs (new_taker ends.1.post 7) (odds j.writers) r1
   acts1 = acted posts j.writers 1 second r1 ends.1 ran1
 
   posts_are : posts ≡ r0.pass.post ∷ r1.pass.post ∷ []
@@ -119,3 +119,17 @@ module _ {R : Type 0} (seed : ℕ) (posts : List PostId) (actors : List (ActorDo
     merged = merged whole;
     workers = subst (λ n. AllZip (WorkerRan logs) (range_with_len 0 n) wished) three (all_ran posts j.writers logs sealed ascend 0 workers wished all.1 part);
   }
+
+-- what follows where there is a result
+pub if_ok_all : {T E : Type 0} (P Q : T → Type 0) (V W : Type 0) (r : Result T E) → ((x : T) → P x → V → W → Q x) → IfOk r P → OnOk r V → OnOk r W → IfOk r Q
+if_ok_all P Q V W (Ok x) f p v w = f x p v w
+if_ok_all P Q V W (Err e) f p v w = tt
+
+-- the passes of all senders
+of_workers : {R : Type 0} (ws : List (WorkerEnd R)) → map (λ passes. passes.items) (map (λ w. w.passes) ws) ≡ map worker_passes ws
+of_workers [] = refl
+of_workers (w ∷ ws) = ap (λ l. w.passes.items ∷ l) (of_workers ws)
+
+pub of_senders : {R : Type 0} (ss : List ScriptDone) (ws : List (WorkerEnd R)) → map (λ passes. passes.items) (map (λ d. d.passes) ss ++ map (λ w. w.passes) ws) ≡ map script_passes ss ++ map worker_passes ws
+of_senders [] ws = of_workers ws
+of_senders (d ∷ ss) ws = ap (λ l. d.passes.items ∷ l) (of_senders ss ws)

@@ -40,10 +40,10 @@ readers_of is (w ∷ ws) (l ∷ ls) [] sealed reads = elim reads [ ]
 readers_of is (w ∷ ws) (l ∷ ls) (r ∷ rs) sealed reads =
     ((reads.0.guild ∙ sym sealed.0.0, reads.0.hub ∙ sym sealed.0.1, sealed.0.2), readers_of is ws ls rs sealed.1 reads.1)
 
-module _ {R : Type 0} (posts : List PostId) (writers : List Writer) (ls : List Log) (sealed : AllZip IsSealedOf writers ls) (up : IsById guild_of ls) where
-  abbrev readers : WorkerEnd R → List Reader
-  readers e = e.readers.items
+abbrev pub readers : {R : Type 0} → WorkerEnd R → List Reader
+readers e = e.readers.items
 
+module _ {R : Type 0} (posts : List PostId) (writers : List Writer) (ls : List Log) (sealed : AllZip IsSealedOf writers ls) (up : IsById guild_of ls) where
   of_worker : (k : ℕ) (e : WorkerEnd R) → Served posts writers k e → AllZip IsReaderOf ls (readers e)
   of_worker k e s =
       readers_of (inputs s.history) writers ls (readers e) sealed

@@ -16,17 +16,30 @@ use snowflake_id::Snowflake;
 use std::alloc::{AllocError, Global};
 use std::sync::Wait;
 
+// Guilds, members and messages.
+fn many_intents() -> Intents
+    ensures { result ≡ 515 }
+{
+    Intents::of_bits(515).unwrap()
+}
+
+// What the client with this number asks for.
+fn intents_of(number: u8) -> Intents
+    ensures { result ≡ intents_of number }
+{
+    if number % 2 == 0 {
+        many_intents()
+    } else {
+        Intents::GUILDS
+    }
+}
+
 // For whom the dispatches of the client with this number are.
 fn viewer_of(number: u8) -> Viewer
     ensures { result ≡ viewer_of number }
 {
     let user = Snowflake(u64::from(1 + number / 3 % 3));
-    let intents = if number % 2 == 0 {
-        Intents::of_bits(515).unwrap()
-    } else {
-        Intents::of_bits(1).unwrap()
-    };
-    viewer(user, intents)
+    viewer(user, intents_of(number))
 }
 
 // The records of the sealed logs.

@@ -38,7 +38,7 @@ impl From<Fault> for LoadFault {
 }
 
 // Sums up what the parts have left, and writes it.
-fn finish<C: Drop, R: Wait + Copy + Drop, K: Sink>(
+fn finish<R: Wait + Copy + Drop, K: Sink>(
     alloc: Global,
     seed: u64,
     posts: Posts<R>,
@@ -84,7 +84,7 @@ pub fn load<
     let Ok(rooms) = make_rooms(alloc) else {
         return (clocks, Err(LoadFault::Memory));
     };
-    let Ok(started) = Vec::with_capacity(alloc, PARTS) else {
+    let Ok(started) = Vec::<S::Held>::with_capacity(alloc, PARTS) else {
         drop(rooms);
         return (clocks, Err(LoadFault::Memory));
     };

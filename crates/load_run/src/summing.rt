@@ -96,9 +96,8 @@ fn settle_senders<R: Wait + Copy + Drop>(
     scripts: Vec<ScriptDone>,
     workers: Vec<WorkerEnd<R>>,
 ) -> Result<Settled<R>, AllocError>
-    ghost seed: { ℕ }
-    requires { Joined seed posts.now actors.items scripts.items workers.items }
-    ensures { IfOk result (λ settled. AreLogs seed settled.logs.items) }
+    requires { (seed : ℕ) × Joined seed posts.now actors.items scripts.items workers.items }
+    ensures { IfOk result (λ settled. (seed : ℕ) → Joined seed posts.now actors.items scripts.items workers.items → AreLogs seed settled.logs.items) }
 {
     let (first, second) = reports_of(actors)?;
     let mut left = Left {
