@@ -1,13 +1,12 @@
 -- What parts have left, part by part.
-use Rattle.std.proofs.Common.{◌≡◌, ℕ, zero, suc, ◌+◌, ◌≤◌, List, [], ◌∷◌, ◌++◌, map, flat_map, drop, length, reverse, refl, sym, ap, ◌∙◌, subst, arith, append_assoc, append-nil, length-append}
-use Rattle.std.specs.Vec.{vec_len, vec_capacity}
-use Rattle.std.proofs.lemmas.List.{map-append, reverse-reverse}
+use Rattle.std.proofs.Common.{◌≡◌, ℕ, zero, suc, ◌≤◌, List, [], ◌∷◌, ◌++◌, map, flat_map, drop, length, refl, sym, ap, ◌∙◌, arith, append_assoc, append-nil}
+use Rattle.std.proofs.lemmas.List.{map-append}
 use Rattle.std.proofs.lemmas.List.Concat.{flat_map-append}
 use Rattle.load_parts.specs.declared.load_part.LoadDone.{LoadDone}
 use Rattle.load_parts.specs.Kinds.{actor_of, script_of, worker_of, client_of}
 use Rattle.load_run.specs.declared.sorting.Ends.{Ends}
 use Rattle.load_run.specs.Ends.{clock_of_done}
-use Rattle.load_run.specs.Sorted.{end_of, ended_of, Sorts, HasRoom}
+use Rattle.load_run.specs.Sorted.{end_of, ended_of, Sorts}
 
 one_more : {T X : Type 0} (g : T → List X) (xs ys : List T) (old mid new : List X) → mid ≡ old ++ flat_map g xs → new ≡ mid ++ flat_map g ys → new ≡ old ++ flat_map g (xs ++ ys)
 one_more g xs ys old mid new a b = b ∙ ap (λ l. l ++ flat_map g ys) a ∙ append_assoc old (flat_map g xs) (flat_map g ys) ∙ ap (λ l. old ++ l) (sym (flat_map-append g xs ys))

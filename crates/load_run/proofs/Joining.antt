@@ -1,5 +1,5 @@
 -- What the parts of a load have left, kind by kind.
-use Rattle.std.proofs.Common.{◌≡◌, ⊎_elim, ℕ, zero, suc, ◌+◌, ◌<◌, ◌≤◌, ◌==◌, Bool, true, false, List, [], ◌∷◌, ◌++◌, map, flat_map, length, Option, Some, None, refl, sym, ap, ap₂, ◌∙◌, subst, arith}
+use Rattle.std.proofs.Common.{◌≡◌, ⊎_elim, ℕ, zero, suc, ◌+◌, ◌<◌, ◌≤◌, ◌==◌, Bool, true, false, List, [], ◌∷◌, ◌++◌, map, flat_map, length, Some, None, refl, sym, ap, ap₂, ◌∙◌, subst, arith}
 use Rattle.std.specs.List.{AllZip, range_with_len}
 use Rattle.std.proofs.lemmas.Bool.{eqb-true, true≢false}
 use Rattle.std.proofs.lemmas.List.{length-append, length-map, nil_from_length}
@@ -15,7 +15,6 @@ use Rattle.gate_parts.specs.declared.actor_part.ActorDone.{ActorDone}
 use Rattle.gate_parts.specs.declared.script_part.ScriptPart.{ScriptPart}
 use Rattle.gate_parts.specs.declared.script_part.ScriptDone.{ScriptDone}
 use Rattle.gate_parts.specs.declared.worker_part.WorkerPart.{WorkerPart}
-use Rattle.gate_parts.specs.declared.worker_part.WorkerDone.{WorkerDone}
 use Rattle.load_client.specs.declared.ended_client.EndedClient.{EndedClient}
 use Rattle.load_parts.specs.ByKind.{GaveByKind}
 use Rattle.load_parts.specs.Clients.{ClientGives}
@@ -30,7 +29,6 @@ use Rattle.load_stage.specs.Parts.{IsActor, IsScript, IsWorker}
 use Rattle.load_stage.specs.Stages.{IsStage}
 use Rattle.load_stage.specs.declared.stage.Stage.{Stage}
 use Rattle.load_run.specs.declared.fault.LoadFault.{LoadFault}
-use Rattle.load_run.specs.declared.fault.LoadFault.TheVariants.{Start}
 use Rattle.load_run.specs.declared.sorting.Ends.{Ends}
 use Rattle.load_run.specs.declared.sorting.WorkerEnd.{WorkerEnd}
 use Rattle.load_run.specs.Causes.{LoadCause}
@@ -71,10 +69,13 @@ module _ {C R : Type 0} (clock_tale : C → ClockTale) (seed : ℕ) (clocks : Li
   }
 
   clients_joined : ClientsJoined (map ended_of (flat_map client_of dones))
-  clients_joined = (stage.keeper.flag, zip_map ended_of (ClientEnds stage.keeper.flag) (range_with_len 0 12) (flat_map client_of dones)
-      (zip_on (IsClient stage.keeper.flag is.queues clocks) (ClientGives clock_tale) (λ n d. ClientEnds stage.keeper.flag n (ended_of d))
-      (one_client clock_tale stage.keeper.flag is.queues clocks)
-      (range_with_len 0 12) stage.clients.items (flat_map client_of dones) is.clients_are gave.clients_gave))
+  clients_joined = (
+    stage.keeper.flag,
+    zip_map ended_of (ClientEnds stage.keeper.flag) (range_with_len 0 12) (flat_map client_of dones)
+        (zip_on (IsClient stage.keeper.flag is.queues clocks) (ClientGives clock_tale) (λ n d. ClientEnds stage.keeper.flag n (ended_of d))
+        (one_client clock_tale stage.keeper.flag is.queues clocks)
+        (range_with_len 0 12) stage.clients.items (flat_map client_of dones) is.clients_are gave.clients_gave),
+  )
 
   -- sorted after the clocks of those that were not started
   pub has_joined : (none back sorted : Ends C R) → IsEmpty none → back ≡ record none { clocks = back.clocks } → Sorts dones back sorted → HasJoined seed stage.posts sorted
@@ -82,11 +83,10 @@ module _ {C R : Type 0} (clock_tale : C → ClockTale) (seed : ℕ) (clocks : Li
       let actors : sorted.actors.items ≡ ended_actors = sorts.actors ∙ ap (λ (l : List (ActorDone R)). l ++ ended_actors) (ap (λ (e : Ends C R). e.actors.items) same ∙ empty.actors) in
       let scripts : sorted.scripts.items ≡ ended_scripts = sorts.scripts ∙ ap (λ (l : List ScriptDone). l ++ ended_scripts) (ap (λ (e : Ends C R). e.scripts.items) same ∙ empty.scripts) in
       let workers : sorted.workers.items ≡ ended_workers = sorts.workers ∙ ap (λ (l : List (WorkerEnd R)). l ++ ended_workers) (ap (λ (e : Ends C R). e.workers.items) same ∙ empty.workers) in
-      let clients : sorted.clients.items ≡ map ended_of (flat_map client_of dones) = sorts.clients ∙ ap (λ (l : List EndedClient). l ++ map ended_of (flat_map client_of dones)) (ap (λ (e : Ends C R). e.clients.items) same ∙ empty.clients) in
-      (
+      let clients : sorted.clients.items ≡ map ended_of (flat_map client_of dones) = sorts.clients ∙ ap (λ (l : List EndedClient). l ++ map ended_of (flat_map client_of dones)) (ap (λ (e : Ends C R). e.clients.items) same ∙ empty.clients) in (
         subst (λ (l : List (ActorDone R)). Joined seed stage.posts l sorted.scripts.items sorted.workers.items) (sym actors)
-        (subst (λ (l : List ScriptDone). Joined seed stage.posts ended_actors l sorted.workers.items) (sym scripts)
-        (subst (λ (l : List (WorkerEnd R)). Joined seed stage.posts ended_actors ended_scripts l) (sym workers) senders_joined)),
+            (subst (λ (l : List ScriptDone). Joined seed stage.posts ended_actors l sorted.workers.items) (sym scripts)
+            (subst (λ (l : List (WorkerEnd R)). Joined seed stage.posts ended_actors ended_scripts l) (sym workers) senders_joined)),
         subst ClientsJoined (sym clients) clients_joined,
       )
 

@@ -1,39 +1,33 @@
 -- What is known of the parts of a load when they have run.
-use Rattle.std.proofs.Common.{◌≡◌, ◌⊎◌, ℕ, zero, suc, ◌+◌, Bool, true, false, List, [], ◌∷◌, ◌++◌, map, flat_map, length, Option, Some, None, Ok, Err, inl, inr, refl, sym, ap, ap₂, ◌∙◌, subst, ⊎_elim}
-use Rattle.std.specs.List.{AllZip, fold, range_with_len}
-use Rattle.std.proofs.lemmas.List.{length-append, length-map}
+use Rattle.std.proofs.Common.{◌≡◌, ℕ, zero, suc, ◌+◌, List, [], ◌∷◌, ◌++◌, map, flat_map, length, Some, Err, inl, inr, refl, sym, ap₂, ◌∙◌, subst, ⊎_elim}
+use Rattle.std.specs.List.{AllZip, range_with_len}
+use Rattle.std.proofs.lemmas.List.{length-append}
 use Rattle.atomic_table.specs.Seated.{TableId}
 use Rattle.std.specs.Global.{Global}
 use Rattle.crossbeam_queue.specs.SegTies.{SegId}
 use Rattle.edit_post.specs.Post.{PostId}
-use Rattle.edit_post.specs.declared.send_refused.SendRefused.TheVariants as post
-use Rattle.worker_run.specs.declared.fault.WorkFault.TheVariants as work
 use Rattle.client_run.specs.declared.fault.DriveFault.TheVariants as drive
 use Rattle.gate_outside.specs.Clocks.{ClockTale}
 use Rattle.guild_hub.specs.Writes.{Publishing}
-use Rattle.thread_outside.specs.DialledDoors.{DialledState, dialled_tale}
+use Rattle.thread_outside.specs.DialledDoors.{DialledState}
 use Rattle.thread_outside.specs.declared.kept_notes.KeptNotes.{KeptNotes}
 use Rattle.worker_core.specs.declared.io.Input.{Input}
-use Rattle.gate_parts.specs.Actors.{ActorGives}
-use Rattle.gate_parts.specs.Scripts.{ScriptGives}
-use Rattle.gate_parts.specs.Workers.{WorkerGives}
 use Rattle.gate_parts.specs.declared.actor_part.ActorPart.{ActorPart}
 use Rattle.gate_parts.specs.declared.script_part.ScriptPart.{ScriptPart}
 use Rattle.gate_parts.specs.declared.worker_part.WorkerPart.{WorkerPart}
 use Rattle.load_parts.specs.Parts.{LoadGives}
-use Rattle.load_parts.specs.Clients.{ClientGives}
 use Rattle.load_parts.specs.declared.client_part.ClientPart.{ClientPart}
 use Rattle.load_parts.specs.declared.load_part.LoadPart.{LoadPart}
 use Rattle.load_parts.specs.declared.load_part.LoadPart.TheVariants as part
 use Rattle.load_parts.specs.declared.load_part.LoadDone.{LoadDone}
 use Rattle.load_parts.specs.declared.load_part.LoadDone.TheVariants as done
-use Rattle.load_stage.specs.Parts.{IsActor, IsScript, IsWorker}
+use Rattle.load_stage.specs.Parts.{IsScript, IsWorker}
 use Rattle.load_stage.specs.Clients.{IsClient}
 use Rattle.load_run.specs.declared.fault.LoadFault.{LoadFault}
-use Rattle.load_run.specs.declared.fault.LoadFault.TheVariants.{Memory, Spent, Start, Door, Write, Out, BadText}
-use Rattle.load_run.specs.Causes.{LoadCause, ScriptSpent, WorkerEnded, ClientEnded}
+use Rattle.load_run.specs.declared.fault.LoadFault.TheVariants.{Memory, Spent, Door, Out, BadText}
+use Rattle.load_run.specs.Causes.{LoadCause}
 use Rattle.load_run.specs.Ends.{clock_of_part, clock_of_done}
-use Rattle.load_run.specs.Faults.{fault_of, first_fault, start_fault}
+use Rattle.load_run.specs.Faults.{fault_of}
 use Rattle.load_run.specs.Parts.{all_parts}
 use Rattle.load_run.specs.Sorted.{end_of, ended_of}
 use Rattle.load_run.proofs.Ranks.{AnyIs, of_actor, of_script, of_worker, of_client}

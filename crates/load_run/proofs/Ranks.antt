@@ -1,11 +1,9 @@
 -- Which fault a load answers, and its cause.
-use Rattle.std.proofs.Common.{◌≡◌, ◌⊎◌, ℕ, ◌+◌, Bool, true, false, List, [], ◌∷◌, ◌++◌, map, flat_map, length, Option, Some, None, Result, Ok, Err, inl, inr, refl, sym, ap, ap₂, ◌∙◌, subst}
+use Rattle.std.proofs.Common.{◌≡◌, ◌⊎◌, ℕ, Bool, true, false, List, [], ◌∷◌, Option, Some, None, Result, Ok, Err, inl, inr, refl, sym}
 use Rattle.std.specs.Prelude.{nat_lt, if◌then◌else◌}
-use Rattle.std.specs.List.{AllZip, fold, range_with_len}
+use Rattle.std.specs.List.{fold}
 use Rattle.std.proofs.lemmas.Option.{same_Some, none-some}
 use Rattle.std.specs.declared.alloc.AllocError.{AllocError}
-use Rattle.gate_outside.specs.Clocks.{ClockTale}
-use Rattle.gate_outside.specs.Causes.{Rose}
 use Rattle.edit_post.specs.declared.send_refused.SendRefused.{SendRefused}
 use Rattle.edit_post.specs.declared.send_refused.SendRefused.TheVariants as post
 use Rattle.worker_run.specs.declared.fault.WorkFault.{WorkFault}
@@ -16,7 +14,7 @@ use Rattle.client_run.specs.declared.fault.DriveFault.TheVariants as drive
 use Rattle.gate_parts.specs.declared.ending.Ending.{Ending}
 use Rattle.gate_parts.specs.declared.ending.Ending.TheVariants.{Ran, Stopped}
 use Rattle.load_run.specs.declared.fault.LoadFault.{LoadFault}
-use Rattle.load_run.specs.declared.fault.LoadFault.TheVariants.{Memory, Spent, Start, Door, Write, Out, BadText}
+use Rattle.load_run.specs.declared.fault.LoadFault.TheVariants.{Memory, Spent, Start, Door, Out, BadText}
 use Rattle.load_run.specs.Faults.{actor_fault, script_fault, worker_fault, client_fault, rank, sooner, start_fault}
 
 -- one of these is the fault

@@ -1,21 +1,16 @@
 -- What the scripts and the workers of a load have sent.
-use Rattle.std.proofs.Common.{◌≡◌, ℕ, zero, suc, ◌+◌, List, [], ◌∷◌, ◌++◌, map, length, Ok, refl, sym, ap, ap₂, ◌∙◌, subst, arith}
+use Rattle.std.proofs.Common.{◌≡◌, ℕ, zero, suc, ◌+◌, List, [], ◌∷◌, map, length, Ok, refl, sym, ap, ◌∙◌, subst, arith}
 use Rattle.std.specs.List.{All, AllZip, range_with_len}
-use Rattle.std.proofs.lemmas.List.Elements.{All-nil, All-cons, All-head, All-tail}
+use Rattle.std.proofs.lemmas.List.Elements.{All-head, All-tail}
 use Rattle.edit_apply.specs.declared.Edit.{Edit}
 use Rattle.edit_post.specs.Post.{PostId, Sender}
-use Rattle.guild_hub.specs.Logs.{Published}
-use Rattle.guild_hub.specs.Sights.{Seeing}
-use Rattle.guild_hub.specs.Writes.{Publishing}
 use Rattle.guild_places.specs.Places.{guilds_of}
 use Rattle.guild_posts.specs.Posts.{AreSent}
 use Rattle.script_run.specs.Scripts.{edits_in}
 use Rattle.load_maker.specs.Script.{script}
 use Rattle.worker_run.specs.Histories.{History, wishes}
-use Rattle.worker_run.specs.Hubs.{IsUnread, AllRead, Reads, HasSeenAll}
-use Rattle.worker_run.specs.Works.{Outside, Works}
+use Rattle.worker_run.specs.Works.{Works}
 use Rattle.worker_run.specs.declared.report.WorkReport.{WorkReport}
-use Rattle.gate_parts.specs.declared.ending.Ending.{Ending}
 use Rattle.gate_parts.specs.declared.ending.Ending.TheVariants.{Ran}
 use Rattle.gate_parts.specs.declared.script_part.ScriptDone.{ScriptDone}
 use Rattle.gate_parts.specs.Scripts.{Sends}
@@ -25,9 +20,7 @@ use Rattle.run_ends.specs.Senders.{new_passes, HasSent, HaveSent}
 use Rattle.load_run.specs.declared.sorting.WorkerEnd.{WorkerEnd}
 use Rattle.load_run.specs.Ends.{HasSentAll, HasServed}
 use Rattle.load_run.specs.Joined.{ScriptEnds, WorkerEnds}
-use Rattle.load_run.specs.Loads.{WorkerRan}
-use Rattle.load_run.proofs.Sealed.{Reader, log_of}
-use Rattle.load_run.proofs.Writers.{Writer, Log, IsSealedOf}
+use Rattle.load_run.proofs.Writers.{Writer}
 
 abbrev Sending : Type 0
 Sending = ℕ × Edit

@@ -1,12 +1,11 @@
 -- What is settled of a load whose parts have ended without a fault.
-use Rattle.std.proofs.Common.{◌≡◌, ℕ, suc, ◌+◌, ◌<◌, List, [], ◌∷◌, ◌++◌, map, flat_map, length, Result, Ok, Err, IfOk, OnOk, Some, slice_get, refl, sym, ap, ap₂, ◌∙◌, subst, arith}
+use Rattle.std.proofs.Common.{◌≡◌, ℕ, ◌+◌, List, [], ◌∷◌, ◌++◌, map, flat_map, length, Result, Ok, Err, IfOk, OnOk, Some, refl, sym, ap, ap₂, ◌∙◌, subst, arith}
 use Rattle.std.specs.List.{All, AllZip, range_with_len}
-use Rattle.std.proofs.lemmas.List.{length-map, length-append}
-use Rattle.std.proofs.lemmas.List.Elements.{All-nil, All-cons, All-append, All-same}
+use Rattle.std.proofs.lemmas.List.{length-append}
+use Rattle.std.proofs.lemmas.List.Elements.{All-nil, All-cons}
 use Rattle.collections.specs.ById.{IsById}
 use Rattle.edit_apply.specs.declared.Edit.{Edit}
 use Rattle.edit_post.specs.Post.{PostId, Sender, Taker, HasEnded, new_taker}
-use Rattle.guild_hub.specs.Logs.{Published}
 use Rattle.guild_actor.specs.Acts.{sealed_log}
 use Rattle.guild_actor.specs.declared.report.ActReport.{ActReport}
 use Rattle.guild_places.specs.Places.{guilds_of}

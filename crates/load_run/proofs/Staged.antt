@@ -1,6 +1,6 @@
 -- What the ended parts of a load have done, by how they were set up.
-use Rattle.std.proofs.Common.{◌≡◌, ℕ, ◌+◌, List, [], ◌∷◌, map, flat_map, Option, Some, None, slice_get, option_map, refl, sym, ap, ◌∙◌, subst}
-use Rattle.std.specs.List.{AllZip, range_with_len}
+use Rattle.std.proofs.Common.{◌≡◌, ℕ, List, [], ◌∷◌, map, Option, Some, None, slice_get, option_map, refl, sym, subst}
+use Rattle.std.specs.List.{AllZip}
 use Rattle.std.proofs.lemmas.Option.{same_Some, none-some}
 use Rattle.atomic_table.specs.Seated.{TableId}
 use Rattle.std.specs.Global.{Global}
@@ -27,12 +27,9 @@ use Rattle.load_client.specs.declared.load_client.LoadClient.{LoadClient}
 use Rattle.load_parts.specs.Clients.{ClientGives}
 use Rattle.load_parts.specs.declared.client_part.ClientPart.{ClientPart}
 use Rattle.load_parts.specs.declared.client_part.ClientDone.{ClientDone}
-use Rattle.load_stage.specs.Dealing.{dealt_to}
 use Rattle.load_stage.specs.Hubs.{guild_ids}
 use Rattle.load_stage.specs.Parts.{IsActor, IsScript, IsWorker}
 use Rattle.load_stage.specs.Clients.{IsClient}
-use Rattle.run_ends.specs.Senders.{new_passes}
-use Rattle.load_run.specs.declared.sorting.WorkerEnd.{WorkerEnd}
 use Rattle.load_run.specs.Joined.{ActorEnds, ScriptEnds, WorkerEnds, ClientEnds}
 use Rattle.load_run.specs.Sorted.{end_of, ended_of}
 

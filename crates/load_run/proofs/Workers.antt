@@ -1,11 +1,10 @@
 -- The readers of the workers of a load, and what each worker has done.
-use Rattle.std.proofs.Common.{◌≡◌, ℕ, ◌+◌, List, [], ◌∷◌, ◌++◌, map, flat_map, length, Ok, refl, sym, ap, ◌∙◌, subst}
+use Rattle.std.proofs.Common.{◌≡◌, ℕ, ◌+◌, List, [], ◌∷◌, ◌++◌, map, flat_map, length, refl, sym, ap, ◌∙◌, subst}
 use Rattle.std.specs.List.{All, AllZip, range_with_len}
-use Rattle.std.proofs.lemmas.List.Elements.{All-nil, All-cons, All-head, All-tail, All-append, All-same, All-map}
+use Rattle.std.proofs.lemmas.List.Elements.{All-nil, All-cons, All-head, All-tail, All-append}
 use Rattle.collections.specs.ById.{IsById}
 use Rattle.edit_apply.specs.declared.Edit.{Edit}
 use Rattle.edit_post.specs.Post.{PostId}
-use Rattle.guild_hub.specs.Sights.{Seeing, unseen}
 use Rattle.world_law.specs.Inputs.{Input}
 use Rattle.load_settle.specs.Readers.{HasLog}
 use Rattle.worker_run.specs.Histories.{wishes, inputs}

@@ -1,5 +1,5 @@
 -- The logs of the writers of a load, in the order of the guilds.
-use Rattle.std.proofs.Common.{◌≡◌, ℕ, zero, suc, ◌+◌, ◌*◌, ◌<◌, ◌==◌, true, false, List, [], ◌∷◌, map, refl, sym, ap, ap₂, ◌∙◌, subst, arith}
+use Rattle.std.proofs.Common.{◌≡◌, ℕ, zero, suc, ◌+◌, ◌<◌, true, List, [], ◌∷◌, map, refl, sym, ap₂, subst, arith}
 use Rattle.std.specs.List.{AllZip, range_with_len}
 use Rattle.collections.specs.ById.{IsById, AllAbove}
 use Rattle.edit_post.specs.declared.request.Request.{Request}

@@ -1,5 +1,5 @@
 -- Lists whose items are related place by place.
-use Rattle.std.proofs.Common.{◌≡◌, ℕ, suc, List, [], ◌∷◌, ◌++◌, map, flat_map, length, refl, ap, ap₂, ◌∙◌, subst}
+use Rattle.std.proofs.Common.{◌≡◌, suc, List, [], ◌∷◌, ◌++◌, length, refl, ap}
 use Rattle.std.specs.List.{AllZip}
 
 module _ {A B D : Type 0} (R : A → B → Type 0) (S : B → D → Type 0) (T : A → D → Type 0) (both : (a : A) (b : B) (d : D) → R a b → S b d → T a d) where

@@ -1,13 +1,10 @@
 -- What the parts of a load that ended without a fault have left.
 use Rattle.std.specs.Prelude.{◌≡◌, ℕ, ◌+◌, List, [], ◌∷◌, Ok}
-use Rattle.std.specs.List.{AllZip, range_with_len}
-use Rattle.dispatch_types.specs.declared.viewer.Viewer.{Viewer}
 use Rattle.guild_model.specs.Record.{Record}
 use Rattle.client_run.specs.declared.driven.Driven.TheVariants.{Finished}
 use Rattle.load_client.specs.Agreement.{AgreeSo}
 use Rattle.load_client.specs.declared.ended_client.EndedClient.{EndedClient}
 use Rattle.worker_run.specs.declared.report.WorkReport.{WorkReport}
-use Rattle.gate_parts.specs.declared.ending.Ending.{Ending}
 use Rattle.gate_parts.specs.declared.ending.Ending.TheVariants.{Ran}
 use Rattle.gate_parts.specs.declared.script_part.ScriptDone.{ScriptDone}
 use Rattle.load_parts.specs.declared.load_part.LoadPart.{LoadPart}

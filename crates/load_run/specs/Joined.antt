@@ -1,6 +1,5 @@
 -- What is known of the ended parts of a load by how they began.
-use Rattle.std.specs.Prelude.{◌≡◌, ℕ, ◌+◌, List, Option, Some, map, length, slice_get}
-use Rattle.std.specs.List.{AllZip, range_with_len}
+use Rattle.std.specs.Prelude.{◌≡◌, ℕ, ◌+◌, List, Some, map, length, slice_get}
 use Rattle.atomic_table.specs.Seated.{TableId}
 use Rattle.stop_flag.specs.Flags.{new_seat}
 use Rattle.edit_post.specs.Post.{PostId, new_taker}

@@ -1,5 +1,5 @@
 -- The parts of a load in the order in which they are started.
-use Rattle.std.specs.Prelude.{ℕ, List, ◌++◌, map}
+use Rattle.std.specs.Prelude.{List, ◌++◌, map}
 use Rattle.thread_outside.specs.DialledDoors.{DialledState}
 use Rattle.thread_outside.specs.declared.kept_notes.KeptNotes.{KeptNotes}
 use Rattle.worker_core.specs.declared.io.Input.{Input}

@@ -1,8 +1,7 @@
-use Rattle.std.proofs.Common.{◌≡◌, ◌<◌, ◌%◌, ◌∙◌, ◌++◌, ◌∷◌, [], map, length, ap, sym, subst, arith}
+use Rattle.std.proofs.Common.{◌<◌, ◌+◌, ◌∙◌, map, take, length, ap, sym, subst, arith}
 use Rattle.guild_hub.specs.Logs.{whole_record}
 use Rattle.load_client.specs.Agreement.{AgreeSo}
 use Rattle.load_run.specs.Ends.{AllAgreeSo}
-use Rattle.load_run.specs.Loads.{viewer_of}
 use Rattle.load_run.proofs.Agreed.{agree_next}
 use Rattle.load_run.proofs.agreeing.agrees_of.Goals as goal
 
@@ -16,4 +15,4 @@ loop-number-preserved g c =
     let one = subst (λ l. AgreeSo c.viewer_of-viewer.result c.cache.result.now l n) records c.in_ok-agree.ensures in
     let its = subst (λ kept. AgreeSo c.viewer_of-viewer.result kept rs n) c.cache.ensures one in
     let own = subst (λ viewer. AgreeSo viewer c.index-clients-number.result.client.kept rs n) c.viewer_of-viewer.ensures its in
-    subst (λ l. AllAgreeSo rs 0 _ l) (sym c.in_ok-push.ensures.items) (agree_next rs j c.args.clients.now c.loop-number.agrees.items c.index-clients-number.result n below (sym c.index-clients-number.is) c.loop-number.invariant own)
+    subst (λ l. AllAgreeSo rs 0 (take (j + 1) c.args.clients.now) l) (sym c.in_ok-push.ensures.items) (agree_next rs j c.args.clients.now c.loop-number.agrees.items c.index-clients-number.result n below (sym c.index-clients-number.is) c.loop-number.invariant own)

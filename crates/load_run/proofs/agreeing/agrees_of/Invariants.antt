@@ -1,4 +1,4 @@
-use Rattle.std.proofs.Common.{◌≡◌, map, take}
+use Rattle.std.proofs.Common.{map, take}
 use Rattle.guild_hub.specs.Logs.{whole_record}
 use Rattle.load_run.specs.Ends.{AllAgreeSo}
 use Rattle.load_run.proofs.agreeing.agrees_of.Given as goal

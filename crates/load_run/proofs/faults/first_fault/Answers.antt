@@ -1,4 +1,4 @@
-use Rattle.std.proofs.Common.{◌≡◌, ◌∙◌, ◌+◌, List, map, drop, sym, ap}
+use Rattle.std.proofs.Common.{◌∙◌, ◌+◌, map, drop, sym, ap}
 use Rattle.std.specs.List.{fold}
 use Rattle.std.proofs.lemmas.List.{at_drop_more}
 use Rattle.load_run.specs.Faults.{fault_of, sooner}

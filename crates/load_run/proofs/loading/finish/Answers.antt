@@ -1,4 +1,4 @@
-use Rattle.std.proofs.Common.{◌≡◌, ◌++◌, Err, inr, ap, sym, ◌∙◌, subst, string_bytes}
+use Rattle.std.proofs.Common.{◌++◌, Err, inr, ap, sym, ◌∙◌, subst, string_bytes}
 use Rattle.std.proofs.lemmas.Result.{err_from_is_err_and}
 use Rattle.gate_outside.specs.Streams.{AppendsFront}
 use Rattle.load_run.specs.Causes.{Loads, HasLoadCause}

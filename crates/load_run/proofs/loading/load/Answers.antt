@@ -1,8 +1,8 @@
-use Rattle.std.proofs.Common.{◌≡◌, ◌∙◌, Ok, Err, Some, None, refl, ap, sym, subst}
+use Rattle.std.proofs.Common.{ap, sym, subst}
 use Rattle.std.proofs.lemmas.Bool.{true≢false}
 use Rattle.std.specs.Result.{is_ok}
-use Rattle.load_run.specs.Causes.{HasLoadCause, StartsParts}
-use Rattle.load_run.specs.Joined.{Joined, ClientsJoined}
+use Rattle.load_run.specs.Causes.{HasLoadCause}
+use Rattle.load_run.specs.Joined.{Joined}
 use Rattle.load_run.proofs.loading.load.Goals as goal
 
 pub play-posts-requires-clause-stage : goal.play-posts-requires-clause-stage

@@ -1,4 +1,4 @@
-use Rattle.std.proofs.Common.{◌≡◌, ◌∙◌, ◌++◌, map, ap, append_assoc}
+use Rattle.std.proofs.Common.{◌∙◌, ◌++◌, map, ap, append_assoc}
 use Rattle.load_parts.specs.declared.load_part.LoadPart.TheVariants.{Actor, Script, Worker, Client}
 use Rattle.load_run.proofs.parts.add_parts.Goals as goal
 

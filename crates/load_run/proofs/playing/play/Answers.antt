@@ -1,4 +1,4 @@
-use Rattle.std.proofs.Common.{◌≡◌, ◌≤◌, ◌+◌, ◌∙◌, ◌++◌, ◌<◌, ◌==◌, [], true, false, ℕ, None, length, flat_map, refl, ap, sym, subst, arith}
+use Rattle.std.proofs.Common.{◌≡◌, ◌+◌, ◌∙◌, ◌++◌, [], None, length, flat_map, ap, sym, subst, arith}
 use Rattle.std.proofs.lemmas.List.{length-append, append-nil}
 use Rattle.std.specs.List.{AllZip}
 use Rattle.std.specs.Vec.{vec_len}
@@ -9,8 +9,7 @@ use Rattle.load_run.specs.Ends.{clock_of_part}
 use Rattle.load_run.specs.Faults.{first_fault}
 use Rattle.load_run.specs.Parts.{all_parts}
 use Rattle.load_run.specs.Sorted.{HasRoom}
-use Rattle.load_run.specs.declared.fault.LoadFault.{LoadFault as AFault}
-use Rattle.load_run.proofs.Joining.{Counts, counts, less_room, none_back, some_there, none_there, has_joined, clocks_back, fault_cause}
+use Rattle.load_run.proofs.Joining.{counts, less_room, none_back, some_there, none_there, has_joined, clocks_back, fault_cause}
 use Rattle.load_run.proofs.Zips.{many_zip}
 use Rattle.load_run.proofs.playing.play.Goals as goal
 

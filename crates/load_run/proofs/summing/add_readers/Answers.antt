@@ -1,4 +1,4 @@
-use Rattle.std.proofs.Common.{rules, ◌≡◌, ◌∙◌, ◌++◌, ◌∷◌, [], ap}
+use Rattle.std.proofs.Common.{rules, ◌∙◌, ◌++◌, ◌∷◌, [], ap}
 use Rattle.std.proofs.lemmas.List.{nil_from_length}
 use Rattle.load_run.proofs.Popped.{passed_none, passed_one, passed_all, flat_itself, Anything}
 use Rattle.load_run.proofs.summing.add_readers.Goals as goal

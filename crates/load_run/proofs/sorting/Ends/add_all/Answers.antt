@@ -1,4 +1,4 @@
-use Rattle.std.proofs.Common.{rules, ◌≡◌, ◌∙◌, ◌+◌, ◌++◌, ◌∷◌, [], length, reverse, sym, ap, subst, arith, append_assoc, append-nil, length-append}
+use Rattle.std.proofs.Common.{rules, ◌≡◌, ◌∙◌, ◌+◌, ◌++◌, ◌∷◌, [], length, reverse, sym, ap, subst, append_assoc, append-nil, length-append}
 use Rattle.std.proofs.lemmas.List.{nil_from_length, reverse-reverse, length-reverse}
 use Rattle.team_run.proofs.Lists.{taken_first}
 use Rattle.load_run.specs.Sorted.{Sorts, HasRoom}
