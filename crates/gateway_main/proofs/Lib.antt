@@ -1,1 +1,3 @@
-pub mod Words
+pub mod Usage
+pub mod Lending
+pub mod Commands

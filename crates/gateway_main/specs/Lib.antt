@@ -1,2 +1,3 @@
-pub mod Words
+pub mod Usage
+pub mod Clocks
 pub mod Gate

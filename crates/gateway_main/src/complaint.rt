@@ -1,8 +1,10 @@
 //! What the program says on standard error if its status is not 0.
-use crate::gate::NO_MEMORY;
+use crate::fault::GateFault;
 use crate::shown::Shown;
+use crate::statuses::NO_MEMORY;
 use edit_text::LineFault;
 use gate_outside::std_house::STANDARD_INPUT;
+use load_run::LoadFault;
 use scenario::PlayFault;
 use std::io;
 use std::io::Eprint;
@@ -29,7 +31,10 @@ fn tell_words<R: Eprint>(rt: &R, words: &[String]) -> io::Result<()> {
             "run" => eprintln!(rt;
                 "gate: run takes one file, or - for standard input (status 2; see README.md)"
             ),
-            "serve" | "client" | "load" => {
+            "load" => eprintln!(rt;
+                "gate: load takes one seed, a number below 2^64 in digits (status 2; see README.md)"
+            ),
+            "serve" | "client" => {
                 eprintln!(rt; "gate: {command} is not built yet (status 2; see README.md)")
             }
             word => eprintln!(rt;
@@ -41,7 +46,7 @@ fn tell_words<R: Eprint>(rt: &R, words: &[String]) -> io::Result<()> {
 }
 
 // Says why the play of a file did not come to its end.
-fn tell_fault<R: Eprint>(rt: &R, file: &str, fault: PlayFault) -> io::Result<()> {
+fn tell_play<R: Eprint>(rt: &R, file: &str, fault: PlayFault) -> io::Result<()> {
     let file = if file == STANDARD_INPUT {
         Shown("standard input")
     } else {
@@ -69,6 +74,33 @@ fn tell_fault<R: Eprint>(rt: &R, file: &str, fault: PlayFault) -> io::Result<()>
     }
 }
 
+// Says why a load did not come to its end.
+fn tell_load<R: Eprint>(rt: &R, seed: &str, fault: LoadFault) -> io::Result<()> {
+    match fault {
+        LoadFault::Write => eprintln!(rt;
+            "gate: cannot write the summary of load {seed} (status 4; see docs/LOAD.md)"
+        ),
+        LoadFault::Memory => {
+            eprintln!(rt; "gate: out of memory in load {seed} (status 6; see docs/LOAD.md)")
+        }
+        LoadFault::Door => {
+            eprintln!(rt; "gate: a door failed in load {seed} (status 7; see docs/LOAD.md)")
+        }
+        LoadFault::Start => eprintln!(rt;
+            "gate: a thread of load {seed} did not start (status 8; see docs/LOAD.md)"
+        ),
+        LoadFault::Out(code) => eprintln!(rt;
+            "gate: a client of load {seed} was closed with {code} (status 10; see docs/LOAD.md)"
+        ),
+        LoadFault::BadText => eprintln!(rt;
+            "gate: a client of load {seed} got a text that is no payload (status 11; see docs/LOAD.md)"
+        ),
+        LoadFault::Spent => eprintln!(rt;
+            "gate: a count is at its last value in load {seed} (status 12; see docs/LOAD.md)"
+        ),
+    }
+}
+
 /// Says that memory ran out before there were words.
 pub fn tell_memory<R: Eprint>(rt: &R) -> io::Result<()> {
     eprintln!(rt; "gate: out of memory (status 6; see docs/TRANSCRIPT.md)")
@@ -79,15 +111,16 @@ pub fn tell_no_text<R: Eprint>(rt: &R) -> io::Result<()> {
     eprintln!(rt; "gate: a word is not UTF-8 (status 2; see README.md)")
 }
 
-/// Says why the command ended with a status other than 0, by its words and the fault of its play.
+/// Says why the command ended with a status other than 0, by its words and its fault.
 pub fn tell<R: Eprint>(
     rt: &R,
     words: &[String],
-    fault: Option<PlayFault>,
+    fault: Option<GateFault>,
     status: u8,
 ) -> io::Result<()> {
     match (fault, words) {
-        (Some(fault), [_, file]) => tell_fault(rt, file.as_str(), fault),
+        (Some(GateFault::Play(fault)), [_, file]) => tell_play(rt, file.as_str(), fault),
+        (Some(GateFault::Load(fault)), [_, seed]) => tell_load(rt, seed.as_str(), fault),
         _ if status == NO_MEMORY => tell_memory(rt),
         _ => tell_words(rt, words),
     }

@@ -1,20 +1,30 @@
 //! The program `gate`.
 #![tactic(auto)]
 
+mod clocks;
 mod complaint;
+mod fault;
 mod gate;
+mod loading;
+mod playing;
+mod refusing;
 mod shown;
+mod statuses;
+mod team;
 
 use complaint::{tell, tell_memory, tell_no_text};
 use gate_outside::buffered_sink::BufferedSink;
 use gate_outside::no_network::NoNetwork;
 use gate_outside::std_house::RealHouse;
 use gate_outside::std_streams::StdoutSink;
+use load_parts::with_part_threads;
+use statuses::{BAD_WORDS, NO_MEMORY};
 use std::alloc::Alloc;
 use std::env::Env;
 use std::io::ErrorKind;
 use std::process::ExitCode;
 use std::{env, io};
+use team::{Ended, GateWork};
 
 // The words after the program's name.
 fn words_of<R: Env + Alloc>(rt: &R) -> io::Result<Vec<String<R::A>, R::A>> {
@@ -36,25 +46,23 @@ fn main(rt: HostRuntime) -> io::Result<ExitCode> {
         }
         Err(_) => {
             let _ = tell_memory(&rt);
-            return Ok(ExitCode::from(gate::NO_MEMORY));
+            return Ok(ExitCode::from(NO_MEMORY));
         }
     };
-    let mut house = RealHouse::new(rt, NoNetwork::new());
     let Ok(sink) = BufferedSink::new(rt.alloc(), StdoutSink::new(rt.clone()?)) else {
         let _ = tell_memory(&rt);
-        return Ok(ExitCode::from(gate::NO_MEMORY));
+        return Ok(ExitCode::from(NO_MEMORY));
     };
-    let mut sink = sink;
-    let mut fault = None;
-    let status = gate::gate(
-        rt.alloc(),
-        words.as_slice(),
-        &mut house,
-        &mut sink,
-        &mut fault,
-    );
+    let work = GateWork {
+        rt,
+        alloc: rt.alloc(),
+        words: words.as_slice(),
+        house: RealHouse::new(rt, NoNetwork::new()),
+        sink,
+    };
+    let Ended { status, fault } = with_part_threads(&rt, rt.alloc(), Vec::new(rt.alloc()), work);
     // If standard error takes nothing, the status still says what happened.
-    if status == gate::BAD_WORDS && !is_text {
+    if status == BAD_WORDS && !is_text {
         let _ = tell_no_text(&rt);
     } else if status != 0 {
         let _ = tell(&rt, words.as_slice(), fault, status);

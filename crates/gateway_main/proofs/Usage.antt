@@ -1,26 +1,13 @@
--- The words, and the usage line.
-use Rattle.std.proofs.Common.{◌≡◌, ℕ, List, [], ◌∷◌, Bool, true, false, Some, None, Result, Ok, Err, OnOk, OnErr, if◌then◌else◌, get_or, inl, inr, refl, sym, ◌∙◌, ◌++◌, append_assoc}
-use Rattle.std.specs.Prelude.{◌&&◌, codes}
-use Rattle.std.specs.Str.{bytes_eq}
+-- The usage line.
+use Rattle.std.proofs.Common.{◌≡◌, ℕ, List, ◌++◌, Result, Ok, Err, OnOk, OnErr, inl, inr, refl, sym, ◌∙◌, append_assoc}
 use Rattle.std.specs.declared.option.Option.{Option as Known}
 use Rattle.std.specs.Io.KnownBytes.{Appends}
 use Rattle.gate_outside.specs.Causes.{FaultHasCause}
 use Rattle.gate_outside.specs.declared.faults.Fault.{Fault}
 use Rattle.gate_outside.specs.declared.faults.Fault.TheVariants as outside
 use Rattle.gate_outside.specs.Streams.{AppendsFront, CarriesFront}
-use Rattle.gateway_main.specs.Words.{is_file, run_file, usage}
+use Rattle.gateway_main.specs.Usage.{usage}
 use Rattle.gateway_main.specs.Gate.{TellsUsage, usage_status}
-
-some_is : (b : Bool) (f file : List ℕ) → (if b then Some f else None) ≡ Some file → f ≡ file
-some_is true f file e = cc
-some_is false f file e = absurd (cc)
-
--- the file is the second word
-pub second_word : (words : List (List ℕ)) (file d : List ℕ) → run_file words ≡ Some file → get_or words 1 d ≡ file
-second_word [] file d e = absurd (cc)
-second_word (command ∷ []) file d e = absurd (cc)
-second_word (command ∷ f ∷ []) file d e = some_is (bytes_eq command (codes "run") && is_file f) f file e
-second_word (command ∷ f ∷ more ∷ words) file d e = absurd (cc)
 
 -- what went out of a front is a front
 pub front_out : (got0 got1 : Known (List ℕ)) (waits text : List ℕ) → CarriesFront got0 got1 waits text → AppendsFront got0 got1 text

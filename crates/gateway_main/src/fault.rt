@@ -1,0 +1,13 @@
+//! Why a command does not come to its end.
+
+use load_run::LoadFault;
+use scenario::PlayFault;
+
+/// Why a command did not come to its end.
+#[derive(Clone, Copy, Debug)]
+pub enum GateFault {
+    /// The play of a file ended by this fault.
+    Play(PlayFault),
+    /// A load ended by this fault.
+    Load(LoadFault),
+}

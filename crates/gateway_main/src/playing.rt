@@ -1,0 +1,42 @@
+//! The command `run FILE`.
+
+ghost use Rattle.std.specs.Prelude.{◌≡◌};
+ghost use Rattle.scenario.specs.Played.{PlayCause};
+ghost use Rattle.gateway_main.specs.Gate.{Runs, AsksOnce, LeavesRest};
+
+use gate_outside::back::Back;
+use gate_outside::faults::Fault;
+use gate_outside::houses::House;
+use scenario::{PlayFault, play};
+use std::alloc::Global;
+
+/// Plays the file of that name, and puts its source back.
+pub fn run<H: House>(
+    alloc: Global,
+    file: &str,
+    house: &mut H,
+    sink: &mut H::Out,
+) -> Result<(), PlayFault>
+    ensures runs { Runs ((H.house_tale house.old).contents file.now)
+        (H.house_tale house.old).sources (H.house_tale house.new).sources
+        (H.Out.got sink.old) (H.Out.got sink.new) (H.Out.waits sink.old) result }
+    ensures asks { AsksOnce (H.house_tale house.old).asks (H.house_tale house.new).asks
+        file.now result }
+    ensures cause { PlayCause
+        (H.house_tale house.old).source_faults (H.house_tale house.new).source_faults
+        (H.Out.faults sink.old) (H.Out.faults sink.new) result }
+    ensures rest { LeavesRest (H.house_tale house.old) (H.house_tale house.new) }
+    ensures dial { H.tale house.new ≡ H.tale house.old }
+    ensures dial_faults { H.faults house.new ≡ H.faults house.old }
+{
+    match house.source(file) {
+        Ok(source) => {
+            let mut source = source;
+            let played = play(alloc, &mut source, sink);
+            house.put_back(Back::Source(source));
+            played
+        }
+        Err(Fault::Failed) => Err(PlayFault::Read),
+        Err(Fault::Memory) => Err(PlayFault::Memory),
+    }
+}

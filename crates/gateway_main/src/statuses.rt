@@ -1,0 +1,76 @@
+//! The exit statuses of the command, and the faults that they tell.
+
+ghost use Rattle.std.specs.Prelude.{◌≡◌};
+ghost use Rattle.gateway_main.specs.Gate.{play_status, play_fault, load_status, load_fault, usage_status};
+
+use crate::fault::GateFault;
+use gate_outside::faults::Fault;
+use load_run::LoadFault;
+use scenario::PlayFault;
+
+/// The exit status if the words are not those of a command.
+pub const BAD_WORDS: u8 = 2;
+
+/// The exit status if memory ran out.
+pub const NO_MEMORY: u8 = 6;
+
+/// The exit status of a play.
+pub fn play_status(played: &Result<(), PlayFault>) -> u8
+    ensures { result ≡ play_status played.now }
+{
+    match played {
+        Ok(()) => 0,
+        Err(PlayFault::Read) => 3,
+        Err(PlayFault::Write) => 4,
+        Err(PlayFault::Line { .. }) => 5,
+        Err(PlayFault::Memory) => NO_MEMORY,
+        Err(PlayFault::Spent) => 12,
+    }
+}
+
+/// Why a play did not come to its end.
+pub fn play_fault(played: &Result<(), PlayFault>) -> Option<GateFault>
+    ensures { result ≡ play_fault played.now }
+{
+    match played {
+        Ok(()) => None,
+        Err(fault) => Some(GateFault::Play(*fault)),
+    }
+}
+
+/// The exit status of a load.
+pub fn load_status(loaded: &Result<(), LoadFault>) -> u8
+    ensures { result ≡ load_status loaded.now }
+{
+    match loaded {
+        Ok(()) => 0,
+        Err(LoadFault::Write) => 4,
+        Err(LoadFault::Memory) => NO_MEMORY,
+        Err(LoadFault::Door) => 7,
+        Err(LoadFault::Start) => 8,
+        Err(LoadFault::Out(_)) => 10,
+        Err(LoadFault::BadText) => 11,
+        Err(LoadFault::Spent) => 12,
+    }
+}
+
+/// Why a load did not come to its end.
+pub fn load_fault(loaded: &Result<(), LoadFault>) -> Option<GateFault>
+    ensures { result ≡ load_fault loaded.now }
+{
+    match loaded {
+        Ok(()) => None,
+        Err(fault) => Some(GateFault::Load(*fault)),
+    }
+}
+
+/// The exit status after the usage line.
+pub fn usage_status(told: Result<(), Fault>) -> u8
+    ensures { result ≡ usage_status told }
+{
+    match told {
+        Ok(()) => BAD_WORDS,
+        Err(Fault::Failed) => BAD_WORDS,
+        Err(Fault::Memory) => NO_MEMORY,
+    }
+}
