@@ -23,7 +23,6 @@ pub use thread_edit::ThreadEdit;
 pub use voice_presence::VoicePresenceEdit;
 
 /// An edit of a guild.
-#[derive(Drop)]
 pub enum Edit {
     /// An edit of the guild itself.
     Guild(GuildEdit),
@@ -37,6 +36,20 @@ pub enum Edit {
     VoicePresence(VoicePresenceEdit),
     /// An edit of its messages, of reactions to them, or of who types.
     Message(MessageEdit),
+}
+
+// One call drops it, so that no crate above proves the drop of each of its parts again.
+impl Drop for Edit {
+    fn drop(self) {
+        match self {
+            Edit::Guild(edit) => drop(edit),
+            Edit::RoleMember(edit) => drop(edit),
+            Edit::Channel(edit) => drop(edit),
+            Edit::Thread(edit) => drop(edit),
+            Edit::VoicePresence(_) => {}
+            Edit::Message(edit) => drop(edit),
+        }
+    }
 }
 
 impl Edit {
