@@ -68,6 +68,24 @@ impl Edit {
     }
 }
 
+impl Edit {
+    // As the function `make`. Only a method takes an edit apart.
+    fn make(self, alloc: Global, guild: &mut Guild) -> Result<(), AllocError>
+        requires accepted { verdict guild.old self ≡ None }
+        ensures ok { OnOk result (guild.new ≡ applied guild.old self) }
+        ensures err { OnErr result (guild.new ≡ guild.old) }
+    {
+        match self {
+            Edit::Guild(edit) => guild::apply(alloc, guild, edit),
+            Edit::RoleMember(edit) => role_member_edit::apply(alloc, guild, edit),
+            Edit::Channel(edit) => channel_edit::apply(alloc, guild, edit),
+            Edit::Thread(edit) => thread_edit::apply(alloc, guild, edit),
+            Edit::VoicePresence(edit) => voice_presence::apply(guild, edit),
+            Edit::Message(edit) => message_edit::apply(alloc, guild, edit),
+        }
+    }
+}
+
 /// Refuses a guild that is not open, then a guild in an outage.
 pub fn in_service(guild: &Guild) -> Result<(), Verdict>
     ensures { result ≡ outcome (out_of_service guild.now) }
@@ -137,14 +155,7 @@ pub fn make(alloc: Global, guild: &mut Guild, edit: Edit) -> Result<(), AllocErr
     ensures ok { OnOk result (guild.new ≡ applied guild.old edit) }
     ensures err { OnErr result (guild.new ≡ guild.old) }
 {
-    match edit {
-        Edit::Guild(edit) => guild::apply(alloc, guild, edit),
-        Edit::RoleMember(edit) => role_member_edit::apply(alloc, guild, edit),
-        Edit::Channel(edit) => channel_edit::apply(alloc, guild, edit),
-        Edit::Thread(edit) => thread_edit::apply(alloc, guild, edit),
-        Edit::VoicePresence(edit) => voice_presence::apply(guild, edit),
-        Edit::Message(edit) => message_edit::apply(alloc, guild, edit),
-    }
+    edit.make(alloc, guild)
 }
 
 /// Judges an edit and makes it if it is accepted. If it is refused, or memory runs out, the record
