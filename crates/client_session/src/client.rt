@@ -28,7 +28,6 @@ use std::marker::Model;
 /// A bot's side of the protocol: its session, its connection and what it holds of its guilds (Gateway,
 /// Connection Lifecycle). Its caller opens the first connection, hands over what comes, and does
 /// what each call says.
-#[derive(Drop)]
 pub struct Client {
     alloc: Global,
     token: Text,
@@ -36,6 +35,23 @@ pub struct Client {
     session: Option<Session>,
     heartbeat: Option<Heartbeat>,
     cache: Cache,
+}
+
+// One call drops it, so that no crate above proves the drop of each of its parts again.
+impl Drop for Client {
+    fn drop(self) {
+        let Client {
+            alloc: _,
+            token,
+            intents: _,
+            session,
+            heartbeat: _,
+            cache,
+        } = self;
+        drop(token);
+        drop(session);
+        drop(cache);
+    }
 }
 
 impl Model for Client {

@@ -23,7 +23,6 @@ pub use thread_edit::ThreadEdit;
 pub use voice_presence::VoicePresenceEdit;
 
 /// An edit of a guild.
-#[derive(Drop)]
 pub enum Edit {
     /// An edit of the guild itself.
     Guild(GuildEdit),
@@ -39,6 +38,20 @@ pub enum Edit {
     Message(MessageEdit),
 }
 
+// One call drops it, so that no crate above proves the drop of each of its parts again.
+impl Drop for Edit {
+    fn drop(self) {
+        match self {
+            Edit::Guild(edit) => drop(edit),
+            Edit::RoleMember(edit) => drop(edit),
+            Edit::Channel(edit) => drop(edit),
+            Edit::Thread(edit) => drop(edit),
+            Edit::VoicePresence(_) => {}
+            Edit::Message(edit) => drop(edit),
+        }
+    }
+}
+
 impl Edit {
     /// An edit that is equal to this.
     pub fn copy(&self, alloc: Global) -> Result<Edit, AllocError>
@@ -52,6 +65,24 @@ impl Edit {
             Edit::VoicePresence(edit) => Edit::VoicePresence(*edit),
             Edit::Message(edit) => Edit::Message(edit.copy(alloc)?),
         })
+    }
+}
+
+impl Edit {
+    // As the function `make`. Only a method takes an edit apart.
+    fn make(self, alloc: Global, guild: &mut Guild) -> Result<(), AllocError>
+        requires accepted { verdict guild.old self ≡ None }
+        ensures ok { OnOk result (guild.new ≡ applied guild.old self) }
+        ensures err { OnErr result (guild.new ≡ guild.old) }
+    {
+        match self {
+            Edit::Guild(edit) => guild::apply(alloc, guild, edit),
+            Edit::RoleMember(edit) => role_member_edit::apply(alloc, guild, edit),
+            Edit::Channel(edit) => channel_edit::apply(alloc, guild, edit),
+            Edit::Thread(edit) => thread_edit::apply(alloc, guild, edit),
+            Edit::VoicePresence(edit) => voice_presence::apply(guild, edit),
+            Edit::Message(edit) => message_edit::apply(alloc, guild, edit),
+        }
     }
 }
 
@@ -124,14 +155,7 @@ pub fn make(alloc: Global, guild: &mut Guild, edit: Edit) -> Result<(), AllocErr
     ensures ok { OnOk result (guild.new ≡ applied guild.old edit) }
     ensures err { OnErr result (guild.new ≡ guild.old) }
 {
-    match edit {
-        Edit::Guild(edit) => guild::apply(alloc, guild, edit),
-        Edit::RoleMember(edit) => role_member_edit::apply(alloc, guild, edit),
-        Edit::Channel(edit) => channel_edit::apply(alloc, guild, edit),
-        Edit::Thread(edit) => thread_edit::apply(alloc, guild, edit),
-        Edit::VoicePresence(edit) => voice_presence::apply(guild, edit),
-        Edit::Message(edit) => message_edit::apply(alloc, guild, edit),
-    }
+    edit.make(alloc, guild)
 }
 
 /// Judges an edit and makes it if it is accepted. If it is refused, or memory runs out, the record

@@ -16,7 +16,6 @@ use std::time::Clock;
 use stop_flag::StopSeat;
 
 /// An actor's part of a run.
-#[derive(Drop)]
 pub struct ActorPart<R: Wait + Drop> {
     /// The handle.
     pub rt: R,
@@ -47,6 +46,27 @@ pub struct ActorDone<R: Wait + Drop> {
     pub seat: StopSeat,
 }
 
+// One call drops a part, so that no crate above proves the drop of what it holds again.
+impl<R: Wait + Drop> Drop for ActorPart<R> {
+    fn drop(self) {
+        let ActorPart {
+            rt: _,
+            alloc: _,
+            posts,
+            place: _,
+            pass,
+            writers,
+            word,
+            seat,
+        } = self;
+        drop(posts);
+        drop(pass);
+        drop(writers);
+        drop(word);
+        drop(seat);
+    }
+}
+
 impl<R: Wait + Clock + Drop> ActorPart<R> {
     ghost use Rattle.std.specs.Prelude.{◌≡◌, false};
     ghost use Rattle.gate_parts.specs.declared.ending.Ending.TheVariants.{Stopped};
@@ -58,13 +78,19 @@ impl<R: Wait + Clock + Drop> ActorPart<R> {
         ensures { (result.ending ≡ Stopped) × (result.seat ≡ self.seat) }
     {
         let ActorPart {
+            rt: _,
+            alloc: _,
+            posts,
+            place: _,
             pass,
             writers,
+            word,
             seat,
-            ..
         } = self;
+        drop(posts);
         drop(writers);
         drop(pass);
+        drop(word);
         ActorDone {
             ending: Ending::Stopped,
             seat,

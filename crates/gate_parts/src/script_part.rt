@@ -16,7 +16,6 @@ use std::time::Clock;
 use stop_flag::StopSeat;
 
 /// A script's part of a run.
-#[derive(Drop)]
 pub struct ScriptPart<R: Drop> {
     /// The handle.
     pub rt: R,
@@ -49,6 +48,28 @@ pub struct ScriptDone {
     pub seat: StopSeat,
 }
 
+// One call drops a part, so that no crate above proves the drop of what it holds again.
+impl<R: Drop> Drop for ScriptPart<R> {
+    fn drop(self) {
+        let ScriptPart {
+            rt: _,
+            alloc: _,
+            posts,
+            passes,
+            index,
+            lines,
+            word,
+            seat,
+        } = self;
+        drop(posts);
+        drop(passes);
+        drop(index);
+        drop(lines);
+        drop(word);
+        drop(seat);
+    }
+}
+
 impl<R: Wait + Clock + Drop> ScriptPart<R> {
     ghost use Rattle.std.specs.Prelude.{◌≡◌, false, map};
     ghost use Rattle.edit_post.specs.Post.{after_end};
@@ -61,13 +82,18 @@ impl<R: Wait + Clock + Drop> ScriptPart<R> {
         ensures { (result.ending ≡ Stopped) × (result.seat ≡ self.seat) × (result.passes.items ≡ map after_end self.passes.items) }
     {
         let ScriptPart {
+            rt: _,
+            alloc: _,
             posts,
             mut passes,
+            index,
             lines,
+            word,
             seat,
-            ..
         } = self;
+        drop(index);
         drop(lines);
+        drop(word);
         end_all(posts.as_slice(), &mut passes);
         ScriptDone {
             ending: Ending::Stopped,
@@ -82,12 +108,14 @@ impl<R: Wait + Clock + Drop> ScriptPart<R> {
         ensures gives { ScriptGives self result }
     {
         let ScriptPart {
+            rt: _,
+            alloc: _,
             posts,
             mut passes,
             index,
             lines,
+            word: _,
             mut seat,
-            ..
         } = self;
         let sent = send_script(posts.as_slice(), &mut passes, &index, lines);
         set_after(&mut seat, sent.is_err());

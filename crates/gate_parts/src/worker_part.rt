@@ -20,7 +20,6 @@ use worker_core::{Input, Worker};
 use worker_run::{WorkFault, WorkReport, work};
 
 /// A worker's part of a run.
-#[derive(Drop)]
 pub struct WorkerPart<D, C, J, R: Drop> {
     /// The handle.
     pub rt: R,
@@ -67,6 +66,45 @@ pub struct WorkerDone<D, C, J> {
     pub seat: StopSeat,
 }
 
+// One call drops a part, so that no crate above proves the drop of what it holds again.
+impl<D: Drop, C: Drop, J: Drop, R: Drop> Drop for WorkerPart<D, C, J, R> {
+    fn drop(self) {
+        drop(self.into_clock());
+    }
+}
+
+impl<D: Drop, C, J: Drop, R: Drop> WorkerPart<D, C, J, R> {
+    ghost use Rattle.std.specs.Prelude.{◌≡◌};
+
+    /// The clock. All else is dropped.
+    pub fn into_clock(self) -> C
+        ensures { result ≡ self.clock }
+    {
+        let WorkerPart {
+            rt: _,
+            alloc: _,
+            worker,
+            door,
+            clock,
+            readers,
+            posts,
+            passes,
+            notes,
+            word,
+            seat,
+        } = self;
+        drop(worker);
+        drop(door);
+        drop(readers);
+        drop(posts);
+        drop(passes);
+        drop(notes);
+        drop(word);
+        drop(seat);
+        clock
+    }
+}
+
 impl<D: Door, C: Clock, J: Notes<Input>, R: Wait + time::Clock + Drop> WorkerPart<D, C, J, R>
 where
     D::Wire: Drop,
@@ -84,6 +122,8 @@ where
         ensures passes { result.passes.items ≡ map after_end self.passes.items }
     {
         let WorkerPart {
+            rt: _,
+            alloc: _,
             worker,
             door,
             clock,
@@ -91,10 +131,11 @@ where
             posts,
             mut passes,
             notes,
+            word,
             seat,
-            ..
         } = self;
         drop(worker);
+        drop(word);
         end_all(posts.as_slice(), &mut passes);
         WorkerDone {
             ending: Ending::Stopped,

@@ -9,9 +9,16 @@ use std::marker::Model;
 use std::sync::Arc;
 
 /// An entry of a log. All owners share its edit, and a clause sees the edit.
-#[derive(Drop)]
 pub struct Entry {
     edit: Arc<Edit>,
+}
+
+// One call drops it, so that no crate above proves the drop of each of its parts again.
+impl Drop for Entry {
+    fn drop(self) {
+        let Entry { edit } = self;
+        drop(edit);
+    }
 }
 
 impl Model for Entry {

@@ -61,7 +61,6 @@ pub struct Rebased {
 /// A reader. A clause sees what it has seen since its last rebase, the log as it was at its last step, or
 /// as it was told since, the log that each of its steps on the hub found, and what it knows of the mark by
 /// which its writer quits.
-#[derive(Drop)]
 pub struct HubReader {
     alloc: Global,
     reader: LogReader,
@@ -69,6 +68,23 @@ pub struct HubReader {
     base: u64,
     cursor: u64,
     watch: Watch,
+}
+
+// One call drops it, so that no crate above proves the drop of each of its parts again.
+impl Drop for HubReader {
+    fn drop(self) {
+        let HubReader {
+            alloc: _,
+            reader,
+            note,
+            base: _,
+            cursor: _,
+            watch,
+        } = self;
+        drop(reader);
+        drop(note);
+        drop(watch);
+    }
 }
 
 impl Model for HubReader {

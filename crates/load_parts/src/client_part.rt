@@ -10,7 +10,6 @@ use std::time;
 use thread_outside::door_dial::DoorDial;
 
 /// A client's part of a load.
-#[derive(Drop)]
 pub struct ClientPart<C, R: Wait + Copy + Drop> {
     /// The handle.
     pub rt: R,
@@ -35,6 +34,35 @@ pub struct ClientDone<C> {
     pub ended: EndedClient,
     /// The clock.
     pub clock: C,
+}
+
+// One call drops a part, so that no crate above proves the drop of what it holds again.
+impl<C: Drop, R: Wait + Copy + Drop> Drop for ClientPart<C, R> {
+    fn drop(self) {
+        drop(self.into_clock());
+    }
+}
+
+impl<C, R: Wait + Copy + Drop> ClientPart<C, R> {
+    ghost use Rattle.std.specs.Prelude.{◌≡◌};
+
+    /// The clock. All else is dropped.
+    pub fn into_clock(self) -> C
+        ensures { result ≡ self.clock }
+    {
+        let ClientPart {
+            rt: _,
+            alloc: _,
+            client,
+            dial,
+            clock,
+            word,
+        } = self;
+        drop(client);
+        drop(dial);
+        drop(word);
+        clock
+    }
 }
 
 impl<C: Clock, R: Wait + time::Clock + Copy + Drop> ClientPart<C, R> {

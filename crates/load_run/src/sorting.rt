@@ -6,10 +6,10 @@ ghost use Rattle.load_run.specs.Ends.{clock_of_part};
 ghost use Rattle.load_parts.specs.declared.load_part.LoadDone.TheVariants.{Worker, Client};
 
 use edit_post::SendPass;
-use gate_parts::{ActorDone, Ending, ScriptDone, WorkerDone, WorkerPart};
+use gate_parts::{ActorDone, Ending, ScriptDone, WorkerDone};
 use guild_hub::HubReader;
 use load_client::EndedClient;
-use load_parts::{ClientDone, ClientPart, DoorWorker, DoorWorkerDone, LoadDone, LoadPart};
+use load_parts::{ClientDone, DoorWorkerDone, LoadDone, LoadPart};
 use snowflake_id::Snowflake;
 use std::sync::Wait;
 use team_run::add;
@@ -36,50 +36,6 @@ pub struct Ends<C: Drop, R: Wait + Copy + Drop> {
     pub workers: Vec<WorkerEnd<R>>,
     pub clients: Vec<EndedClient>,
     pub clocks: Vec<C>,
-}
-
-// The clock of a worker that was not started.
-fn clock_of_worker<C: Drop, R: Wait + Copy + Drop>(part: DoorWorker<C, R>) -> C
-    ensures { result ≡ part.clock }
-{
-    let WorkerPart {
-        worker,
-        door,
-        clock,
-        readers,
-        posts,
-        passes,
-        notes,
-        word,
-        seat,
-        ..
-    } = part;
-    drop(worker);
-    drop(door);
-    drop(readers);
-    drop(posts);
-    drop(passes);
-    drop(notes);
-    drop(word);
-    drop(seat);
-    clock
-}
-
-// The clock of a client that was not started.
-fn clock_of_client<C: Drop, R: Wait + Copy + Drop>(part: ClientPart<C, R>) -> C
-    ensures { result ≡ part.clock }
-{
-    let ClientPart {
-        client,
-        dial,
-        clock,
-        word,
-        ..
-    } = part;
-    drop(client);
-    drop(dial);
-    drop(word);
-    clock
 }
 
 impl<C: Drop, R: Wait + Copy + Drop> Ends<C, R> {
@@ -159,8 +115,8 @@ impl<C: Drop, R: Wait + Copy + Drop> Ends<C, R> {
         match part {
             LoadPart::Actor(part) => drop(part),
             LoadPart::Script(part) => drop(part),
-            LoadPart::Worker(part) => add(&mut self.clocks, clock_of_worker(part)),
-            LoadPart::Client(part) => add(&mut self.clocks, clock_of_client(part)),
+            LoadPart::Worker(part) => add(&mut self.clocks, part.into_clock()),
+            LoadPart::Client(part) => add(&mut self.clocks, part.into_clock()),
         }
     }
 

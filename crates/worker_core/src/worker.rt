@@ -52,7 +52,6 @@ use std::alloc::{AllocError, Global};
 use std::marker::Model;
 
 /// A worker, which follows the logs of guilds and serves sessions (Gateway, Connection Lifecycle).
-#[derive(Drop)]
 pub struct Worker {
     alloc: Global,
     finished: Option<StepFault>,
@@ -66,6 +65,27 @@ pub struct Worker {
     sessions: Sessions,
     /// The viewers of the sessions, as of the last look.
     recipients: Recipients,
+}
+
+// One call drops it, so that no crate above proves the drop of each of its parts again.
+impl Drop for Worker {
+    fn drop(self) {
+        let Worker {
+            alloc: _,
+            finished: _,
+            url,
+            clock: _,
+            chunks: _,
+            past: _,
+            replicas,
+            sessions,
+            recipients,
+        } = self;
+        drop(url);
+        drop(replicas);
+        drop(sessions);
+        drop(recipients);
+    }
 }
 
 impl Model for Worker {
