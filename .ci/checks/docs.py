@@ -9,7 +9,7 @@ import subprocess
 import sys
 
 os.chdir(os.path.join(os.path.dirname(os.path.abspath(__file__)), "../.."))
-STEPS, TRANSCRIPT, PAYLOADS = "docs/STEPS.md", "docs/TRANSCRIPT.md", "docs/PAYLOADS.md"
+STEPS, TRANSCRIPT, PAYLOADS, LOAD = "docs/STEPS.md", "docs/TRANSCRIPT.md", "docs/PAYLOADS.md", "docs/LOAD.md"
 # What the page calls a kind of field, by the name of the function that reads it.
 KINDS = {"moment": "time", "kind": "channel type", "thread_kind": "thread type", "overwrite_kind": "overwrite type", "parts": "count"}
 # Which objects stand under these keys, and are these dispatches.
@@ -138,9 +138,11 @@ def compare_tables():
     codes = {name: code for name, code in constants("gateway_frames").items() if 4000 <= code < 4100 and re.search(rf"\b{name}\b", sent)}
     source = sorted((code, name.lower().replace("_", " ")) for name, code in codes.items())
     compare_rows("close codes", TRANSCRIPT, [(line, (int(code), name)) for line, (code, name, *_) in rows(TRANSCRIPT, "code")], source)
-    found = re.findall(r"(?:Ok\(\(\)\)|Err\(PlayFault::\w+(?: \{ \.\. \})?\)) => (\d+)|: u8 = (\d+);", text_of("crates/gateway_main/src/gate.rt"))
-    source = sorted({int(played or other) for played, other in found})
-    compare_rows("statuses", TRANSCRIPT, [(line, int(status)) for line, (status, *_) in rows(TRANSCRIPT, "status")], source)
+    statuses = functions("crates/gateway_main/src/statuses.rt")
+    others = constants("gateway_main")
+    for page, name, head in ((TRANSCRIPT, "play_status", "status"), (LOAD, "load_status", "status of a load")):
+        told = [int(others.get(status, status)) for status in re.findall(r"=> (\w+),", statuses[name])]
+        compare_rows("statuses", page, [(line, int(status)) for line, (status, *_) in rows(page, head)], sorted({*told, others["BAD_WORDS"]}))
 
 def add_objects(kind, value, found):
     """Adds the keys of an object and of those inside it."""

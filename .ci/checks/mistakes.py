@@ -121,6 +121,7 @@ SAID = {
     "WrongType": "not an object, or a field of the wrong type or out of its range",
     "TooLong": "the line, the file, a token or the list of guilds is too long",
 }
+NO_SEED = "load takes one seed, a number below 2^64 in digits"
 # What was wrong, the words, the status and the line on standard error.
 WORDS = [
     ("no word", [], 2, "no command"),
@@ -134,7 +135,15 @@ WORDS = [
     ("an empty word", [""], 2, 'no command ""'),
     ("a word with a line feed", ["a\nb"], 2, 'no command "a\\nb"'),
     ("a command that is not built", ["serve", "8080", "4", "1", "a"], 2, "serve is not built yet"),
-    ("another that is not built", ["load", "1"], 2, "load is not built yet"),
+    ("another that is not built", ["client", "ws://a", "t", "1", "1"], 2, "client is not built yet"),
+    ("no seed", ["load"], 2, NO_SEED),
+    ("two seeds", ["load", "1", "2"], 2, NO_SEED),
+    ("a word for a seed", ["load", "seven"], 2, NO_SEED),
+    ("a negative seed", ["load", "-1"], 2, NO_SEED),
+    ("a seed with a plus", ["load", "+1"], 2, NO_SEED),
+    ("a seed in hexadecimal", ["load", "0x7"], 2, NO_SEED),
+    ("a seed of 2^64", ["load", "18446744073709551616"], 2, NO_SEED),
+    ("a dash before the words", ["--", "load"], 2, "no command --"),
     ("a word that is not UTF-8", [b"run", b"a\xff"], 2, "a word is not UTF-8"),
     ("a file that does not exist", ["run", "nosuch.jsonl"], 3, "cannot read nosuch.jsonl"),
     ("a name with a line feed", ["run", "no\nsuch"], 3, 'cannot read "no\\nsuch"'),
@@ -150,8 +159,8 @@ def compare(what, wanted, found):
         failures.append(f"mistakes: {what}: wanted {wanted}, found {found}")
 
 
-def said(status, text):
-    return "" if status == 0 else f"gate: {text} (status {status}; see {PAGES[status]})\n"
+def said(status, text, page=None):
+    return "" if status == 0 else f"gate: {text} (status {status}; see {page or PAGES[status]})\n"
 
 
 def try_lines(gate, folder):
@@ -203,6 +212,18 @@ def try_little_memory(gate, folder):
     compare("little memory", (6, b"", said(6, f"out of memory while playing {path}")), (run.returncode, run.stdout, run.stderr.decode()))
 
 
+def try_load(gate):
+    """A load, whose summary is told by its seed, and a full disk."""
+    guild = "guild %d entries 1001 accepted 1001 members 8 roles 5 channels 4 active 61 archived 62"
+    for words, seed in (("7", 7), ("007", 7), ("18446744073709551615", 2 ** 64 - 1)):
+        lines = [f"load {seed}", *(guild % (number << 22) for number in range(1, 9)), *(f"session {number} agree 8" for number in range(12)), "done 8008"]
+        run = subprocess.run([gate, "load", words], capture_output=True, timeout=120)
+        compare(f"load {words}", (0, lines, ""), (run.returncode, run.stdout.decode().splitlines(), run.stderr.decode()))
+    with open("/dev/full", "wb") as full:
+        run = subprocess.run([gate, "load", "7"], stdout=full, stderr=subprocess.PIPE, timeout=120)
+        compare("a load to a full disk", (4, said(4, "cannot write the summary of load 7", "docs/LOAD.md")), (run.returncode, run.stderr.decode()))
+
+
 def program():
     """The program that GATE names, or else the one that the gate has built."""
     built = os.environ.get("GATE") or "crates/gateway_main/out/gateway_main"
@@ -218,6 +239,7 @@ with tempfile.TemporaryDirectory() as folder:
     try_little_memory(gate, folder)
 try_words(gate)
 try_outside(gate)
+try_load(gate)
 print(*failures, sep="\n", end="\n" if failures else "")
-print(f"mistakes: {len(LINES) + len(WORDS) + 6} tried, {len(failures)} answered otherwise")
+print(f"mistakes: {len(LINES) + len(WORDS) + 10} tried, {len(failures)} answered otherwise")
 sys.exit(bool(failures))
