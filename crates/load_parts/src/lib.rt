@@ -5,7 +5,6 @@
 mod client_part;
 mod function;
 mod laws;
-mod load_dones;
 mod load_part;
 mod part_threads;
 mod start_count;
@@ -15,7 +14,6 @@ mod team_work;
 pub use client_part::{ClientDone, ClientPart};
 pub use function::{Closure, Function};
 pub use laws::split_by_kind;
-pub use load_dones::{LoadDones, split};
 pub use load_part::{DoorWorker, DoorWorkerDone, LoadDone, LoadPart};
 pub use part_threads::with_part_threads;
 pub use task_team::{Started, TaskTeam};

@@ -35,7 +35,7 @@ use Rattle.load_run.specs.Causes.{LoadCause}
 use Rattle.load_run.specs.Ends.{clock_of_part, clock_of_done}
 use Rattle.load_run.specs.Faults.{fault_of, first_fault, start_fault}
 use Rattle.load_run.specs.Joined.{Joined, ClientsJoined, HasJoined, ActorEnds, ScriptEnds, WorkerEnds, ClientEnds}
-use Rattle.load_run.specs.Parts.{all_parts}
+use Rattle.load_parts.specs.ByKind.{parts_of}
 use Rattle.load_run.specs.Sorted.{Sorts, IsEmpty, HasRoom, end_of, ended_of}
 use Rattle.load_run.proofs.Zips.{zip_on, many_zip}
 use Rattle.load_run.proofs.Staged.{one_actor, one_script, one_worker, one_client, zip_map}
@@ -111,7 +111,7 @@ module _ {C R : Type 0} where
   of_actors [] rest = refl
   of_actors (a ∷ az) rest = of_actors az rest
 
-  pub clocks_of_all : (az : List (ActorPart R)) (ss : List (ScriptPart R)) (ws : List (WorkerPart DialledState C (KeptNotes Input) R)) (cs : List (ClientPart C R)) → length (flat_map clock_of_part (all_parts az ss ws cs)) ≡ length ws + length cs
+  pub clocks_of_all : (az : List (ActorPart R)) (ss : List (ScriptPart R)) (ws : List (WorkerPart DialledState C (KeptNotes Input) R)) (cs : List (ClientPart C R)) → length (flat_map clock_of_part (parts_of az ss ws cs)) ≡ length ws + length cs
   clocks_of_all az ss ws cs =
       let rest = map part.Worker ws ++ map part.Client cs in
       ap length (of_actors az (map part.Script ss ++ rest)) ∙ ap length (of_scripts ss rest) ∙ of_workers ws (map part.Client cs) ∙ ap (λ (n : ℕ). length ws + n) (of_clients cs)
@@ -139,7 +139,7 @@ module _ {C R : Type 0} where
 module _ {C R : Type 0} (clock_tale : C → ClockTale) (seed : ℕ) (clocks : List C) (stage : Stage C R) (is : IsStage seed clocks stage) where
   -- the cause of the fault that is answered: a part did not start, or one that was started has ended by it
   pub fault_cause : (front back : List (LoadPart C R)) (dones : List (LoadDone C R)) (started : Bool) (f : LoadFault) (team0 team1 sink : ℕ)
-      → all_parts stage.actors.items stage.scripts.items stage.workers.items stage.clients.items ≡ front ++ back → AllZip (LoadGives clock_tale) front dones
+      → parts_of stage.actors.items stage.scripts.items stage.workers.items stage.clients.items ≡ front ++ back → AllZip (LoadGives clock_tale) front dones
       → first_fault started dones ≡ Some f → (started ≡ false → Rose team0 team1) → LoadCause R seed team0 team1 sink sink f
   fault_cause front back dones started f team0 team1 sink parts gave first rose =
       ⊎_elim
@@ -154,7 +154,7 @@ module _ {C R : Type 0} (clock_tale : C → ClockTale) (seed : ℕ) (clocks : Li
 -- ---- counts
 
 module _ {C R : Type 0} where
-  pub many_parts : (az : List (ActorPart R)) (ss : List (ScriptPart R)) (ws : List (WorkerPart DialledState C (KeptNotes Input) R)) (cs : List (ClientPart C R)) → length (all_parts az ss ws cs) ≡ length az + (length ss + (length ws + length cs))
+  pub many_parts : (az : List (ActorPart R)) (ss : List (ScriptPart R)) (ws : List (WorkerPart DialledState C (KeptNotes Input) R)) (cs : List (ClientPart C R)) → length (parts_of az ss ws cs) ≡ length az + (length ss + (length ws + length cs))
   many_parts az ss ws cs =
       let workers : List (LoadPart C R) = map part.Worker ws in
       let clients : List (LoadPart C R) = map part.Client cs in
@@ -170,8 +170,8 @@ module _ {C R : Type 0} where
     pub scripts : length stage.scripts.items ≡ 4
     pub workers : length stage.workers.items ≡ 3
     pub clients : length stage.clients.items ≡ 12
-    pub parts : length (all_parts stage.actors.items stage.scripts.items stage.workers.items stage.clients.items) ≡ 21
-    pub clock : length (flat_map clock_of_part (all_parts stage.actors.items stage.scripts.items stage.workers.items stage.clients.items)) ≡ 15
+    pub parts : length (parts_of stage.actors.items stage.scripts.items stage.workers.items stage.clients.items) ≡ 21
+    pub clock : length (flat_map clock_of_part (parts_of stage.actors.items stage.scripts.items stage.workers.items stage.clients.items)) ≡ 15
 
   pub counts : (seed : ℕ) (clocks : List C) (stage : Stage C R) → IsStage seed clocks stage → Counts clocks stage
   counts seed clocks stage is =

@@ -28,7 +28,7 @@ use Rattle.load_run.specs.declared.fault.LoadFault.TheVariants.{Memory, Spent, D
 use Rattle.load_run.specs.Causes.{LoadCause}
 use Rattle.load_run.specs.Ends.{clock_of_part, clock_of_done}
 use Rattle.load_run.specs.Faults.{fault_of}
-use Rattle.load_run.specs.Parts.{all_parts}
+use Rattle.load_parts.specs.ByKind.{parts_of}
 use Rattle.load_run.specs.Sorted.{end_of, ended_of}
 use Rattle.load_run.proofs.Ranks.{AnyIs, of_actor, of_script, of_worker, of_client}
 use Rattle.load_run.proofs.Staged.{one_script, one_worker, one_client}
@@ -65,7 +65,7 @@ module _ (C R : Type 0) (clock_tale : C → ClockTale) (seed : ℕ) (posts : Lis
   known_clients k (suc n) (c ∷ cs) z = ((k, z.0), known_clients (k + 1) n cs z.1)
 
   pub all_known : (az : List (ActorPart R)) (ss : List (ScriptPart R)) (ws : List (WorkerPart DialledState C (KeptNotes Input) R)) (cs : List (ClientPart C R))
-      → AllZip (IsScript posts flag seed) (range_with_len 0 4) ss → AllZip (IsWorker posts flag writers queues clocks) (range_with_len 0 3) ws → AllZip (IsClient flag queues clocks) (range_with_len 0 12) cs → AllKnown (all_parts az ss ws cs)
+      → AllZip (IsScript posts flag seed) (range_with_len 0 4) ss → AllZip (IsWorker posts flag writers queues clocks) (range_with_len 0 3) ws → AllZip (IsClient flag queues clocks) (range_with_len 0 12) cs → AllKnown (parts_of az ss ws cs)
   all_known az ss ws cs s w c =
       known_actors az (map part.Script ss ++ (map part.Worker ws ++ map part.Client cs))
       (known_scripts 0 4 ss (map part.Worker ws ++ map part.Client cs) s (known_workers 0 3 ws (map part.Client cs) w (known_clients 0 12 cs c)))

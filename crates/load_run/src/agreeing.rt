@@ -3,36 +3,17 @@
 ghost use Rattle.std.specs.Prelude.{◌≡◌, ◌<◌, ◌≤◌, ◌+◌, length, map, IfOk};
 ghost use Rattle.guild_hub.specs.Logs.{Published, whole_record};
 ghost use Rattle.load_client.specs.Agreement.{AgreeSo};
-ghost use Rattle.load_stage.specs.Clients.{intents_of};
 ghost use Rattle.load_run.specs.Loads.{viewer_of};
 ghost use Rattle.load_run.specs.Ends.{AllAgreeSo};
 
 use dispatch_types::Viewer;
 use guild_hub::SealedLog;
 use guild_model::Guild;
-use intent_set::Intents;
 use load_client::{EndedClient, agree, viewer};
+use load_stage::intents_of;
 use snowflake_id::Snowflake;
 use std::alloc::{AllocError, Global};
 use std::sync::Wait;
-
-// Guilds, members and messages.
-fn many_intents() -> Intents
-    ensures { result ≡ 515 }
-{
-    Intents::of_bits(515).unwrap()
-}
-
-// What the client with this number asks for.
-fn intents_of(number: u8) -> Intents
-    ensures { result ≡ intents_of number }
-{
-    if number % 2 == 0 {
-        many_intents()
-    } else {
-        Intents::GUILDS
-    }
-}
 
 // For whom the dispatches of the client with this number are.
 fn viewer_of(number: u8) -> Viewer

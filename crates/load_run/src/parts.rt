@@ -3,7 +3,7 @@
 ghost use Rattle.std.specs.Prelude.{◌≡◌, ◌+◌, ◌≤◌, ◌++◌, length, map};
 ghost use Rattle.std.specs.Vec.{vec_len, vec_capacity};
 ghost use Rattle.load_parts.specs.declared.load_part.LoadPart.TheVariants.{Actor, Script, Worker, Client};
-ghost use Rattle.load_run.specs.Parts.{all_parts};
+ghost use Rattle.load_parts.specs.ByKind.{parts_of};
 
 use gate_parts::{ActorPart, ScriptPart};
 use load_parts::{ClientPart, DoorWorker, LoadPart};
@@ -76,7 +76,7 @@ pub fn add_parts<C: Drop, R: Wait + Copy + Drop>(
     clients: Vec<ClientPart<C, R>>,
 )
     requires room { vec_len parts.old + (length actors.items + (length scripts.items + (length workers.items + length clients.items))) ≤ vec_capacity parts.old }
-    ensures { parts.new.items ≡ parts.old.items ++ all_parts actors.items scripts.items workers.items clients.items }
+    ensures { parts.new.items ≡ parts.old.items ++ parts_of actors.items scripts.items workers.items clients.items }
 {
     add_actors(parts, actors);
     add_scripts(parts, scripts);

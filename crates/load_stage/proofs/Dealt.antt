@@ -1,6 +1,7 @@
 -- Lists that are dealt to several holders in turn.
 use Rattle.std.proofs.Common.{◌≡◌, List, [], ◌∷◌, ◌++◌, map, take, drop, refl, sym, ap, ◌∙◌, append_assoc}
-use Rattle.load_stage.specs.Dealing.{evens, odds, woven, paired}
+use Rattle.run_ends.specs.Lists.{woven}
+use Rattle.load_stage.specs.Dealing.{evens, odds, paired}
 
 evens_on : {X : Type 0} (xs : List X) → evens xs ≡ take 1 xs ++ evens (drop 1 (drop 1 xs))
 evens_on [] = refl

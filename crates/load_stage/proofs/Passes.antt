@@ -4,7 +4,7 @@ use Rattle.std.proofs.lemmas.List.Elements.{All-map}
 use Rattle.edit_post.specs.Post.{PostId, Sender, new_sender}
 use Rattle.guild_posts.specs.Posts.{ArePasses, IsUnended, post_of}
 use Rattle.gate_parts.specs.Ready.{CanSend}
-use Rattle.load_stage.specs.Posts.{new_passes}
+use Rattle.run_ends.specs.Senders.{new_passes}
 
 same_posts : (posts : List PostId) (sender : ℕ) → map post_of (new_passes posts sender) ≡ posts
 same_posts [] sender = refl

@@ -5,7 +5,8 @@ use Rattle.std.specs.List.{range_with_len}
 use Rattle.std.specs.Global.{Vec}
 use Rattle.edit_post.specs.Post.{PostId, Sender, Taker, new_sender, new_taker}
 use Rattle.load_stage.specs.Dealing.{paired}
-use Rattle.load_stage.specs.Posts.{new_passes, HasPosts}
+use Rattle.run_ends.specs.Senders.{new_passes}
+use Rattle.load_stage.specs.Posts.{HasPosts}
 use Rattle.load_stage.proofs.Dealt.{paired-map}
 use Rattle.load_stage.proofs.Numbered.{from_map}
 

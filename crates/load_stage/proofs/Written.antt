@@ -14,7 +14,8 @@ use Rattle.gate_parts.specs.Ready.{CanAct, CanWork}
 use Rattle.load_maker.specs.Edits.{guild_id}
 use Rattle.load_stage.specs.Dealing.{AreFrom, evens, odds, dealt_to}
 use Rattle.load_stage.specs.Hubs.{guild_ids, IsNewWriter, IsReaderOf, new_reader}
-use Rattle.load_stage.specs.Posts.{IsTakerOf, new_passes}
+use Rattle.run_ends.specs.Senders.{new_passes}
+use Rattle.load_stage.specs.Posts.{IsTakerOf}
 use Rattle.load_stage.proofs.Dealt.{map-evens, map-odds}
 use Rattle.load_stage.proofs.Numbered.{to_map, weaker}
 use Rattle.load_stage.proofs.Passes.{are_passes}

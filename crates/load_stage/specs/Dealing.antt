@@ -19,12 +19,6 @@ abbrev pub dealt_to : {X : Type 0} → ℕ → List X → List X
 dealt_to zero xs = evens xs
 dealt_to (suc n) xs = odds xs
 
--- two lists place by place, the first before the second
-abbrev pub woven : {X : Type 0} → List X → List X → List X
-woven [] ys = ys
-woven (x ∷ xs) [] = x ∷ xs
-woven (x ∷ xs) (y ∷ ys) = x ∷ y ∷ woven xs ys
-
 -- so many items, of which each is as it has to be for its number; the first has the number `first`
 abbrev pub AreFrom : {X : Type 0} → (ℕ → X → Type 0) → ℕ → ℕ → List X → Type 0
 AreFrom Is first count items = AllZip Is (range_with_len first count) items

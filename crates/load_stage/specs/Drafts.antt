@@ -25,7 +25,8 @@ use Rattle.load_stage.specs.Dealing.{AreFrom, IsAt}
 use Rattle.load_stage.specs.Doors.{HasDoors}
 use Rattle.load_stage.specs.Hubs.{guild_ids, new_reader, IsNewWriter, HasHubs}
 use Rattle.load_stage.specs.Parts.{IsActor, IsScript}
-use Rattle.load_stage.specs.Posts.{new_passes, HasPosts}
+use Rattle.run_ends.specs.Senders.{new_passes}
+use Rattle.load_stage.specs.Posts.{HasPosts}
 use Rattle.load_stage.specs.Seats.{HasSeats}
 
 abbrev pub Readers : Type 0

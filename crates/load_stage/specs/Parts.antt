@@ -19,7 +19,8 @@ use Rattle.load_stage.specs.Bots.{load_bots, worker_url}
 use Rattle.load_stage.specs.Dealing.{dealt_to, IsAt}
 use Rattle.load_stage.specs.Doors.{IsDoorOf}
 use Rattle.load_stage.specs.Hubs.{guild_ids, new_reader}
-use Rattle.load_stage.specs.Posts.{IsTakerOf, new_passes}
+use Rattle.run_ends.specs.Senders.{new_passes}
+use Rattle.load_stage.specs.Posts.{IsTakerOf}
 
 module _ {R : Type 0} (posts : List PostId) (flag : TableId) where
   -- the actor with this number has the post at that place, and the writers that are dealt to it

@@ -1,12 +1,9 @@
 -- The posts of a load and the passes of its parts.
-use Rattle.std.specs.Prelude.{◌≡◌, ℕ, List, Some, map, option_map, slice_get, length}
+use Rattle.std.specs.Prelude.{◌≡◌, ℕ, List, Some, option_map, slice_get, length}
 use Rattle.std.specs.Global.{Vec}
-use Rattle.edit_post.specs.Post.{PostId, Sender, Taker, new_sender, new_taker}
+use Rattle.edit_post.specs.Post.{PostId, Sender, Taker, new_taker}
+use Rattle.run_ends.specs.Senders.{new_passes}
 use Rattle.load_stage.specs.Dealing.{AreFrom}
-
--- the pass of a sender at each post, in order
-abbrev pub new_passes : List PostId → ℕ → List Sender
-new_passes posts sender = map (λ post. new_sender post sender) posts
 
 -- the pass of the actor with this number, at its post, which has seven senders
 abbrev pub IsTakerOf : List PostId → ℕ → Taker → Type 0

@@ -10,7 +10,8 @@ use Rattle.guild_posts.specs.Posts.{ArePasses}
 use Rattle.stop_flag.specs.Flags.{SeatState, new_seat, new_keeper}
 use Rattle.load_stage.specs.declared.stage.Stage.{Stage}
 use Rattle.load_stage.specs.Clients.{IsClient}
-use Rattle.load_stage.specs.Dealing.{AreFrom, dealt_to, woven}
+use Rattle.run_ends.specs.Lists.{woven}
+use Rattle.load_stage.specs.Dealing.{AreFrom, dealt_to}
 use Rattle.load_stage.specs.Hubs.{IsNewWriter, IsReaderOf, guild_ids}
 use Rattle.load_stage.specs.Parts.{IsActor, IsScript, IsWorker}
 

@@ -29,8 +29,8 @@ fn many_intents() -> Intents
     Intents::of_bits(515).unwrap()
 }
 
-// What the client with this number asks for.
-fn intents_of(number: u8) -> Intents
+/// What the client with this number asks for.
+pub fn intents_of(number: u8) -> Intents
     ensures { result ≡ intents_of number }
 {
     if number % 2 == 0 {

@@ -15,4 +15,5 @@ mod seats;
 mod stage;
 mod workers;
 
+pub use clients::intents_of;
 pub use stage::{Stage, set_stage};

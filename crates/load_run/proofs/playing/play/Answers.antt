@@ -7,7 +7,7 @@ use Rattle.load_parts.specs.Parts.{LoadGives}
 use Rattle.team_run.specs.Teams.{many_more}
 use Rattle.load_run.specs.Ends.{clock_of_part}
 use Rattle.load_run.specs.Faults.{first_fault}
-use Rattle.load_run.specs.Parts.{all_parts}
+use Rattle.load_parts.specs.ByKind.{parts_of}
 use Rattle.load_run.specs.Sorted.{HasRoom}
 use Rattle.load_run.proofs.Joining.{counts, less_room, none_back, some_there, none_there, has_joined, clocks_back, fault_cause}
 use Rattle.load_run.proofs.Zips.{many_zip}
@@ -24,21 +24,21 @@ pub run_parts-dones-requires-clause-room : goal.run_parts-dones-requires-clause-
 run_parts-dones-requires-clause-room g c =
     let stage = c.requires.stage in
     let k = counts stage.0 stage.1.0 c.args.stage stage.1.1 in
-    let all = c.add_parts.ensures ∙ ap (λ l. l ++ all_parts c.args.stage.actors.items c.args.stage.scripts.items c.args.stage.workers.items c.args.stage.clients.items) c.requires.rooms.parts_none in
+    let all = c.add_parts.ensures ∙ ap (λ l. l ++ parts_of c.args.stage.actors.items c.args.stage.scripts.items c.args.stage.workers.items c.args.stage.clients.items) c.requires.rooms.parts_none in
     let many : length c.add_parts.new.parts.items ≡ 21 = ap length all ∙ k.parts in
     (omega (arith, many, c.add_parts.new.parts.ok.0, c.requires.started.1), omega (arith, many, c.add_parts.new.parts.ok.0, c.requires.rooms.dones_room))
 
 -- the parts that were started and those that came back
-parts_are : (g : _) (c : goal.After-drop-word g) → all_parts c.args.stage.actors.items c.args.stage.scripts.items c.args.stage.workers.items c.args.stage.clients.items ≡ c.run_parts-dones.ensures.front ++ c.run_parts-dones.result.back.items
+parts_are : (g : _) (c : goal.After-drop-word g) → parts_of c.args.stage.actors.items c.args.stage.scripts.items c.args.stage.workers.items c.args.stage.clients.items ≡ c.run_parts-dones.ensures.front ++ c.run_parts-dones.result.back.items
 parts_are g c =
-    let parts = all_parts c.args.stage.actors.items c.args.stage.scripts.items c.args.stage.workers.items c.args.stage.clients.items in
+    let parts = parts_of c.args.stage.actors.items c.args.stage.scripts.items c.args.stage.workers.items c.args.stage.clients.items in
     sym (c.add_parts.ensures ∙ ap (λ l. l ++ parts) c.requires.rooms.parts_none) ∙ c.run_parts-dones.ensures.parts
 
 pub add_back-requires : goal.add_back-requires
 add_back-requires g c =
     let stage = c.requires.stage in
     let k = counts stage.0 stage.1.0 c.args.stage stage.1.1 in
-    let parts = all_parts c.args.stage.actors.items c.args.stage.scripts.items c.args.stage.workers.items c.args.stage.clients.items in
+    let parts = parts_of c.args.stage.actors.items c.args.stage.scripts.items c.args.stage.workers.items c.args.stage.clients.items in
     let front = c.run_parts-dones.ensures.front in
     let back = c.run_parts-dones.result.back.items in
     let are = sym (c.add_parts.ensures ∙ ap (λ l. l ++ parts) c.requires.rooms.parts_none) ∙ c.run_parts-dones.ensures.parts in
@@ -49,7 +49,7 @@ pub add_all-requires : goal.add_all-requires
 add_all-requires g c =
     let stage = c.requires.stage in
     let k = counts stage.0 stage.1.0 c.args.stage stage.1.1 in
-    let parts = all_parts c.args.stage.actors.items c.args.stage.scripts.items c.args.stage.workers.items c.args.stage.clients.items in
+    let parts = parts_of c.args.stage.actors.items c.args.stage.scripts.items c.args.stage.workers.items c.args.stage.clients.items in
     let front = c.run_parts-dones.ensures.front in
     let back = c.run_parts-dones.result.back.items in
     let dones = c.run_parts-dones.result.dones.items in
@@ -95,7 +95,7 @@ pub returns-clause-whole : goal.returns-clause-whole
 returns-clause-whole g c = λ none.
     let stage = c.requires.stage in
     let k = counts stage.0 stage.1.0 c.args.stage stage.1.1 in
-    let parts = all_parts c.args.stage.actors.items c.args.stage.scripts.items c.args.stage.workers.items c.args.stage.clients.items in
+    let parts = parts_of c.args.stage.actors.items c.args.stage.scripts.items c.args.stage.workers.items c.args.stage.clients.items in
     let empty = all_there g c none in
     let many : length c.add_parts.new.parts.items ≡ 21 = ap length (c.add_parts.ensures ∙ ap (λ l. l ++ parts) c.requires.rooms.parts_none) ∙ k.parts in
     (c.run_parts-dones.ensures.sound empty, c.run_parts-dones.ensures.asked empty ∙ ap (λ n. many_more n (g.S.Spawner.starts c.args.team.now).asked) many)
