@@ -1,0 +1,39 @@
+"""Runs a command once with ample memory, and then again and again, each time with one allocation refused, alone and with all after it.
+
+usage: refused.py LIBRARY STATUSES STEP WORD..
+
+LIBRARY is the allocator; STATUSES are those that may come, with commas; STEP is 1 for each allocation, or more to leave out so many between
+two. Each run has to end with one of the statuses and to print a front of what the first run printed, all of it if its status is 0."""
+import collections
+import os
+import subprocess
+import sys
+import tempfile
+
+library, statuses, step, command = sys.argv[1], {int(it) for it in sys.argv[2].split(",")}, int(sys.argv[3]), sys.argv[4:]
+
+
+def run(at, on, count=None):
+    env = dict(os.environ, LD_PRELOAD=library, REFUSED_AT=str(at))
+    if on:
+        env["REFUSED_ON"] = "1"
+    if count:
+        env["REFUSED_COUNT"] = count
+    ran = subprocess.run(command, env=env, capture_output=True, timeout=120)
+    return ran.returncode, ran.stdout
+
+
+with tempfile.TemporaryDirectory() as folder:
+    status, whole = run(0, False, folder + "/count")
+    many = int(open(folder + "/count").read())
+print(f"{' '.join(command)}: status {status}, {len(whole)} bytes, {many} allocations", flush=True)
+found, bad = collections.Counter(), 0
+for at in range(1, many + 1, step):
+    for on in False, True:
+        status, printed = run(at, on)
+        found[status] += 1
+        if status not in statuses or not whole.startswith(printed) or status == 0 and printed != whole:
+            bad += 1
+            print(f"allocation {at}{' and all after it' if on else ''}: status {status}, {len(printed)} bytes", flush=True)
+print(f"{sum(found.values())} runs, by status {dict(sorted(found.items()))}, {bad} not as they should be")
+sys.exit(bad > 0)
