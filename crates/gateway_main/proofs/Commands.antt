@@ -1,39 +1,38 @@
 -- What is done for each command.
-use Rattle.std.proofs.Common.{◌≡◌, ℕ, List, [], ◌++◌, Result, Ok, Err, inl, inr, refl}
+use Rattle.std.proofs.Common.{ℕ, List, [], ◌++◌, Err, inl, inr, refl, sym, arith, append-nil}
 use Rattle.std.specs.declared.option.Option.{Option}
 use Rattle.std.specs.declared.option.Option.TheVariants.{Some, None}
 use Rattle.std.specs.Io.KnownBytes.{Appends}
 use Rattle.gate_outside.specs.Houses.{HouseTale}
-use Rattle.gate_outside.specs.Streams.{AppendsFront}
 use Rattle.gate_words.specs.Words.{Asked as Command, run, load}
-use Rattle.load_run.specs.Causes.{StartsParts}
 use Rattle.load_run.specs.declared.fault.LoadFault.TheVariants as ends
 use Rattle.scenario.specs.declared.fault.PlayFault.TheVariants as play
 use Rattle.gateway_main.specs.Clocks.{LendsClocks}
-use Rattle.gateway_main.specs.Gate.{Outside, Does, LeavesTeam, Refuses, Plays, RunsLoad}
+use Rattle.gateway_main.specs.Gate.{Outside, Does, LeavesTeam}
 use Rattle.gateway_main.specs.Usage.{usage}
 use Rattle.gateway_main.proofs.Lending.{asks_none, puts_none}
 
 appends_none : (got : Option (List ℕ)) → Appends got got []
 appends_none None = tt
-appends_none (Some xs) = cc
+appends_none (Some xs) = sym (append-nil xs)
+
+-- no clock was asked for
+pub lends_none : (house : HouseTale) → LendsClocks house house
+lends_none house = record {
+  count = 0;
+  most = omega arith;
+  lent = house;
+  asks = asks_none house;
+  tales = [];
+  as_many = refl;
+  puts = puts_none house;
+}
 
 module _ (old : Outside) where
   leaves_team : LeavesTeam old old
   leaves_team = record {
     starts = refl;
     faults = refl;
-  }
-
-  lends_none : LendsClocks old.house old.house
-  lends_none = record {
-    count = 0;
-    most = arith;
-    lent = old.house;
-    asks = asks_none old.house;
-    tales = [];
-    as_many = refl;
-    puts = puts_none old.house;
   }
 
   -- out of memory before the command began
@@ -68,6 +67,6 @@ module _ (old : Outside) where
       late = λ none. refl;
       asked = λ e. absurd (cc);
     };
-    clocks = lends_none;
+    clocks = lends_none old.house;
     fault = inr (refl, refl);
   }

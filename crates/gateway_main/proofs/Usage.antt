@@ -1,5 +1,5 @@
 -- The usage line.
-use Rattle.std.proofs.Common.{◌≡◌, ℕ, List, ◌++◌, Result, Ok, Err, OnOk, OnErr, inl, inr, refl, sym, ◌∙◌, append_assoc}
+use Rattle.std.proofs.Common.{ℕ, List, ◌++◌, Result, Ok, Err, OnOk, OnErr, inl, inr, refl, sym, ◌∙◌, append_assoc}
 use Rattle.std.specs.declared.option.Option.{Option as Known}
 use Rattle.std.specs.Io.KnownBytes.{Appends}
 use Rattle.gate_outside.specs.Causes.{FaultHasCause}

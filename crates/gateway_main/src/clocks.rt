@@ -17,6 +17,7 @@ pub const CLOCKS: usize = 15;
 pub fn lend<H: House>(house: &mut H, clocks: &mut Vec<H::Time>) -> Result<(), AllocError>
     requires { (clocks.old.items ≡ []) × (15 ≤ vec_capacity clocks.old) }
     ensures asks { AsksClocks (length clocks.new.items) (H.house_tale house.old) (H.house_tale house.new) }
+    ensures most { length clocks.new.items ≤ 15 }
     ensures all { OnOk result (length clocks.new.items ≡ 15) }
     ensures dial { H.tale house.new ≡ H.tale house.old }
     ensures dial_faults { H.faults house.new ≡ H.faults house.old }

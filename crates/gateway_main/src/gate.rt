@@ -33,11 +33,7 @@ use world_law::the_law;
 ///
 /// What waited before the sink goes out first. `fault` is then why a play or a load did not come to its
 /// end; `None` if it did, or if memory ran out before it began.
-pub fn gate<
-    R: Wait + time::Clock + Copy + Drop,
-    H: House,
-    S: Spawner<LoadPart<H::Time, R>>,
->(
+pub fn gate<R: Wait + time::Clock + Copy + Drop, H: House, S: Spawner<LoadPart<H::Time, R>>>(
     rt: R,
     alloc: Global,
     words: &[String],

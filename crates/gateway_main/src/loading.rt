@@ -14,11 +14,7 @@ use std::sync::Wait;
 use std::time;
 
 /// Runs the load with that seed, with clocks of the house, which it puts back.
-pub fn run_load<
-    R: Wait + time::Clock + Copy + Drop,
-    H: House,
-    S: Spawner<LoadPart<H::Time, R>>,
->(
+pub fn run_load<R: Wait + time::Clock + Copy + Drop, H: House, S: Spawner<LoadPart<H::Time, R>>>(
     rt: R,
     alloc: Global,
     seed: u64,
