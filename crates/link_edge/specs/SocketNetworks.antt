@@ -1,5 +1,5 @@
 -- The network of WebSocket over TCP.
-use Rattle.std.specs.Prelude.{◌≡◌, ℕ, Result, Ok, Err}
+use Rattle.std.specs.Prelude.{ℕ, Result, Ok, Err}
 use Rattle.std.specs.declared.option.Option.TheVariants.{None}
 use Rattle.gate_outside.specs.declared.faults.Fault.{Fault}
 use Rattle.gate_outside.specs.declared.faults.Fault.TheVariants.{Failed, Memory}
@@ -38,10 +38,10 @@ abbrev pub with_link : SocketNetworkState → SocketLinkState → SocketNetworkS
 with_link n l = record n { dry_run = dry_after_link n.dry_run l.gave_text l.faults }
 
 -- after an ask for a door
-abbrev pub after_ask : {D : Type 0} → SocketNetworkState → Result D Fault → SocketNetworkState
-after_ask n (Ok door) = n
-after_ask n (Err Failed) = record n { door_faults = one_more n.door_faults }
-after_ask n (Err Memory) = n
+abbrev pub after_door : {D : Type 0} → SocketNetworkState → Result D Fault → SocketNetworkState
+after_door n (Ok door) = n
+after_door n (Err Failed) = record n { door_faults = one_more n.door_faults }
+after_door n (Err Memory) = n
 
 -- after a door with so many faults has come back
 abbrev pub with_door : SocketNetworkState → ℕ → SocketNetworkState

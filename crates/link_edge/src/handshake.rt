@@ -9,9 +9,7 @@ use std::net::TcpStream;
 use std::random::RandomSource;
 use tungstenite::handshake::{HandshakeError, MidHandshake, client, server};
 use tungstenite::protocol::RandomKeys;
-use tungstenite::{
-    ClientHandshake, Error, NoCallback, NoMask, Role, ServerHandshake, WebSocket,
-};
+use tungstenite::{ClientHandshake, Error, NoCallback, NoMask, Role, ServerHandshake, WebSocket};
 
 /// A WebSocket over TCP, of either end.
 pub type Socket<R> = WebSocket<TcpStream, EndKeys<R>>;
@@ -19,15 +17,20 @@ pub type Socket<R> = WebSocket<TcpStream, EndKeys<R>>;
 /// A handshake that is not complete.
 #[derive(Drop)]
 pub enum Handshake<R: RandomSource + Drop> {
+    /// A server's, which waits for the client's request.
     Server(MidHandshake<ServerHandshake<TcpStream, NoCallback>>),
+    /// A client's, which waits for the server's answer.
     Client(MidHandshake<ClientHandshake<TcpStream, EndKeys<R>>>),
 }
 
 /// What a round of a handshake gives.
 #[derive(Drop)]
 pub enum Round<R: RandomSource + Drop> {
+    /// The socket that the handshake was for.
     Complete(Socket<R>),
+    /// The peer has not done its part.
     Waits(Handshake<R>),
+    /// It is no handshake, or the stream failed.
     Failed,
 }
 

@@ -32,11 +32,11 @@ fn config_for(message_bytes: usize, read_bytes: usize) -> WebSocketConfig {
 }
 
 /// The configuration of a server's socket.
-pub fn server_config() -> WebSocketConfig {
+pub(crate) fn server_config() -> WebSocketConfig {
     config_for(MOST_FRAME_BYTES, SERVER_READ_BYTES)
 }
 
 /// The configuration of a client's socket.
-pub fn client_config() -> WebSocketConfig {
+pub(crate) fn client_config() -> WebSocketConfig {
     config_for(MOST_TEXT_BYTES, CLIENT_READ_BYTES)
 }

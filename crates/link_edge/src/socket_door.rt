@@ -1,5 +1,5 @@
 //! Doors of WebSocket over TCP.
-ghost use Rattle.std.specs.Prelude.{◌≡◌, IfOk};
+ghost use Rattle.std.specs.Prelude.{◌≡◌};
 ghost use Rattle.gate_outside.specs.Causes.{FaultHasCause};
 ghost use Rattle.gate_outside.specs.Doors.{Accepts, GivesNew, TakesBack};
 ghost use Rattle.gate_outside.specs.Links.{returned_link};

@@ -99,7 +99,8 @@ impl<R: MachineTime + RandomSource + Copy + Drop> Link for SocketLink<R> {
                 self.gave_text = true;
                 Ok(Incoming::Text(text))
             }
-            Ok(answer) => Ok(answer),
+            Ok(Incoming::Closed(code)) => Ok(Incoming::Closed(code)),
+            Ok(Incoming::NotYet) => Ok(Incoming::NotYet),
             Err(Fault::Failed) => Err(self.fail()),
             Err(Fault::Memory) => Err(Fault::Memory),
         }

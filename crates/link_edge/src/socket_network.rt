@@ -7,7 +7,7 @@ ghost use Rattle.gate_outside.specs.Houses.{AsksDoor, PutsDoor, returned_door};
 ghost use Rattle.gate_outside.specs.Links.{IsNewLink};
 ghost use Rattle.link_edge.specs.SocketDoors.{new_socket_door, door_tale};
 ghost use Rattle.link_edge.specs.SocketLinks.{new_socket_link, tale_of};
-ghost use Rattle.link_edge.specs.SocketNetworks.{new_socket_network, dial_tale, doors_of, after_dial, with_link, after_ask, with_door};
+ghost use Rattle.link_edge.specs.SocketNetworks.{new_socket_network, dial_tale, doors_of, after_dial, with_link, after_door, with_door};
 
 use crate::connection::Connection;
 use crate::socket_door::SocketDoor;
@@ -38,8 +38,9 @@ pub struct SocketNetwork<
     door_faults: u64,
 }
 
-impl<R: Net<Listener = TcpListener, Stream = TcpStream> + MachineTime + RandomSource + Copy + Drop>
-    Model for SocketNetwork<R> {
+impl<
+    R: Net<Listener = TcpListener, Stream = TcpStream> + MachineTime + RandomSource + Copy + Drop,
+> Model for SocketNetwork<R> {
     ghost use Rattle.link_edge.specs.SocketNetworks.{SocketNetworkState};
 
     ghost Value = { SocketNetworkState };
@@ -64,11 +65,7 @@ fn listener_at<R: Net<Listener = TcpListener, Stream = TcpStream>>(
 // A connection to that URL.
 fn connection_to<
     R: Net<Listener = TcpListener, Stream = TcpStream> + MachineTime + RandomSource + Copy + Drop,
->(
-    alloc: Global,
-    runtime: R,
-    url: &str,
-) -> Result<Connection<R>, Error> {
+>(alloc: Global, runtime: R, url: &str) -> Result<Connection<R>, Error> {
     let request = request_of(alloc, url)?;
     let stream = connect(&runtime, request.uri())?;
     Connection::of_client(alloc, runtime, request, stream)
@@ -83,8 +80,9 @@ fn fault_of(error: &Error) -> Fault {
     }
 }
 
-impl<R: Net<Listener = TcpListener, Stream = TcpStream> + MachineTime + RandomSource + Copy + Drop>
-    SocketNetwork<R> {
+impl<
+    R: Net<Listener = TcpListener, Stream = TcpStream> + MachineTime + RandomSource + Copy + Drop,
+> SocketNetwork<R> {
     /// A network over that runtime, before its first call.
     pub fn new(alloc: Global, runtime: R) -> SocketNetwork<R>
         ensures { result ≡ new_socket_network }
@@ -99,8 +97,9 @@ impl<R: Net<Listener = TcpListener, Stream = TcpStream> + MachineTime + RandomSo
     }
 }
 
-impl<R: Net<Listener = TcpListener, Stream = TcpStream> + MachineTime + RandomSource + Copy + Drop>
-    Dial for SocketNetwork<R> {
+impl<
+    R: Net<Listener = TcpListener, Stream = TcpStream> + MachineTime + RandomSource + Copy + Drop,
+> Dial for SocketNetwork<R> {
     type Wire = SocketLink<R>;
 
     ghost tale = { dial_tale };
@@ -147,8 +146,9 @@ impl<R: Net<Listener = TcpListener, Stream = TcpStream> + MachineTime + RandomSo
     }
 }
 
-impl<R: Net<Listener = TcpListener, Stream = TcpStream> + MachineTime + RandomSource + Copy + Drop>
-    Network for SocketNetwork<R> {
+impl<
+    R: Net<Listener = TcpListener, Stream = TcpStream> + MachineTime + RandomSource + Copy + Drop,
+> Network for SocketNetwork<R> {
     type Gate = SocketDoor<R>;
 
     fn door(&mut self, port: u16, accepts: u32) -> Result<SocketDoor<R>, Fault>
@@ -156,7 +156,7 @@ impl<R: Net<Listener = TcpListener, Stream = TcpStream> + MachineTime + RandomSo
         ensures house { AsksDoor (doors_of self.old) (doors_of self.new) port accepts result }
         ensures dial { dial_tale self.new ≡ dial_tale self.old }
         ensures dial_faults { self.new.dial_faults ≡ self.old.dial_faults }
-        ensures exact { self.new ≡ after_ask self.old result }
+        ensures exact { self.new ≡ after_door self.old result }
         ensures new_door { IfOk result (λ d. d ≡ new_socket_door accepts) }
     {
         let kind = match listener_at(&self.runtime, port) {

@@ -1,12 +1,11 @@
 //! TCP streams that do not wait.
 
+use crate::sizes::CONNECT_MS;
 use http::Uri;
 use std::io;
 use std::io::{ErrorKind, Read};
 use std::net::{Net, TcpListener, TcpStream, ToSocketAddrs};
 use std::time::Duration;
-
-use crate::sizes::CONNECT_MS;
 
 // The port of a URL that names none.
 const DEFAULT_PORT: u16 = 80;

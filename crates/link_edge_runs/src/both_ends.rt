@@ -48,7 +48,7 @@ fn show_close(
     let sent = done(closing.send("more"));
     let answer = heard(rt.alloc(), next(rt, other))?;
     println!(rt; "{name} closes: {closed}, then hears: {own}, sends: {sent}; the other: {answer}")?;
-    let later = heard(rt.alloc(), next(rt, other))?;
+    let later = heard(rt.alloc(), other.recv())?;
     println!(rt; "the other, asked again: {later}")?;
     Ok(())
 }

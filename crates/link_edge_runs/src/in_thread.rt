@@ -11,6 +11,7 @@ use link_edge::socket_door::SocketDoor;
 use link_edge::socket_link::SocketLink;
 use link_edge::socket_network::SocketNetwork;
 use std::thread;
+use std::thread::Threads;
 
 // Gives the first text of a link back and closes it. Says whether all went well.
 fn echo_once(rt: &HostRuntime, link: &mut SocketLink<HostRuntime>) -> bool {
@@ -42,21 +43,22 @@ fn show_client(rt: &HostRuntime, client: &mut SocketLink<HostRuntime>) -> anyhow
 }
 
 /// Shows one.
-pub fn show(
+pub fn show<T: Threads>(
     rt: &HostRuntime,
+    threads: &T,
     network: &mut SocketNetwork<HostRuntime>,
     door: SocketDoor<HostRuntime>,
 ) -> anyhow::Result<()> {
     let runtime = *rt;
     let port = door.port().unwrap_or(0);
-    let child = thread::spawn(rt, move || serve(&runtime, door))?;
+    let child = thread::spawn(threads, move || serve(&runtime, door))?;
     let client = dial(rt, network, port)?;
     if let Some(mut client) = client {
         let shown = show_client(rt, &mut client);
         network.back(client);
         shown?;
     }
-    let served = child.join(rt);
+    let served = child.join(threads);
     println!(rt; "served: {served}")?;
     Ok(())
 }

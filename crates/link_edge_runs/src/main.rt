@@ -3,8 +3,8 @@
 
 mod asking;
 mod both_ends;
-mod bytes;
 mod in_thread;
+mod raw_client;
 mod refusals;
 mod slow_peer;
 mod words;
@@ -24,7 +24,7 @@ fn show(
 ) -> anyhow::Result<()> {
     let port = door.port().unwrap_or(0);
     both_ends::show(rt, network, door, port)?;
-    bytes::show(rt, door, port)?;
+    raw_client::show(rt, door, port)?;
     refusals::show(rt, network, door, port)?;
     slow_peer::show(rt, network, door, port)?;
     Ok(())
@@ -38,7 +38,7 @@ fn main(rt: HostRuntime) -> anyhow::Result<()> {
         shown?;
     }
     if let Ok(door) = network.door(0, 1) {
-        in_thread::show(&rt, &mut network, door)?;
+        in_thread::show(&rt, &rt, &mut network, door)?;
     }
     Ok(())
 }

@@ -2,7 +2,7 @@
 
 use crate::asking::{next, next_beside, next_link};
 use crate::both_ends::dial;
-use crate::bytes::stream_with;
+use crate::raw_client::stream_with;
 use crate::words::{done, heard};
 use gate_outside::dials::Dial;
 use gate_outside::doors::Door;

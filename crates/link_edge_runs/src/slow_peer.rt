@@ -50,7 +50,9 @@ fn show_full(
     if let Ok(count) = taken {
         let enough = count as usize * TEXT_BYTES >= MOST_WAITING_BYTES;
         let few = count < MOST_TEXTS;
-        println!(rt; "a peer that does not read: all that may wait was taken {enough}, then failed {few}")?;
+        println!(rt;
+            "a peer that does not read: all that may wait was taken {enough}, then failed {few}"
+        )?;
     }
     let later = heard(rt.alloc(), server.recv())?;
     let faults = server.faults();

@@ -12,7 +12,8 @@ use std::net::{Ipv4Addr, TcpStream};
 use std::time::Duration;
 
 // A request that a server takes, and one that it does not.
-const REQUEST: &str = "GET / HTTP/1.1\r\nHost: localhost\r\nConnection: Upgrade\r\nUpgrade: websocket\r\nSec-WebSocket-Version: 13\r\nSec-WebSocket-Key: dGhlIHNhbXBsZSBub25jZQ==\r\n\r\n";
+const REQUEST: &str =
+    "GET / HTTP/1.1\r\nHost: localhost\r\nConnection: Upgrade\r\nUpgrade: websocket\r\nSec-WebSocket-Version: 13\r\nSec-WebSocket-Key: dGhlIHNhbXBsZSBub25jZQ==\r\n\r\n";
 
 const BAD_REQUEST: &str = "GET / HTTP/1.1\r\nHost: localhost\r\n\r\n";
 
@@ -133,11 +134,7 @@ fn show_bad_handshake(
 }
 
 /// Shows such clients.
-pub fn show(
-    rt: &HostRuntime,
-    door: &mut SocketDoor<HostRuntime>,
-    port: u16,
-) -> anyhow::Result<()> {
+pub fn show(rt: &HostRuntime, door: &mut SocketDoor<HostRuntime>, port: u16) -> anyhow::Result<()> {
     show_bytes(rt, door, port)?;
     show_bad_handshake(rt, door, port)?;
     Ok(())
