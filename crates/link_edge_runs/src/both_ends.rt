@@ -11,13 +11,16 @@ use link_edge::socket_network::SocketNetwork;
 use std::alloc::AllocError;
 
 /// A link to that port.
-pub fn dial(
+pub fn dial<D: Dial>(
     rt: &HostRuntime,
-    network: &mut SocketNetwork<HostRuntime>,
+    network: &mut D,
     port: u16,
-) -> Result<Option<SocketLink<HostRuntime>>, AllocError> {
+) -> Result<Option<D::Wire>, AllocError> {
     let url = format!(in rt.alloc(); "ws://127.0.0.1:{port}/?v=10&encoding=json")?;
-    Ok(network.dial(url.as_str()).ok())
+    match network.dial(url.as_str()) {
+        Ok(link) => Ok(Some(link)),
+        Err(_) => Ok(None),
+    }
 }
 
 // A text each way, the first before the handshake.

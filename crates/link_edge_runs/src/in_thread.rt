@@ -1,4 +1,4 @@
-//! A door in a thread of its own.
+//! A house over the network, with its door in a thread of its own.
 
 use crate::asking::{next, next_link};
 use crate::both_ends::dial;
@@ -7,6 +7,7 @@ use gate_outside::dials::Dial;
 use gate_outside::doors::Door;
 use gate_outside::incoming::Incoming;
 use gate_outside::links::Link;
+use gate_outside::std_house::RealHouse;
 use link_edge::socket_door::SocketDoor;
 use link_edge::socket_link::SocketLink;
 use link_edge::socket_network::SocketNetwork;
@@ -46,16 +47,16 @@ fn show_client(rt: &HostRuntime, client: &mut SocketLink<HostRuntime>) -> anyhow
 pub fn show<T: Threads>(
     rt: &HostRuntime,
     threads: &T,
-    network: &mut SocketNetwork<HostRuntime>,
+    house: &mut RealHouse<HostRuntime, SocketNetwork<HostRuntime>>,
     door: SocketDoor<HostRuntime>,
 ) -> anyhow::Result<()> {
     let runtime = *rt;
     let port = door.port().unwrap_or(0);
     let child = thread::spawn(threads, move || serve(&runtime, door))?;
-    let client = dial(rt, network, port)?;
+    let client = dial(rt, house, port)?;
     if let Some(mut client) = client {
         let shown = show_client(rt, &mut client);
-        network.back(client);
+        house.back(client);
         shown?;
     }
     let served = child.join(threads);

@@ -9,7 +9,9 @@ mod refusals;
 mod slow_peer;
 mod words;
 
+use gate_outside::houses::House;
 use gate_outside::networks::Network;
+use gate_outside::std_house::RealHouse;
 use link_edge::socket_door::SocketDoor;
 use link_edge::socket_network::SocketNetwork;
 
@@ -37,8 +39,9 @@ fn main(rt: HostRuntime) -> anyhow::Result<()> {
         network.put_back(door);
         shown?;
     }
-    if let Ok(door) = network.door(0, 1) {
-        in_thread::show(&rt, &rt, &mut network, door)?;
+    let mut house = RealHouse::new(rt, network);
+    if let Ok(door) = house.door(0, 1) {
+        in_thread::show(&rt, &rt, &mut house, door)?;
     }
     Ok(())
 }
