@@ -1,0 +1,3 @@
+pub mod SocketLinks
+pub mod SocketDoors
+pub mod SocketNetworks
