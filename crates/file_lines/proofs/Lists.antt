@@ -71,7 +71,7 @@ lines-more bytes rest =
     ∙ (ap (λ t. (whole_lines bytes ++ whole_from (tail bytes) rest) ++ last_line t) (tail-more bytes [] rest)
     ∙ append_assoc (whole_lines bytes) (whole_from (tail bytes) rest) (last_line (tail_from (tail bytes) rest)))
 
-last_some : (part : List ℕ) → 0 < length part → last_line part ≡ part ∷ []
+pub last_some : (part : List ℕ) → 0 < length part → last_line part ≡ part ∷ []
 last_some [] h = absurd (omega arith)
 last_some (b ∷ part) h = refl
 

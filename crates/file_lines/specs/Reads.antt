@@ -2,6 +2,7 @@
 use Rattle.std.specs.Prelude.{◌≡◌, ℕ, ◌<◌, ◌≤◌, List, [], ◌∷◌, ◌++◌, length, ◌⊎◌, Bool, true, false, Result, Ok, Err}
 use Rattle.std.specs.declared.option.Option.{Option}
 use Rattle.std.specs.Io.KnownBytes.{Keeps, Consumes, IsAtEnd}
+use Rattle.gate_outside.specs.declared.piece.TheConstants.{PIECE_BYTES}
 use Rattle.gate_outside.specs.declared.faults.Failed.{Failed as HasFailed}
 use Rattle.gate_outside.specs.declared.faults.Fault.{Fault}
 use Rattle.gate_outside.specs.declared.faults.Fault.TheVariants.{Failed, Memory}
@@ -24,6 +25,11 @@ LineIsRead most left bytes held (Ok false) = IsPiece held.line × (bytes ≡ hel
 LineIsRead most left bytes held (Err Failed) = IsPiece held.line × (bytes ≡ held.line) × (held.ahead ≡ [])
 LineIsRead most left bytes held (Err Memory) = Unit {0}
 
+-- No byte is read that may wait: without the bytes of one read, the last, those that were read and those that were ahead
+-- before have no line feed.
+abbrev pub ReadsNoFurther : (before more : List ℕ) → Type 0
+ReadsNoFurther before more = (more ≡ []) ⊎ ((wanted : List ℕ) × (last : List ℕ) × (more ≡ wanted ++ last) × (length last ≤ PIECE_BYTES) × IsPiece (before ++ wanted))
+
 -- ---- within one read of a line
 
 -- bytes that are ahead go to the line, up to a line feed or until it is too long, or all of them
@@ -33,6 +39,6 @@ LineGrows most old new false = IsPiece old.ahead × (new.line ≡ old.line ++ ol
 
 -- bytes are read only where none is ahead, and none is ahead afterwards only at the end of the source or after a fault
 abbrev pub Fills : (left0 left1 : Option (List ℕ)) → (old new : List ℕ) → Result Bool HasFailed → Type 0
-Fills left0 left1 old new (Ok true) = (more : List ℕ) × Consumes left0 left1 more × (new ≡ old ++ more) × (0 < length new)
+Fills left0 left1 old new (Ok true) = (more : List ℕ) × Consumes left0 left1 more × (new ≡ old ++ more) × (0 < length new) × ((more ≡ []) ⊎ ((old ≡ []) × (length more ≤ PIECE_BYTES)))
 Fills left0 left1 old new (Ok false) = (old ≡ []) × (new ≡ []) × Consumes left0 left1 [] × IsAtEnd left1
 Fills left0 left1 old new (Err failed) = (old ≡ []) × (new ≡ []) × Keeps left0 left1

@@ -2,6 +2,7 @@
 ghost use Rattle.std.specs.Prelude.{◌≡◌, ◌≤◌, ◌-◌, [], drop, length, IfOk, OnOk, OnErr};
 ghost use Rattle.std.specs.Io.KnownBytes.{Keeps, Consumes, IsAtEnd};
 ghost use Rattle.gate_outside.specs.Causes.{HasCause};
+ghost use Rattle.gate_outside.specs.declared.piece.TheConstants.{PIECE_BYTES};
 
 use gate_outside::faults::Failed;
 use gate_outside::piece::Piece;
@@ -56,6 +57,7 @@ impl Ahead {
     pub fn fill<S: Source>(&mut self, source: &mut S) -> Result<(), Failed>
         ensures bytes { OnOk result (Consumes (S.left source.old) (S.left source.new) self.new) }
         ensures end { OnOk result (self.new ≡ [] → IsAtEnd (S.left source.new)) }
+        ensures room { length self.new ≤ PIECE_BYTES }
         ensures err { OnErr result (self.new ≡ []) }
         ensures keeps { OnErr result (Keeps (S.left source.old) (S.left source.new)) }
         ensures cause { HasCause (S.faults source.old) (S.faults source.new) result }

@@ -3,7 +3,7 @@ ghost use Rattle.std.specs.Prelude.{◌≡◌, ◌≤◌, ◌++◌, ◌∷◌, [
 ghost use Rattle.std.specs.Io.KnownBytes.{Keeps, Consumes, IsAtEnd};
 ghost use Rattle.gate_outside.specs.Causes.{HasCause, FaultHasCause};
 ghost use Rattle.file_lines.specs.Lines.{IsPiece};
-ghost use Rattle.file_lines.specs.Reads.{LineIsRead, LineGrows, Fills};
+ghost use Rattle.file_lines.specs.Reads.{LineIsRead, ReadsNoFurther, LineGrows, Fills};
 
 use crate::ahead::Ahead;
 use gate_outside::faults::{Failed, Fault};
@@ -101,7 +101,7 @@ impl LineReader {
     /// # Errors
     /// `Failed` exactly if the source failed, and `Memory`.
     pub fn read<S: Source>(&mut self, source: &mut S, most: usize) -> Result<bool, Fault>
-        ensures read { (more : List ℕ) × Consumes (S.left source.old) (S.left source.new) more × LineIsRead most (S.left source.new) (self.old.ahead ++ more) self.new result }
+        ensures read { (more : List ℕ) × Consumes (S.left source.old) (S.left source.new) more × ReadsNoFurther self.old.ahead more × LineIsRead most (S.left source.new) (self.old.ahead ++ more) self.new result }
         ensures cause { FaultHasCause (S.faults source.old) (S.faults source.new) result }
     {
         self.begin();
