@@ -4,7 +4,7 @@ use Rattle.edit_fields.specs.declared.fault.LineFault.{LineFault}
 use Rattle.edit_text.specs.declared.line.Line.{Line}
 use Rattle.edit_text.specs.declared.reader_state.ReaderState.{ReaderState}
 use Rattle.edit_text.specs.Lines.{line_of, reader_after}
-use Rattle.file_script.specs.Accepted.{first_reader, reader_from, accepted_with, accepted_from, refused_with, refused_from, reader_of, accepted, refused, IsWhole, StopsAfter, BeginsWith}
+use Rattle.file_script.specs.Accepted.{first_reader, reader_from, accepted_with, accepted_from, refused_with, refused_from, reader_of, IsWhole, StopsAfter, BeginsWith}
 
 pub reader-more : (xs : List (List ℕ)) (r : ReaderState) (ys : List (List ℕ)) → reader_from r (xs ++ ys) ≡ reader_from (reader_from r xs) ys
 reader-more [] r ys = refl

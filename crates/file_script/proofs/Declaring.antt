@@ -3,13 +3,14 @@ use Rattle.std.proofs.Common.{◌≡◌, ℕ, List, [], ◌∷◌, ◌++◌, Boo
 use Rattle.std.specs.Prelude.{flat_map}
 use Rattle.std.specs.List.{list_all}
 use Rattle.std.specs.declared.option.Option.{Option as Known}
-use Rattle.std.specs.declared.option.Option.TheVariants as known
-use Rattle.std.specs.Io.KnownBytes.{IsAtEnd}
 use Rattle.std.proofs.lemmas.List.Concat.{flat_map-append}
 use Rattle.file_lines.specs.Lines.{whole_lines, lines_of}
 use Rattle.edit_text.specs.declared.line.Line.{Line}
 use Rattle.edit_text.specs.declared.line.Line.TheVariants.{Bot, Guild, Edit, Look, Open, Frame, Lost, Closed, Tick}
-use Rattle.session_core.specs.declared.bot.Bot.{Bot as ABot}
+use Rattle.edit_apply.specs.declared.Edit.{Edit as AnEdit}
+use Rattle.edit_post.specs.Post.{Sender}
+use Rattle.guild_posts.specs.Posts.{AreSent}
+use Rattle.guild_posts.proofs.Sent.{sent_none}
 use Rattle.script_run.specs.Scripts.{edit_in, edits_in}
 use Rattle.file_script.specs.declared.fault.ScriptFault.{ScriptFault}
 use Rattle.file_script.specs.declared.fault.ScriptFault.TheVariants as script
@@ -18,8 +19,8 @@ use Rattle.file_script.specs.declared.script.FileScript.{FileScript}
 use Rattle.file_script.specs.declared.script_lines.ScriptLines.{ScriptLines}
 use Rattle.file_script.specs.Accepted.{accepted}
 use Rattle.file_script.specs.Heads.{is_head_line, head_of, AreHeads, bot_in, guild_in, Declares}
-use Rattle.file_script.specs.Reads.{HasGiven, Gives}
-use Rattle.file_script.specs.Sends.{HeadIsRead, DeclaresFirst, DeclaresLine, AddsHeads, EndsHeads, ReadsHeads}
+use Rattle.file_script.specs.Reads.{Gives}
+use Rattle.file_script.specs.Sends.{HeadIsRead, DeclaresFirst, DeclaresLine, AddsHeads, ReadsHeads}
 use Rattle.file_script.proofs.Reading.{front, end_rest}
 
 both_true : (a b : Bool) → (a && b) ≡ true → (a ≡ true) × (b ≡ true)
@@ -58,7 +59,7 @@ no_edit (Closed conn code) is = refl
 no_edit (Tick worker now) is = refl
 
 -- head lines have no edits
-pub no_edits : (heads : List Line) → AreHeads heads → edits_in heads ≡ []
+no_edits : (heads : List Line) → AreHeads heads → edits_in heads ≡ []
 no_edits [] are = refl
 no_edits (x ∷ xs) are =
     let both = both_true (is_head_line x) (list_all is_head_line xs) are in
@@ -123,3 +124,7 @@ module _ (left : Known (List ℕ)) (s : FileScript) (bytes : List ℕ) (old new 
           declares_by reads.0 (accepted (lines_of (bytes ++ rest))) reads.1 (ap head_of (reads.2 rest is).0 ∙ head_whole reads.0 reads.1.are)
       declared (Err script.Spent) some reads = absurd reads
       declared (Err script.Memory) some reads = absurd (some refl)
+
+-- after the head lines nothing is sent
+pub none_sent : (guilds : List ℕ) (heads : List Line) → AreHeads heads → (passes : List Sender) → AreSent guilds (edits_in heads) passes passes
+none_sent guilds heads are passes = subst (λ (es : List (ℕ × AnEdit)). AreSent guilds es passes passes) (sym (no_edits heads are)) (sent_none guilds passes)

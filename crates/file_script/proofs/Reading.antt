@@ -1,5 +1,5 @@
 -- A file, line by line.
-use Rattle.std.proofs.Common.{◌≡◌, ◌⊎◌, ℕ, ◌<◌, List, [], ◌∷◌, ◌++◌, Bool, true, false, Option, Some, None, Result, Ok, Err, length, inl, inr, refl, sym, ap, ◌∙◌, subst, append_assoc, append-nil, true≢false, ◌||◌, not, arith}
+use Rattle.std.proofs.Common.{◌≡◌, ℕ, ◌<◌, List, [], ◌∷◌, ◌++◌, Bool, true, false, Option, Some, None, Ok, Err, length, inl, inr, refl, sym, ap, ◌∙◌, subst, append_assoc, append-nil, true≢false, ◌||◌, not, arith}
 use Rattle.std.specs.declared.option.Option.{Option as Known}
 use Rattle.std.specs.declared.option.Option.TheVariants as known
 use Rattle.std.specs.Io.KnownBytes.{Consumes, IsAtEnd}
@@ -7,9 +7,8 @@ use Rattle.std.proofs.KnownBytes.{Consumes-trans}
 use Rattle.gate_outside.specs.declared.faults.Fault.{Fault}
 use Rattle.gate_outside.specs.declared.faults.Fault.TheVariants as outside
 use Rattle.file_lines.specs.Lines.{whole_lines, tail, last_line, lines_of, IsPiece}
-use Rattle.file_lines.specs.Reads.{HeldBytes, BeginsWithLine, LineIsRead}
+use Rattle.file_lines.specs.Reads.{BeginsWithLine, LineIsRead}
 use Rattle.file_lines.proofs.Lists.{whole_line, tail_line, whole_part, tail_part, lines_from, lines-more, Begins, begun, last_some}
-use Rattle.edit_fields.specs.declared.fault.LineFault.{LineFault}
 use Rattle.edit_text.specs.declared.line.Line.{Line}
 use Rattle.edit_text.specs.declared.reader_state.ReaderState.{ReaderState}
 use Rattle.edit_text.specs.Lines.{line_of, after_line, reader_after}
@@ -49,7 +48,7 @@ lone_line : (line : List ℕ) → IsPiece line → 0 < length line → lines_of 
 lone_line line piece some =
     ap (λ ls. ls ++ last_line (tail line)) (whole_part [] line piece) ∙ (ap last_line (tail_part [] line piece) ∙ last_some line some)
 
-end_rest : (left : Known (List ℕ)) (rest : List ℕ) → IsAtEnd left → left ≡ known.Some rest → rest ≡ []
+pub end_rest : (left : Known (List ℕ)) (rest : List ℕ) → IsAtEnd left → left ≡ known.Some rest → rest ≡ []
 end_rest known.None rest at is = absurd (cc)
 end_rest (known.Some xs) rest at is = cc
 

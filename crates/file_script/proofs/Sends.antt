@@ -1,5 +1,5 @@
 -- The edits of a file, as they are sent.
-use Rattle.std.proofs.Common.{◌≡◌, ℕ, List, [], ◌∷◌, ◌++◌, Option, Some, None, Result, Ok, Err, refl, sym, ap, ◌∙◌, subst, append_assoc}
+use Rattle.std.proofs.Common.{◌≡◌, ℕ, List, [], ◌∷◌, ◌++◌, Some, None, Ok, Err, sym, ap, ◌∙◌, subst, append_assoc}
 use Rattle.std.specs.declared.option.Option.{Option as Known}
 use Rattle.std.specs.declared.option.Option.TheVariants as known
 use Rattle.std.proofs.lemmas.List.Concat.{flat_map-append}

@@ -1,5 +1,5 @@
 -- How a script's file is read.
-use Rattle.std.specs.Prelude.{◌≡◌, ℕ, ◌+◌, ◌<◌, ◌≤◌, List, [], ◌∷◌, ◌++◌, length, ◌⊎◌, Bool, true, false, Option, Some, None, Result, Ok, Err}
+use Rattle.std.specs.Prelude.{◌≡◌, ℕ, ◌<◌, ◌≤◌, List, [], ◌∷◌, ◌++◌, length, ◌⊎◌, Bool, true, false, Option, Some, None, Result, Ok, Err}
 use Rattle.std.specs.declared.option.Option.{Option as Known}
 use Rattle.std.specs.declared.option.Option.TheVariants as known
 use Rattle.std.specs.Io.KnownBytes.{IsAtEnd}
@@ -13,7 +13,7 @@ use Rattle.file_script.specs.declared.fault.ScriptFault.{ScriptFault}
 use Rattle.file_script.specs.declared.fault.ScriptFault.TheVariants as script
 use Rattle.file_script.specs.declared.script_lines.ScriptLines.{ScriptLines}
 use Rattle.file_script.specs.Faults.{fault_of}
-use Rattle.file_script.specs.Accepted.{reader_of, accepted, refused, IsWhole, StopsAfter, BeginsWith}
+use Rattle.file_script.specs.Accepted.{reader_of, IsWhole, StopsAfter, BeginsWith}
 
 -- a source's count of faults rose exactly if the fault is that a read failed
 abbrev pub ReadCause : {T : Type 0} → (before now : ℕ) → Result T ScriptFault → Type 0

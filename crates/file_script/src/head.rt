@@ -1,7 +1,8 @@
 //! The head of a file: the bots and guilds that it declares before its first step line.
-ghost use Rattle.std.specs.Prelude.{◌≡◌, ℕ, List, [], IfOk, MatchResult};
+ghost use Rattle.std.specs.Prelude.{◌≡◌, ◌↔◌, ℕ, List, [], Err, IsTrue, IfOk, MatchResult};
 ghost use Rattle.std.specs.Io.KnownBytes.{Consumes};
 ghost use Rattle.file_script.specs.Reads.{HasGiven, ReadCause};
+ghost use Rattle.file_script.specs.declared.fault.ScriptFault.TheVariants as script;
 ghost use Rattle.file_script.specs.Sends.{HeadIsRead, DeclaresFirst, DeclaresLine, ReadsHeads};
 
 use crate::fault::ScriptFault;
@@ -78,6 +79,13 @@ fn read_heads<S: Source>(
     Ok(None)
 }
 
+// Whether memory has run out.
+fn has_run_out(first: &Result<Option<Line>, ScriptFault>) -> bool
+    ensures { IsTrue result ↔ (first.now ≡ Err script.Memory) }
+{
+    matches!(first, Err(ScriptFault::Memory))
+}
+
 /// Reads a source up to the first step line of its file, the first line that is refused, a failure or
 /// its end, and no further than the read that brings it. This is what the script handles first.
 ///
@@ -93,14 +101,13 @@ pub fn read_head<S: Source>(alloc: Global, source: &mut S) -> Result<FileHead, A
         bots: Vec::new(alloc),
         guilds: Vec::new(alloc),
     };
-    match read_heads(&mut lines, &mut declared, source) {
-        Err(ScriptFault::Memory) => {
-            drop(declared);
-            Err(AllocError)
-        }
-        first => Ok(FileHead {
-            declared,
-            script: FileScript { lines, first },
-        }),
+    let first = read_heads(&mut lines, &mut declared, source);
+    if has_run_out(&first) {
+        drop(declared);
+        return Err(AllocError);
     }
+    Ok(FileHead {
+        declared,
+        script: FileScript { lines, first },
+    })
 }

@@ -1,4 +1,4 @@
-use Rattle.std.proofs.Common.{◌≡◌, ◌++◌, ℕ, List, [], ◌∷◌, Bool, true, false, Option, Some, None, Ok, Err, sym, ap, ◌∙◌, subst, append-nil, arith}
+use Rattle.std.proofs.Common.{◌++◌, [], ◌∷◌, Bool, Option, None, Ok, Err, sym, ap, ◌∙◌, subst, append-nil, arith}
 use Rattle.std.proofs.lemmas.Result.{err_from_is_err_and}
 use Rattle.edit_text.specs.declared.line.Line.{Line}
 use Rattle.edit_text.specs.declared.reader_state.ReaderState.{ReaderState}
@@ -25,12 +25,11 @@ returns-in_err-line-clause-gives g c bytes given has =
     let line : HasLine (left c.read_line.new.source) c.read_line.new.self ((bytes ++ at.0) ++ comes.0) given =
     subst (λ (b : Bool). LineComes (left c.read_line.new.source) c.read_line.new.self ((bytes ++ at.0) ++ comes.0) given (Ok b)) c.if-branch.true comes.2 in
     let e = err_from_is_err_and c.from_residual-in_err-line.result c.from_residual-in_err-line.ensures.1 in
-    goes_on (left c.args.source.now) (left c.loop-self.source) (left c.read_line.new.source) (λ l. Gives (left c.read_line.new.source) c.parse.new.self l given c.from_residual-in_err-line.result) bytes at.0 at.1
-    (
+    goes_on (left c.args.source.now) (left c.loop-self.source) (left c.read_line.new.source) (λ l. Gives (left c.read_line.new.source) c.parse.new.self l given c.from_residual-in_err-line.result) bytes at.0 at.1 (
       comes.0,
       comes.1,
       subst (λ r. Gives (left c.read_line.new.source) c.parse.new.self ((bytes ++ at.0) ++ comes.0) given r) (sym (e.1 ∙ ap Err e.2))
-      (line_fails (left c.read_line.new.source) c.read_line.new.self ((bytes ++ at.0) ++ comes.0) given line c.parse.new.self c.in_err-line.ensures.lines c.in_err-line.ensures.ended c.in_err-line.field-0.0 c.in_err-line.ensures.said),
+          (line_fails (left c.read_line.new.source) c.read_line.new.self ((bytes ++ at.0) ++ comes.0) given line c.parse.new.self c.in_err-line.ensures.lines c.in_err-line.ensures.ended c.in_err-line.field-0.0 c.in_err-line.ensures.said),
     )
 
 pub returns-in-Some-clause-gives : goal.returns-in-Some-clause-gives
@@ -40,12 +39,11 @@ returns-in-Some-clause-gives g c bytes given has =
     let comes = c.in_ok-read_line.ensures.comes (bytes ++ at.0) given at.2 in
     let line : HasLine (left c.read_line.new.source) c.read_line.new.self ((bytes ++ at.0) ++ comes.0) given =
     subst (λ (b : Bool). LineComes (left c.read_line.new.source) c.read_line.new.self ((bytes ++ at.0) ++ comes.0) given (Ok b)) c.if-branch.true comes.2 in
-    goes_on (left c.args.source.now) (left c.loop-self.source) (left c.read_line.new.source) (λ l. HasGiven (left c.read_line.new.source) c.parse.new.self l (given ++ c.in-Some.line ∷ [])) bytes at.0 at.1
-    (
+    goes_on (left c.args.source.now) (left c.loop-self.source) (left c.read_line.new.source) (λ l. HasGiven (left c.read_line.new.source) c.parse.new.self l (given ++ c.in-Some.line ∷ [])) bytes at.0 at.1 (
       comes.0,
       comes.1,
       subst (λ (o : Option Line). HasGiven (left c.read_line.new.source) c.parse.new.self ((bytes ++ at.0) ++ comes.0) (given ++ said_by o)) c.in-Some.is
-      (line_says (left c.read_line.new.source) c.read_line.new.self ((bytes ++ at.0) ++ comes.0) given line c.parse.new.self c.in_ok-line.ensures.lines c.in_ok-line.ensures.ended c.in_ok-line.field-0 c.in_ok-line.ensures.said),
+          (line_says (left c.read_line.new.source) c.read_line.new.self ((bytes ++ at.0) ++ comes.0) given line c.parse.new.self c.in_ok-line.ensures.lines c.in_ok-line.ensures.ended c.in_ok-line.field-0 c.in_ok-line.ensures.said),
     )
 
 pub returns-in-Some-clause-counts : goal.returns-in-Some-clause-counts

@@ -1,4 +1,4 @@
-use Rattle.std.proofs.Common.{◌≡◌, ◌++◌, refl}
+use Rattle.std.proofs.Common.{refl}
 use Rattle.std.proofs.lemmas.Result.{err_from_is_err_and}
 use Rattle.file_script.proofs.Reading.{fault_comes}
 use Rattle.file_script.proofs.script_lines.ScriptLines.read_line.Goals as goal
