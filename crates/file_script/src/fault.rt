@@ -2,7 +2,7 @@
 use edit_post::SendRefused;
 use edit_text::LineFault;
 use gate_outside::faults::Fault;
-use std::alloc::{AllocError, AllocFailed};
+use std::alloc::AllocFailed;
 use thiserror::Error;
 
 /// Why a script ends before its file.
@@ -47,17 +47,6 @@ impl From<SendRefused> for ScriptFault {
             SendRefused::Spent => ScriptFault::Spent,
             SendRefused::Memory => ScriptFault::Memory,
         }
-    }
-}
-
-impl From<AllocError> for ScriptFault {
-    ghost use Rattle.file_script.specs.declared.fault.ScriptFault.TheVariants as script;
-    ghost use Rattle.std.specs.Prelude.{◌≡◌};
-
-    ghost from_gives = { λ _ e. e ≡ script.Memory };
-
-    fn from(_: AllocError) -> Self {
-        ScriptFault::Memory
     }
 }
 

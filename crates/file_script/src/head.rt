@@ -87,7 +87,7 @@ fn has_run_out(first: &Result<Option<Line>, ScriptFault>) -> bool
 }
 
 /// Reads a source up to the first step line of its file, the first line that is refused, a failure or
-/// its end, and no further than the read that brings it. This is what the script handles first.
+/// its end. This is what the script handles first, and what was read past it is kept.
 ///
 /// # Errors
 /// Out of memory.

@@ -67,8 +67,7 @@ impl ScriptLines {
         }
     }
 
-    /// Reads the next line that is not blank, and no further than the read that ends it. `None` at the
-    /// end of the file.
+    /// Reads the next line that is not blank. `None` at the end of the file.
     ///
     /// # Errors
     /// `Read` exactly if the source failed, `Line` for a line that is refused, and `Memory`. No further
