@@ -1,0 +1,5 @@
+mod Accepting
+mod Counting
+mod Reading
+mod Declaring
+mod Sends
