@@ -1,6 +1,6 @@
 // An allocator that refuses allocations of a program: that with the number REFUSED_AT, from 1, and with REFUSED_ON all
 // after it too. Those that the C library makes for itself while it starts a thread are not counted. At the end it
-// writes how many there were to the file REFUSED_COUNT.
+// writes how many there were to the file REFUSED_COUNT. The start of the thread with the number REFUSED_START fails.
 #define _GNU_SOURCE
 #include <dlfcn.h>
 #include <errno.h>
@@ -15,7 +15,8 @@ extern void *__libc_realloc(void *, size_t);
 extern void *__libc_memalign(size_t, size_t);
 
 static atomic_ulong count;
-static unsigned long at = 0;
+static atomic_ulong starts;
+static unsigned long at = 0, start = 0;
 static int on = 0;
 static __thread int inside = 0;
 
@@ -23,6 +24,8 @@ __attribute__((constructor)) static void begin(void) {
     const char *number = getenv("REFUSED_AT");
     at = number ? strtoul(number, NULL, 10) : 0;
     on = getenv("REFUSED_ON") != NULL;
+    number = getenv("REFUSED_START");
+    start = number ? strtoul(number, NULL, 10) : 0;
     atomic_store(&count, 0);
 }
 
@@ -62,6 +65,7 @@ int posix_memalign(void **to, size_t align, size_t size) {
 
 int pthread_create(pthread_t *to, const pthread_attr_t *attributes, void *(*run)(void *), void *given) {
     static int (*real)(pthread_t *, const pthread_attr_t *, void *(*)(void *), void *);
+    if (atomic_fetch_add(&starts, 1) + 1 == start) return EAGAIN;
     inside++;
     if (!real) real = (int (*)(pthread_t *, const pthread_attr_t *, void *(*)(void *), void *))dlsym(RTLD_NEXT, "pthread_create");
     int answer = real(to, attributes, run, given);
