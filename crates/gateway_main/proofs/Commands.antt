@@ -1,5 +1,5 @@
 -- What is done for each command.
-use Rattle.std.proofs.Common.{ℕ, List, [], ◌++◌, Err, inl, inr, refl, sym, arith, append-nil}
+use Rattle.std.proofs.Common.{◌≡◌, ℕ, List, [], ◌++◌, Result, Ok, Err, OnOk, is_err, false, inl, inr, refl, sym, arith, append-nil}
 use Rattle.std.specs.declared.option.Option.{Option}
 use Rattle.std.specs.declared.option.Option.TheVariants.{Some, None}
 use Rattle.std.specs.Io.KnownBytes.{Appends}
@@ -15,6 +15,11 @@ use Rattle.gateway_main.proofs.Lending.{asks_none, puts_none}
 appends_none : (got : Option (List ℕ)) → Appends got got []
 appends_none None = tt
 appends_none (Some xs) = sym (append-nil xs)
+
+-- what holds after an answer that is no error
+pub ok_holds : {T E : Type 0} (r : Result T E) (P : Type 0) → is_err r ≡ false → OnOk r P → P
+ok_holds (Ok x) P no_error holds = holds
+ok_holds (Err x) P no_error holds = absurd cc
 
 -- no clock was asked for
 pub lends_none : (house : HouseTale) → LendsClocks house house
