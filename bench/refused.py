@@ -1,18 +1,19 @@
-"""Runs a command once with ample memory, and then again and again, each time with one allocation refused, alone and with all after it.
+"""Runs a command once with ample memory, and then again and again, each time with one allocation refused, alone and with all
+after it.
 
-usage: refused.py LIBRARY STATUSES STEP STARTS WORD..
+usage: refused.py LIBRARY STATUSES FIRST STEP STARTS WORD..
 
-LIBRARY is the allocator; STATUSES are those that may come, with commas; STEP is 1 for each allocation, or more to try each of so many alone.
-Each run has to end with one of the statuses and to print a front of what the first run printed, all of it if its status is 0. Then each of
-the first STARTS starts of a thread fails in turn: the status has to be 8 and nothing printed."""
+LIBRARY is the allocator; STATUSES are those that may come, with commas. Of the FIRST allocations each is refused in turn, and of
+the others one of STEP. Each run has to end with one of the statuses and to print a front of what the first run printed, all of
+it if its status is 0. Then each of the first STARTS starts of a thread fails in turn: the status has to be 8 and nothing printed."""
 import collections
 import os
 import subprocess
 import sys
 import tempfile
 
-library, statuses, command = sys.argv[1], {int(it) for it in sys.argv[2].split(",")}, sys.argv[5:]
-step, starts = int(sys.argv[3]), int(sys.argv[4])
+library, statuses, command = sys.argv[1], {int(it) for it in sys.argv[2].split(",")}, sys.argv[6:]
+first, step, starts = (int(it) for it in sys.argv[3:6])
 
 
 def run(at, on, count=None, start=0):
@@ -30,7 +31,7 @@ with tempfile.TemporaryDirectory() as folder:
     many = int(open(folder + "/count").read())
 print(f"{' '.join(command)}: status {status}, {len(whole)} bytes, {many} allocations", flush=True)
 found, bad = collections.Counter(), 0
-for at in range(1, many + 1, step):
+for at in (*range(1, min(first, many) + 1), *range(first + step, many + 1, step)):
     for on in False, True:
         status, printed = run(at, on)
         found[status] += 1

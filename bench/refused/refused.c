@@ -8,6 +8,8 @@
 #include <stdatomic.h>
 #include <stdio.h>
 #include <stdlib.h>
+#include <sys/syscall.h>
+#include <unistd.h>
 
 extern void *__libc_malloc(size_t);
 extern void *__libc_calloc(size_t, size_t);
@@ -38,6 +40,12 @@ __attribute__((destructor)) static void end(void) {
         fprintf(file, "%lu\n", many);
         fclose(file);
     }
+}
+
+// A program that ends at once runs no destructor.
+void _exit(int status) {
+    end();
+    for (;;) syscall(SYS_exit_group, status);
 }
 
 static int is_refused(void) {
