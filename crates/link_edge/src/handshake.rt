@@ -4,7 +4,6 @@ use crate::mask::EndKeys;
 use crate::sizes::{client_config, server_config};
 use http::Request;
 use std::alloc::Global;
-use std::io;
 use std::net::TcpStream;
 use std::random::RandomSource;
 use tungstenite::handshake::{HandshakeError, MidHandshake, client, server};

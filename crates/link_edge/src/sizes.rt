@@ -1,4 +1,5 @@
 //! How much a link takes and keeps, and how long it waits.
+ghost use Rattle.std.specs.Prelude.{◌≡◌, Some};
 
 use tungstenite::WebSocketConfig;
 
@@ -23,7 +24,10 @@ const SERVER_READ_BYTES: usize = 4096;
 const CLIENT_READ_BYTES: usize = 65536;
 
 // The configuration of a socket that takes messages of so many bytes.
-fn config_for(message_bytes: usize, read_bytes: usize) -> WebSocketConfig {
+fn config_for(message_bytes: usize, read_bytes: usize) -> WebSocketConfig
+    ensures message { result.max_message_size ≡ Some message_bytes }
+    ensures frame { result.max_frame_size ≡ Some message_bytes }
+{
     WebSocketConfig::default()
         .read_buffer_size(read_bytes)
         .max_write_buffer_size(MOST_WAITING_BYTES)
@@ -32,11 +36,17 @@ fn config_for(message_bytes: usize, read_bytes: usize) -> WebSocketConfig {
 }
 
 /// The configuration of a server's socket.
-pub(crate) fn server_config() -> WebSocketConfig {
+pub(crate) fn server_config() -> WebSocketConfig
+    ensures message { result.max_message_size ≡ Some 4096 }
+    ensures frame { result.max_frame_size ≡ Some 4096 }
+{
     config_for(MOST_FRAME_BYTES, SERVER_READ_BYTES)
 }
 
 /// The configuration of a client's socket.
-pub(crate) fn client_config() -> WebSocketConfig {
+pub(crate) fn client_config() -> WebSocketConfig
+    ensures message { result.max_message_size ≡ Some 16777216 }
+    ensures frame { result.max_frame_size ≡ Some 16777216 }
+{
     config_for(MOST_TEXT_BYTES, CLIENT_READ_BYTES)
 }
