@@ -84,7 +84,7 @@ fn send_edits<S: Source, R: Wait + Drop>(
 
 /// Sends the edits of a script to the posts of their guilds' actors, in order, each as soon as its line
 /// is read, and then ends the passes. The script goes on from where its head ended. Only the lines of
-/// edits send anything, and nothing is sent for a guild that does not stand in the index.
+/// edits send anything. An edit of a guild that does not stand in the index goes to the first post.
 ///
 /// # Errors
 /// `Read` exactly if the source failed, here or at the head; the edits of the whole lines that were

@@ -73,12 +73,12 @@ impl<D: Drop, C: Drop, J: Drop, R: Drop> Drop for WorkerPart<D, C, J, R> {
     }
 }
 
-impl<D: Drop, C, J: Drop, R: Drop> WorkerPart<D, C, J, R> {
+impl<D, C, J: Drop, R: Drop> WorkerPart<D, C, J, R> {
     ghost use Rattle.std.specs.Prelude.{◌≡◌};
 
-    /// The clock. All else is dropped.
-    pub fn into_clock(self) -> C
-        ensures { result ≡ self.clock }
+    /// The door and the clock. All else is dropped.
+    pub fn into_outside(self) -> (D, C)
+        ensures { (result.0 ≡ self.door) × (result.1 ≡ self.clock) }
     {
         let WorkerPart {
             rt: _,
@@ -94,13 +94,25 @@ impl<D: Drop, C, J: Drop, R: Drop> WorkerPart<D, C, J, R> {
             seat,
         } = self;
         drop(worker);
-        drop(door);
         drop(readers);
         drop(posts);
         drop(passes);
         drop(notes);
         drop(word);
         drop(seat);
+        (door, clock)
+    }
+}
+
+impl<D: Drop, C, J: Drop, R: Drop> WorkerPart<D, C, J, R> {
+    ghost use Rattle.std.specs.Prelude.{◌≡◌};
+
+    /// The clock. All else is dropped.
+    pub fn into_clock(self) -> C
+        ensures { result ≡ self.clock }
+    {
+        let (door, clock) = self.into_outside();
+        drop(door);
         clock
     }
 }

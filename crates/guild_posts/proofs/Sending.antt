@@ -1,14 +1,13 @@
 -- One edit on its way to its post.
-use Rattle.std.proofs.Common.{◌≡◌, ◌≢◌, ℕ, zero, suc, ◌<◌, ◌%◌, ◌==◌, ◌||◌, Bool, true, false, cond, Option, Some, None, Result, Ok, Err, MatchResult, List, [], ◌∷◌, map, length, get_or, set, slice_get, option_map, sym, refl, ap, ◌∙◌, subst, eqb, not-suc-le-zero, ⊎_elim, arith}
-use Rattle.std.specs.List.{position, list_any}
-use Rattle.std.specs.Option.{option_map_or}
+use Rattle.std.proofs.Common.{◌≡◌, ◌≢◌, ℕ, zero, suc, ◌<◌, ◌==◌, ◌||◌, Bool, true, false, cond, Option, Some, None, Result, Ok, Err, MatchResult, List, [], ◌∷◌, map, length, get_or, set, slice_get, option_map, sym, refl, ap, ◌∙◌, subst, eqb, not-suc-le-zero, ⊎_elim, arith}
+use Rattle.std.specs.List.{list_any}
 use Rattle.std.proofs.lemmas.List.{set-get_or}
 use Rattle.std.proofs.lemmas.Option.{slice_get-get_or}
 use Rattle.std.proofs.lemmas.Bool.Decides.{eqb_tells}
 use Rattle.collections.proofs.Edits.{changed_front}
 use Rattle.edit_apply.specs.declared.Edit.{Edit}
 use Rattle.edit_post.specs.Post.{PostId, Sender, after_send}
-use Rattle.guild_posts.specs.Posts.{request_of, sent_all, AreSent, post_of, ArePasses, has_sent_all, IsRefusedBySome}
+use Rattle.guild_posts.specs.Posts.{pass_of_guild, request_of, sent_all, AreSent, post_of, ArePasses, has_sent_all, IsRefusedBySome}
 use Rattle.edit_post.specs.declared.send_refused.SendRefused.{SendRefused}
 use Rattle.edit_post.specs.declared.send_refused.SendRefused.TheVariants.{Spent, Memory}
 
@@ -47,19 +46,12 @@ one_more w xs k y d lt e q = ⊎_elim here there (eqb_tells k q)
         subst (λ b. slice_get (set xs k y) q ≡ option_map (λ s. sent_all s (cond b (w ∷ []) [])) (slice_get xs q)) (sym t.0)
         (set_there xs k q y t.1 ∙ unsent (slice_get xs q))
 
--- an edit of a guild at a place
-one_sent : (guilds : List ℕ) (w : Sending) (place : ℕ) (xs : List Sender) (k : ℕ) (y d : Sender) → position (λ g. w.0 == g) guilds ≡ Some place → k ≡ place % length xs → k < length xs
+-- an edit of a guild that goes by the pass at a place
+one_sent : (guilds : List ℕ) (w : Sending) (xs : List Sender) (k : ℕ) (y d : Sender) → k ≡ pass_of_guild guilds (length xs) w.0 → k < length xs
     → y ≡ after_send (get_or xs k d) (request_of (get_or xs k d) w) → AreSent guilds (w ∷ []) xs (set xs k y)
-one_sent guilds w place xs k y d at is lt e q =
+one_sent guilds w xs k y d is lt e q =
     one_more w xs k y d lt e q
     ∙ ap (λ (n : ℕ). option_map (λ s. sent_all s (cond (n == q) (w ∷ []) [])) (slice_get xs q)) is
-    ∙ ap (λ (o : Option ℕ). option_map (λ s. sent_all s (cond (option_map_or (λ p. p % length xs == q) o false) (w ∷ []) [])) (slice_get xs q)) (sym at)
-
--- an edit of no guild of these
-pub none_sent : (guilds : List ℕ) (w : Sending) (xs : List Sender) → position (λ g. w.0 == g) guilds ≡ None → AreSent guilds (w ∷ []) xs xs
-none_sent guilds w xs at q =
-    unsent (slice_get xs q)
-    ∙ ap (λ (o : Option ℕ). option_map (λ s. sent_all s (cond (option_map_or (λ p. p % length xs == q) o false) (w ∷ []) [])) (slice_get xs q)) (sym at)
 
 or_true : (b : Bool) → (b || true) ≡ true
 or_true true = refl
@@ -75,12 +67,12 @@ refused_at : (xs : List Sender) (k : ℕ) (d : Sender) (refused : SendRefused) �
 refused_at xs k d Spent lt h = any_at xs k d lt (h refl)
 refused_at xs k d Memory lt h = tt
 
--- an edit of a guild at a place, and what comes of it
-pub edit_sent : (guilds : List ℕ) (w : Sending) (place : ℕ) (xs : List Sender) (k : ℕ) (x y : Sender) (r : Result (Unit {0}) SendRefused) → position (λ g. w.0 == g) guilds ≡ Some place
-    → k ≡ place % length xs → k < length xs → x ≡ get_or xs k x → MatchResult r (λ _. y ≡ after_send x (request_of x w)) (λ _. y ≡ x) → (r ≡ Err Spent → has_sent_all x ≡ true)
+-- an edit of a guild that goes by the pass at a place, and what comes of it
+pub edit_sent : (guilds : List ℕ) (w : Sending) (xs : List Sender) (k : ℕ) (x y : Sender) (r : Result (Unit {0}) SendRefused)
+    → k ≡ pass_of_guild guilds (length xs) w.0 → k < length xs → x ≡ get_or xs k x → MatchResult r (λ _. y ≡ after_send x (request_of x w)) (λ _. y ≡ x) → (r ≡ Err Spent → has_sent_all x ≡ true)
     → MatchResult r (λ _. AreSent guilds (w ∷ []) xs (set xs k y)) (λ refused. (set xs k y ≡ xs) × IsRefusedBySome (set xs k y) refused)
-edit_sent guilds w place xs k x y (Ok u) at is lt here h spent = one_sent guilds w place xs k y x at is lt (h ∙ ap (λ s. after_send s (request_of s w)) here)
-edit_sent guilds w place xs k x y (Err refused) at is lt here h spent =
+edit_sent guilds w xs k x y (Ok u) is lt here h spent = one_sent guilds w xs k y x is lt (h ∙ ap (λ s. after_send s (request_of s w)) here)
+edit_sent guilds w xs k x y (Err refused) is lt here h spent =
     let same : set xs k y ≡ xs = ap (set xs k) (h ∙ here) ∙ set-get_or xs k x in
     (same, subst (λ ys. IsRefusedBySome ys refused) (sym same) (refused_at xs k x refused lt (λ e. ap has_sent_all (sym here) ∙ spent (ap (λ f. Err f) e))))
 

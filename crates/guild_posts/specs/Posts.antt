@@ -1,5 +1,5 @@
 -- Edits of guilds, as they go to the posts of the actors.
-use Rattle.std.specs.Prelude.{◌≡◌, ℕ, ◌+◌, ◌%◌, ◌^◌, List, [], ◌∷◌, Bool, true, false, ◌==◌, nat_le, option_map, position, length, filter, map, slice_get, All}
+use Rattle.std.specs.Prelude.{◌≡◌, ℕ, ◌+◌, ◌%◌, ◌^◌, List, [], ◌∷◌, Bool, true, ◌==◌, nat_le, option_map, position, length, filter, map, slice_get, All}
 use Rattle.std.specs.List.{list_any}
 use Rattle.std.specs.Option.{option_map_or}
 use Rattle.edit_apply.specs.declared.Edit.{Edit}
@@ -8,9 +8,12 @@ use Rattle.edit_post.specs.Post.{PostId, Sender, after_send}
 use Rattle.edit_post.specs.declared.send_refused.SendRefused.{SendRefused}
 use Rattle.edit_post.specs.declared.send_refused.SendRefused.TheVariants.{Spent, Memory}
 
--- the guild at place p of the list goes by the pass at place p modulo the number of passes
+-- the guild at place p of the list goes by the pass at place p modulo the number of passes, and any other by the first
+abbrev pub pass_of_guild : List ℕ → ℕ → ℕ → ℕ
+pass_of_guild guilds count guild = option_map_or (λ place. place % count) (position (λ g. guild == g) guilds) 0
+
 abbrev pub goes_by : List ℕ → ℕ → ℕ → ℕ × Edit → Bool
-goes_by guilds count q edit = option_map_or (λ place. place % count == q) (position (λ g. edit.0 == g) guilds) false
+goes_by guilds count q edit = pass_of_guild guilds count edit.0 == q
 
 abbrev pub edits_by : List ℕ → ℕ → ℕ → List (ℕ × Edit) → List (ℕ × Edit)
 edits_by guilds count q edits = filter (goes_by guilds count q) edits

@@ -1,13 +1,13 @@
 //! The posts of the actors of guilds: an edit of a guild goes to the post of its actor.
 //!
 //! Whoever sends has one pass of each post, in order. The guild at place p of a list goes by the pass at
-//! place p modulo the number of posts.
+//! place p modulo the number of posts, and a guild that does not stand in the list by the first.
 #![tactic(auto)]
 
 ghost use Rattle.std.specs.Prelude.{◌≡◌, ◌↔◌, ◌<◌, [], ◌∷◌, Err, true, length, map, MatchResult};
 ghost use Rattle.edit_post.specs.Post.{after_send, after_end};
 ghost use Rattle.edit_post.specs.declared.send_refused.SendRefused.TheVariants.{Spent};
-ghost use Rattle.guild_posts.specs.Posts.{ArePasses, AreSent, IsRefusedBySome, has_sent_all, request_of};
+ghost use Rattle.guild_posts.specs.Posts.{ArePasses, AreSent, IsRefusedBySome, has_sent_all, pass_of_guild, request_of};
 
 use edit_apply::Edit;
 use edit_post::{Post, Request, SendPass, SendRefused};
@@ -43,8 +43,19 @@ fn send_by<R: Wait + Drop>(
     }
 }
 
-/// Sends an edit of a guild to the post of its actor, by the pass that the guild goes by. Nothing is sent
-/// for a guild that does not stand in the list.
+// The place of the pass by which a guild goes, of so many.
+fn pass_of_guild(index: &IndexSet<u64>, guild: Snowflake, count: usize) -> usize
+    requires { 0 < count }
+    ensures place { result ≡ pass_of_guild index.now.keys count guild }
+    ensures inside { result < count }
+{
+    match place_of(index, guild) {
+        Some(place) => place % count,
+        None => 0,
+    }
+}
+
+/// Sends an edit of a guild to the post of its actor, by the pass that the guild goes by.
 ///
 /// # Errors
 /// `Spent` only if a pass has sent 2^57 requests, and `Memory`. Both leave the passes as they were.
@@ -59,11 +70,7 @@ pub fn send<R: Wait + Drop>(
     requires passes { ArePasses posts.now passes.old.items }
     ensures { MatchResult result (λ _. AreSent index.now.keys ((guild, edit) ∷ []) passes.old.items passes.new.items) (λ refused. (passes.new.items ≡ passes.old.items) × IsRefusedBySome passes.new.items refused) }
 {
-    let Some(place) = place_of(index, guild) else {
-        drop(edit);
-        return Ok(());
-    };
-    let by = place % posts.len();
+    let by = pass_of_guild(index, guild, posts.len());
     send_by(&posts[by], &mut passes[by], guild, edit)
 }
 

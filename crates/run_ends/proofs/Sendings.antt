@@ -10,7 +10,7 @@ use Rattle.edit_apply.specs.declared.Edit.{Edit}
 use Rattle.edit_post.specs.declared.request.Request.{Request}
 use Rattle.edit_post.specs.Post.{Sender, after_send}
 use Rattle.guild_actor.specs.Acts.{edits_of}
-use Rattle.guild_posts.specs.Posts.{goes_by, edits_by, request_of, sent_all}
+use Rattle.guild_posts.specs.Posts.{pass_of_guild, goes_by, edits_by, request_of, sent_all}
 use Rattle.run_ends.specs.Senders.{edits_for}
 
 abbrev Sending : Type 0
@@ -51,8 +51,8 @@ sent_for guild s (w ∷ ws) =
 module _ (guilds : List ℕ) (count q guild place : ℕ) (at : position (λ g. guild == g) guilds ≡ Some place) (here : (place % count == q) ≡ true) where
   goes : (w : Sending) → w.0 ≡ guild → goes_by guilds count q w ≡ true
   goes w own =
-      ap (λ (n : ℕ). option_map_or (λ (p : ℕ). p % count == q) (position (λ g. n == g) guilds) false) own
-      ∙ ap (λ (o : Option ℕ). option_map_or (λ (p : ℕ). p % count == q) o false) at
+      ap (λ (n : ℕ). pass_of_guild guilds count n == q) own
+      ∙ ap (λ (o : Option ℕ). option_map_or (λ (p : ℕ). p % count) o 0 == q) at
       ∙ here
 
   kept : (w : Sending) (b c : Bool) (left right : List Sending) → (c ≡ true → b ≡ true) → map edit_for (filter (is_for guild) left) ≡ map edit_for (filter (is_for guild) right)

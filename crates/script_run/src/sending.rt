@@ -50,8 +50,8 @@ fn send_lines<R: Wait + Drop>(
 }
 
 /// Sends the edits of a script to the posts of their guilds' actors, in order, and then ends the passes.
-/// Only the lines of edits send anything, and nothing is sent for a guild that does not stand in the
-/// index.
+/// Only the lines of edits send anything. An edit of a guild that does not stand in the index goes to the
+/// first post.
 ///
 /// # Errors
 /// `Spent` only if a pass has sent 2^57 requests, and `Memory`. The first of the edits are sent then, and

@@ -1,0 +1,4 @@
+pub mod Dealing
+pub mod Posts
+pub mod Hubs
+pub mod Seats

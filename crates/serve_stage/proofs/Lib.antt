@@ -1,0 +1,3 @@
+pub mod Ready
+pub mod Drafted
+pub mod Staged

@@ -1,0 +1,4 @@
+pub mod Urls
+pub mod Parts
+pub mod Stages
+pub mod Drafts

@@ -1,0 +1,4 @@
+pub mod Walks
+pub mod Subcommands
+pub mod Commands
+pub mod Found
