@@ -110,6 +110,10 @@ pub fn stop_line(alloc: Global, file: u8, line: u64, fault: LineFault) -> Result
 {
     let mut text = String::new(alloc);
     let number = fault_number(fault);
-    writeln!(text, "stop file {file} line {line} {number} {}", fault_name(fault))?;
+    writeln!(
+        text,
+        "stop file {file} line {line} {number} {}",
+        fault_name(fault)
+    )?;
     Ok(text)
 }

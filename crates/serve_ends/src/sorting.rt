@@ -8,8 +8,6 @@ use crate::ending::{FileEnd, WorkerEnd};
 use crate::ends::{Ends, Returned};
 use gate_parts::WorkerDone;
 use serve_parts::{DoorDone, FileDone, ServeDone, ServePart};
-use serve_stage::Lent;
-use serve_heads::ScriptFile;
 use std::sync::Wait;
 use team_run::add;
 
