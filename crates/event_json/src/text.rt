@@ -11,8 +11,8 @@ use dispatch_types::Dispatch;
 use payload_text::{Envelope, Payload};
 use std::alloc::{AllocError, Global};
 
-// The bytes round a body, and a few more.
-const ROOM: usize = 16;
+// The bytes round a body, or round a name, and a few more.
+const ROOM: usize = 20;
 
 fn head_of(alloc: Global, body: &Body) -> Result<Text, AllocError>
     ensures { IfOk result (λ head. head ≡ head_of body.now) }
@@ -27,7 +27,8 @@ fn head_of(alloc: Global, body: &Body) -> Result<Text, AllocError>
 fn tail_of(alloc: Global, name: &str) -> Result<Text, AllocError>
     ensures { IfOk result (λ tail. tail ≡ tail_of name.now) }
 {
-    let mut text = String::from_str(alloc, ",\"t\":\"")?;
+    let mut text = String::with_capacity(alloc, name.len().saturating_add(ROOM))?;
+    text.push_str(",\"t\":\"")?;
     text.push_str(name)?;
     text.push_str("\"}")?;
     Ok(Text::from_string(text))
