@@ -1,0 +1,4 @@
+pub mod Loans
+pub mod Sources
+pub mod Doors
+pub mod Clocks

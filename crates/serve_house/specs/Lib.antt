@@ -1,0 +1,4 @@
+pub mod Loans
+pub mod Begun
+pub mod Serving
+pub mod Parts
