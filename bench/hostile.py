@@ -34,6 +34,8 @@ RENAME_SECONDS = 0.05
 # How much each peer that never reads is sent. A link that has not taken more than 16 MiB is given up.
 UNREAD_BYTES = int(os.environ.get("UNREAD_MIB", "24")) << 20
 MESSAGES_AT_ONCE = 500
+# How long peers stay that send no whole handshake; in a run of a minute or less, a second.
+HANDSHAKE_SECONDS = 7
 END_SECONDS = 120
 random.seed(int(os.environ.get("SEED", "1")))
 
@@ -67,7 +69,8 @@ class Good(threading.Thread):
 class Host:
     """The server, with the one pipe through which its guild is changed."""
 
-    def __init__(self, gate, accepts):
+    def __init__(self, gate, accepts, patience):
+        self.patience = patience
         self.server, self.left, self.lock = Server(OPENING, 1, accepts, gate), accepts, threading.Lock()
         self.url, self.pid = self.server.urls[0], self.server.process.pid
         parts = urllib.parse.urlsplit(self.url)
@@ -124,15 +127,15 @@ class Host:
 
 def no_handshake(host):
     peers = [host.connect() for _ in range(40)]
-    time.sleep(1)
+    time.sleep(host.patience)
     return peers
 
 
 def half_a_handshake(host):
     peers = [host.connect() for _ in range(40)]
     for peer in peers:
-        peer.sendall(handshake(host.url)[0][:random.randrange(1, 100)])
-    time.sleep(1)
+        push(peer, handshake(host.url)[0][:random.randrange(1, 100)])
+    time.sleep(host.patience)
     return peers
 
 
@@ -218,6 +221,18 @@ def push(peer, data):
         pass
 
 
+def is_ended(peer):
+    peer.setblocking(False)
+    try:
+        while peer.recv(65536):
+            pass
+    except BlockingIOError:
+        return False
+    except OSError:
+        pass
+    return True
+
+
 KINDS = [no_handshake, half_a_handshake, handshake_byte_by_byte, half_a_frame, end_in_a_message, random_bytes, huge_messages]
 # A session without a connection stays for 180 s, and a worker has 64 sessions; so those that never read come not more often.
 NEVER_READ_SECONDS = 200
@@ -228,11 +243,13 @@ def play(host, kind, *words):
     begun = time.monotonic()
     host.peak_kib(begin=True)
     host.good.slowest = 0
-    for peer in kind(host, *words):
+    peers = kind(host, *words)
+    seconds, ended = time.monotonic() - begun, sum(map(is_ended, peers))
+    for peer in peers:
         peer.close()
-    seconds, peak = time.monotonic() - begun, host.peak_kib()
-    print(f"{name}: {before - host.left} connections in {seconds:.1f} s; peak memory {peak / 1024:.1f} MiB; the good client "
-          f"saw {host.good.seen - names} names, the slowest after {host.good.slowest * 1000:.0f} ms", flush=True)
+    print(f"{name}: {before - host.left} connections in {seconds:.1f} s, of the {len(peers)} that stayed the server ended {ended}; "
+          f"peak memory {host.peak_kib() / 1024:.1f} MiB; the good client saw {host.good.seen - names} names, "
+          f"the slowest after {host.good.slowest * 1000:.0f} ms", flush=True)
     if host.good.fault:
         raise Wrong(f"the good client: {host.good.fault}")
 
@@ -244,23 +261,20 @@ def end(host):
     host.server.write([(RENAME % "end").encode()])
     host.good.join(60)
     right = not host.good.fault and not host.good.is_alive() and host.good.seen == host.names
-    print(f"the good client saw {host.good.seen} of {host.names} names in order, then the end: {'right' if right else host.good.fault or 'not the end'}")
+    verdict = "right" if right else host.good.fault or "not the end"
+    print(f"the good client saw {host.good.seen} of {host.names} names in order, then the end: {verdict}")
     host.good.bot.close()
     entries = host.names + host.messages + 3
+    host.server.process.stdin.close()
     deadline, rest = time.monotonic() + END_SECONDS, 0
     while host.server.process.poll() is None and time.monotonic() < deadline:
-        if host.left <= 0 and rest == 0:
-            host.server.process.stdin.close()
         try:
             host.connect().close()
+            rest += 1
         except OSError:
             time.sleep(0.01)
-        rest += 1
-        if host.left == 0:
-            host.server.process.stdin.close()
-            host.server.process.stdin = None
     if host.server.process.poll() is None:
-        print(f"the server had not ended {END_SECONDS} seconds after the rest of its connections had begun to come: it was killed")
+        print(f"{rest} more connections came in {END_SECONDS} seconds, and the server had not ended: it was killed")
         host.server.kill()
         return False
     lines = host.server.process.stdout.read().decode().splitlines()
@@ -274,7 +288,7 @@ def end(host):
 
 def main(gate, seconds=600, connections=10000):
     seconds, connections = int(seconds), int(connections)
-    host = Host(gate, connections + 2000 + 60 * seconds)
+    host = Host(gate, connections + 2000 + 60 * seconds, HANDSHAKE_SECONDS if seconds > 60 else 1)
     until, next_unread, many, place = time.monotonic() + seconds, 0, False, 0
     try:
         while time.monotonic() < until or not many:

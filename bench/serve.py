@@ -172,9 +172,10 @@ def main(programs):
             took = measure_latency(crowd)
             crowd.end()
             sent = edits * sessions
-            print(f"{sessions} sessions: {gate}: {sent / clock:,.0f} dispatches/s, {size / clock / 1e6:.1f} MB/s; "
-                  f"{server / sent * 1e6:.2f} us of the server's processors a dispatch ({server:.2f} s in {clock:.2f} s; the client took {client:.2f} s)")
-            print(f"{sessions} sessions: {gate}: from an edit to its text: 50th {took[49]:.2f} ms, 99th {took[98]:.2f} ms of {EDITS_FOR_LATENCY}", flush=True)
+            head = f"{sessions} sessions: {gate}:"
+            print(f"{head} {sent / clock:,.0f} dispatches/s, {size / clock / 1e6:.1f} MB/s in {clock:.2f} s")
+            print(f"{head} the server took {server:.2f} s of processors, {server / sent * 1e6:.2f} us a dispatch; the client {client:.2f} s")
+            print(f"{head} from an edit to its text: 50th {took[49]:.2f} ms, 99th {took[98]:.2f} ms of {EDITS_FOR_LATENCY}", flush=True)
     for gate in programs:
         print(f"64 silent sessions: {gate}: {measure_idle(gate) * 100:.2f} hundredths of a processor", flush=True)
 

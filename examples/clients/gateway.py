@@ -169,7 +169,8 @@ class Bot:
         if self.session:
             self.send(6, {"token": self.token, "session_id": self.session, "seq": self.number})
         else:
-            self.send(2, {"token": self.token, "intents": self.intents, "properties": {"os": "linux", "browser": "plain", "device": "plain"}})
+            properties = {"os": "linux", "browser": "plain", "device": "plain"}
+            self.send(2, {"token": self.token, "intents": self.intents, "properties": properties})
 
     def send(self, op, data):
         self.link.send(json.dumps({"op": op, "d": data}))

@@ -35,7 +35,8 @@ class Server:
     have one."""
 
     def __init__(self, opening, workers=1, accepts=1, gate=None):
-        for attempt in range(5):
+        opening = list(opening)
+        for _ in range(5):
             port = free_port(workers)
             words = [gate or program(), "serve", str(port), str(workers), str(accepts), "-"]
             self.process = subprocess.Popen(words, stdin=subprocess.PIPE, stdout=subprocess.PIPE)
