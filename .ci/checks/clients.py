@@ -1,8 +1,10 @@
 """Serves examples/clients/edits.jsonl to bots that lose their links twice and resume, if the built program knows `serve`."""
+import ast
 import collections
 import glob
 import json
 import os
+import re
 import shutil
 import signal
 import subprocess
@@ -27,6 +29,17 @@ failures = []
 def compare(what, wanted, found):
     if wanted != found:
         failures.append(f"clients: {what}: wanted {wanted}, found {found}")
+
+
+def compare_fields():
+    """The fields that docs/CLIENTS.md says are stood in for, and those of discord_py.py."""
+    with open(f"{FOLDER}/discord_py.py") as file:
+        lines = [part for part in ast.parse(file.read()).body if isinstance(part, ast.Assign) and part.targets[0].id == "FIELDS"]
+    source = {key.value: sorted(field.value for field in value.keys) for key, value in zip(lines[0].value.keys, lines[0].value.values)}
+    with open("docs/CLIENTS.md") as file:
+        rows = [line.strip("|\n").split("|") for line in file if line.startswith("| ")]
+    page = {row[0].strip(): sorted(re.findall(r"`(\w+)`", row[1])) for row in rows if row[0].strip() in source}
+    compare("docs/CLIENTS.md: fields that are stood in for", source, page)
 
 
 def program():
@@ -106,7 +119,7 @@ def serve(gate, found):
             time.sleep(PAUSE_SECONDS)
         for bot in at_work:
             bot.judge(sent)
-        if not failures:
+        if all(bot.process.returncode == 0 for bot in at_work):
             status, lines = server.end()
             with open(f"{FOLDER}/edits.out") as file:
                 compare("what serve wrote", (0, file.read().splitlines()), (status, lines))
@@ -121,12 +134,14 @@ def out_of_time(*_):
 
 
 def main():
+    compare_fields()
     gate = program()
     if not gate:
         return "no built program at hand: nothing was run"
     if not serves(gate):
         return "the built program does not know serve: nothing was run"
     found, skipped = bots()
+    before = len(failures)
     signal.signal(signal.SIGALRM, out_of_time)
     signal.alarm(LIMIT_SECONDS)
     try:
@@ -134,9 +149,9 @@ def main():
     except (OSError, subprocess.TimeoutExpired) as fault:
         failures.append(f"clients: {fault}")
     signal.alarm(0)
-    print(*failures, sep="\n", end="\n" if failures else "")
-    return "; ".join([f"{', '.join(found)}: {len(failures)} answered otherwise", *skipped])
+    return "; ".join([f"{', '.join(found)}: {len(failures) - before} answered otherwise", *skipped])
 
 
-print("clients: " + main())
+said = main()
+print(*failures, f"clients: {said}", sep="\n")
 sys.exit(bool(failures))

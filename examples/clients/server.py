@@ -1,5 +1,6 @@
 #!/usr/bin/env python3
 """`gate serve` under a test process, which sends it edits through a pipe while bots are connected."""
+import atexit
 import os
 import random
 import socket
@@ -40,6 +41,7 @@ class Server:
             port = free_port(workers)
             words = [gate or program(), "serve", str(port), str(workers), str(accepts), "-"]
             self.process = subprocess.Popen(words, stdin=subprocess.PIPE, stdout=subprocess.PIPE)
+            atexit.register(self.process.kill)
             try:
                 self.write(opening)
             except BrokenPipeError:
