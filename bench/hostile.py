@@ -1,7 +1,7 @@
 #!/usr/bin/env python3
-"""Hostile peers of `serve`, while one good client stays right to the end: hostile.py PROGRAM [SECONDS [CONNECTIONS]]
+"""Hostile peers of `serve`, while one good client stays right to the end: hostile.py [PROGRAM [SECONDS [CONNECTIONS]]]
 
-For SECONDS (600) kinds of hostile peers come one after another at a worker of PROGRAM: peers without a handshake, or with half
+For SECONDS (600) kinds of hostile peers come one after another at a worker of PROGRAM (out/gate): peers without a handshake, or with half
 of one, or with one byte by byte; half a frame, random bytes (by a seed, SEED or 1), huge messages, an end in the middle of a
 message; CONNECTIONS (10,000) that come one after another; and 64 that never read. All the time the guild is renamed, and a
 bot at the same worker is sent each name, in order and under the next number. For each kind the peak of the server's memory is
@@ -18,7 +18,7 @@ import urllib.parse
 
 sys.path.insert(0, os.path.join(os.path.dirname(os.path.abspath(__file__)), "../examples/clients"))
 from gateway import CLOSE, TEXT, Bot, Closed, Link, Wrong, handshake, masked
-from server import Server
+from server import ROOT, Server
 
 GOOD, NOISY = 1, 513  # GUILDS; with GUILD_MESSAGES
 OPENING = [
@@ -34,7 +34,7 @@ RENAME_SECONDS = 0.05
 # How much each peer that never reads is sent. A link that has not taken more than 16 MiB is given up.
 UNREAD_BYTES = int(os.environ.get("UNREAD_MIB", "24")) << 20
 MESSAGES_AT_ONCE = 500
-# How long peers stay that send no whole handshake; in a run of a minute or less, a second.
+# How long peers stay that send no whole handshake, or send it byte by byte; in a run of a minute or less, a second.
 HANDSHAKE_SECONDS = 7
 END_SECONDS = 120
 random.seed(int(os.environ.get("SEED", "1")))
@@ -141,10 +141,11 @@ def half_a_handshake(host):
 
 def handshake_byte_by_byte(host):
     peers = [host.connect() for _ in range(20)]
-    for byte in handshake(host.url)[0]:
+    request = handshake(host.url)[0]
+    for byte in request:
         for peer in peers:
             push(peer, bytes([byte]))
-        time.sleep(0.02)
+        time.sleep(host.patience / len(request))
     return peers
 
 
@@ -286,7 +287,7 @@ def end(host):
     return right
 
 
-def main(gate, seconds=600, connections=10000):
+def main(gate=os.path.join(ROOT, "out/gate"), seconds=600, connections=10000):
     seconds, connections = int(seconds), int(connections)
     host = Host(gate, connections + 2000 + 60 * seconds, HANDSHAKE_SECONDS if seconds > 60 else 1)
     until, next_unread, many, place = time.monotonic() + seconds, 0, False, 0
@@ -311,6 +312,6 @@ def main(gate, seconds=600, connections=10000):
 
 
 if __name__ == "__main__":
-    if len(sys.argv) < 2:
+    if sys.argv[1:2] == ["--help"]:
         sys.exit(__doc__)
     main(*sys.argv[1:4])

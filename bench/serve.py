@@ -1,6 +1,7 @@
 #!/usr/bin/env python3
-"""Measures `serve` over loopback, and beside it another program with the same words: serve.py PROGRAM [OTHER]
+"""Measures `serve` over loopback, and beside it another program with the same words: serve.py [PROGRAM [OTHER]]
 
+PROGRAM is out/gate if none is named.
 With 1, 64 and 4 x 64 sessions: dispatches and bytes a second, the processor time of the server, and the latency from an edit
 that is written into its standard input to its text at the last of the clients; then the share of a processor that it takes
 while 64 sessions say nothing. DISPATCHES (in thousands, 500) is how many are sent for each figure, IDLE (5) the seconds."""
@@ -14,7 +15,7 @@ import time
 
 sys.path.insert(0, os.path.join(os.path.dirname(os.path.abspath(__file__)), "../examples/clients"))
 from gateway import CLOSE, Bot, masked
-from server import Server
+from server import ROOT, Server
 
 DISPATCHES = int(os.environ.get("DISPATCHES", "500")) * 1000
 IDLE_SECONDS = float(os.environ.get("IDLE", "5"))
@@ -181,6 +182,6 @@ def main(programs):
 
 
 if __name__ == "__main__":
-    if len(sys.argv) < 2:
+    if sys.argv[1:2] == ["--help"]:
         sys.exit(__doc__)
-    main(sys.argv[1:])
+    main(sys.argv[1:] or [os.path.join(ROOT, "out/gate")])
