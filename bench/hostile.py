@@ -122,7 +122,10 @@ class Host:
             with open(f"/proc/{self.pid}/clear_refs", "w") as file:
                 file.write("5")
         with open(f"/proc/{self.pid}/status") as file:
-            return next(int(row.split()[1]) for row in file if row.startswith("VmHWM:"))
+            found = [int(row.split()[1]) for row in file if row.startswith("VmHWM:")]
+        if not found:
+            raise Wrong(f"the server ended with {self.server.process.poll()}")
+        return found[0]
 
 
 def no_handshake(host):
