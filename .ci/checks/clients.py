@@ -1,0 +1,157 @@
+"""Serves examples/clients/edits.jsonl to bots that lose their links twice and resume, if the built program knows `serve`."""
+import ast
+import collections
+import glob
+import json
+import os
+import re
+import shutil
+import signal
+import subprocess
+import sys
+import threading
+import time
+
+os.chdir(os.path.join(os.path.dirname(os.path.abspath(__file__)), "../.."))
+FOLDER = "examples/clients"
+sys.path.insert(0, FOLDER)
+from feed import parts
+from server import Server, free_port
+
+LIMIT_SECONDS = 60
+# Each bot loses its link twice, so it connects three times; each has a worker of its own.
+CONNECTIONS = 3
+INTENTS = "36739"
+PAUSE_SECONDS = 0.03
+failures = []
+
+
+def compare(what, wanted, found):
+    if wanted != found:
+        failures.append(f"clients: {what}: wanted {wanted}, found {found}")
+
+
+def compare_fields():
+    """The fields that docs/CLIENTS.md says are stood in for, and those of discord_py.py."""
+    with open(f"{FOLDER}/discord_py.py") as file:
+        lines = [part for part in ast.parse(file.read()).body if isinstance(part, ast.Assign) and part.targets[0].id == "FIELDS"]
+    source = {key.value: sorted(field.value for field in value.keys) for key, value in zip(lines[0].value.keys, lines[0].value.values)}
+    with open("docs/CLIENTS.md") as file:
+        rows = [line.strip("|\n").split("|") for line in file if line.startswith("| ")]
+    page = {row[0].strip(): sorted(re.findall(r"`(\w+)`", row[1])) for row in rows if row[0].strip() in source}
+    compare("docs/CLIENTS.md: fields that are stood in for", source, page)
+
+
+def program():
+    """The program that GATE names, or else a built one that is at hand and newer than its sources."""
+    sources = [path for end in ("rt", "antt") for path in glob.glob(f"crates/*/*/**/*.{end}", recursive=True) if "/out/" not in path]
+    built = [path for path in ("out/gate", "crates/gateway_main/out/gateway_main") if os.access(path, os.X_OK)]
+    newer = [path for path in built if os.path.getmtime(path) > max(map(os.path.getmtime, sources))]
+    found = os.environ.get("GATE") or next(iter(newer), None)
+    return found and os.path.abspath(found)
+
+
+def serves(gate):
+    """Whether it knows the command: a file that does not exist is then a file that cannot be read, and no bad word."""
+    words = [gate, "serve", str(free_port(1)), "1", "1", f"{FOLDER}/nosuch.jsonl"]
+    return subprocess.run(words, stdout=subprocess.DEVNULL, stderr=subprocess.DEVNULL, timeout=LIMIT_SECONDS).returncode != 2
+
+
+def bots():
+    """The bots that can be run here, by the words that run them, and why others cannot."""
+    node, skipped = shutil.which("node"), []
+    found = {"plain.py": [sys.executable]}
+    if node:
+        found["plain.mjs"] = [node]
+    else:
+        skipped.append("plain.mjs was skipped: there is no node")
+    if subprocess.run([sys.executable, "-c", "import discord"], stderr=subprocess.DEVNULL).returncode == 0:
+        found["discord_py.py"] = [sys.executable]
+    else:
+        skipped.append("discord_py.py was skipped: discord.py is not installed")
+    return found, skipped
+
+
+class Bot:
+    """A bot at work, and the lines that it has printed."""
+
+    def __init__(self, name, words, url, token):
+        self.name, self.lines = name, []
+        self.process = subprocess.Popen([*words, f"{FOLDER}/{name}", url, token, INTENTS], stdout=subprocess.PIPE, stderr=subprocess.PIPE)
+        self.reader = threading.Thread(target=self.read, daemon=True)
+        self.reader.start()
+
+    def read(self):
+        for line in self.process.stdout:
+            self.lines.append(line.decode().rstrip("\n"))
+
+    def greeted(self, guilds):
+        """Waits until it has these many guilds, or ends."""
+        while self.process.poll() is None and sum(line.endswith(" GUILD_CREATE") for line in self.lines) < guilds:
+            time.sleep(0.01)
+
+    def judge(self, sent):
+        """Compares what it printed with the names of what it had to be sent."""
+        said = self.process.stderr.read().decode().strip()
+        compare(f"{self.name}: status", (0, ""), (self.process.wait(), said))
+        self.reader.join()
+        names = collections.Counter(line.split(" ")[1] for line in self.lines if line[:1].isdigit())
+        compare(f"{self.name}: dispatches", {}, dict((sent - names) + (names - sent)))
+        *_, last = self.lines or [""]
+        right, _, replayed = last.rpartition(", ")
+        compare(f"{self.name}: last line", f"right: {sent.total() - sent['RESUMED']} dispatches, {CONNECTIONS - 1} drops", right)
+        compare(f"{self.name}: dispatches were replayed", True, replayed.split(" ")[0] not in ("", "0"))
+
+
+def serve(gate, found):
+    opening, later = parts(f"{FOLDER}/edits.jsonl")
+    guilds = sum(json.loads(line)["step"] == "guild" for line in opening)
+    notes = " ".join(json.loads(line)["note"] for line in later).replace("nothing", "").split()
+    sent = collections.Counter(["READY", *["GUILD_CREATE"] * guilds, *["RESUMED"] * (CONNECTIONS - 1), *notes])
+    server, at_work = Server(opening, len(found), CONNECTIONS, gate), []
+    try:
+        for place, (name, words) in enumerate(found.items()):
+            at_work.append(Bot(name, words, server.urls[place], f"t{place + 1}"))
+        for bot in at_work:
+            bot.greeted(guilds)
+        for line in later:
+            server.write([line])
+            time.sleep(PAUSE_SECONDS)
+        for bot in at_work:
+            bot.judge(sent)
+        if all(bot.process.returncode == 0 for bot in at_work):
+            status, lines = server.end()
+            with open(f"{FOLDER}/edits.out") as file:
+                compare("what serve wrote", (0, file.read().splitlines()), (status, lines))
+    finally:
+        for process in (server.process, *(bot.process for bot in at_work)):
+            if process.poll() is None:
+                process.kill()
+
+
+def out_of_time(*_):
+    raise TimeoutError(f"not done after {LIMIT_SECONDS} seconds")
+
+
+def main():
+    compare_fields()
+    gate = program()
+    if not gate:
+        return "no built program at hand: nothing was run"
+    if not serves(gate):
+        return "the built program does not know serve: nothing was run"
+    found, skipped = bots()
+    before = len(failures)
+    signal.signal(signal.SIGALRM, out_of_time)
+    signal.alarm(LIMIT_SECONDS)
+    try:
+        serve(gate, found)
+    except (OSError, subprocess.TimeoutExpired) as fault:
+        failures.append(f"clients: {fault}")
+    signal.alarm(0)
+    return "; ".join([f"{', '.join(found)}: {len(failures) - before} answered otherwise", *skipped])
+
+
+said = main()
+print(*failures, f"clients: {said}", sep="\n")
+sys.exit(bool(failures))
