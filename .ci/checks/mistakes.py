@@ -121,6 +121,7 @@ SAID = {
     "WrongType": "not an object, or a field of the wrong type or out of its range",
     "TooLong": "the line, the file, a token or the list of guilds is too long",
 }
+SERVE_WORDS = "serve takes a port, 1 to 65532, a number of workers, 1 to 4, of connections that each accepts, 1 to 1000000, and 1 to 12 files"
 NO_SEED = "load takes one seed, a number below 2^64 in digits"
 # What was wrong, the words, the status and the line on standard error.
 WORDS = [
@@ -134,8 +135,15 @@ WORDS = [
     ("help", ["--help"], 2, "no command --help"),
     ("an empty word", [""], 2, 'no command ""'),
     ("a word with a line feed", ["a\nb"], 2, 'no command "a\\nb"'),
-    ("a command that is not built", ["serve", "8080", "4", "1", "a"], 2, "serve is not built yet"),
-    ("another that is not built", ["client", "ws://a", "t", "1", "1"], 2, "client is not built yet"),
+    ("a command that is not built", ["client", "ws://a", "t", "1", "1"], 2, "client is not built yet"),
+    ("serve alone", ["serve"], 2, SERVE_WORDS),
+    ("serve without files", ["serve", "8080", "4", "1"], 2, SERVE_WORDS),
+    ("thirteen files", ["serve", "8080", "4", "1", *"abcdefghijklm"], 2, SERVE_WORDS),
+    ("port 0", ["serve", "0", "4", "1", "a"], 2, SERVE_WORDS),
+    ("a port with no room for workers", ["serve", "65533", "4", "1", "a"], 2, SERVE_WORDS),
+    ("five workers", ["serve", "8080", "5", "1", "a"], 2, SERVE_WORDS),
+    ("no connections", ["serve", "8080", "4", "0", "a"], 2, SERVE_WORDS),
+    ("an option among the files", ["serve", "8080", "4", "1", "a", "-v"], 2, SERVE_WORDS),
     ("no seed", ["load"], 2, NO_SEED),
     ("two seeds", ["load", "1", "2"], 2, NO_SEED),
     ("a word for a seed", ["load", "seven"], 2, NO_SEED),
