@@ -121,8 +121,8 @@ SAID = {
     "WrongType": "not an object, or a field of the wrong type or out of its range",
     "TooLong": "the line, the file, a token or the list of guilds is too long",
 }
-SERVE_WORDS = "serve takes a port, 1 to 65532, a number of workers, 1 to 4, of connections that each accepts, 1 to 1000000, and 1 to 12 files"
 NO_SEED = "load takes one seed, a number below 2^64 in digits"
+NO_SERVE = "serve takes a port, 1 to 65532, a number of workers, 1 to 4, of connections that each accepts, 1 to 1000000, and 1 to 12 files"
 # What was wrong, the words, the status and the line on standard error.
 WORDS = [
     ("no word", [], 2, "no command"),
@@ -136,14 +136,12 @@ WORDS = [
     ("an empty word", [""], 2, 'no command ""'),
     ("a word with a line feed", ["a\nb"], 2, 'no command "a\\nb"'),
     ("a command that is not built", ["client", "ws://a", "t", "1", "1"], 2, "client is not built yet"),
-    ("serve alone", ["serve"], 2, SERVE_WORDS),
-    ("serve without files", ["serve", "8080", "4", "1"], 2, SERVE_WORDS),
-    ("thirteen files", ["serve", "8080", "4", "1", *"abcdefghijklm"], 2, SERVE_WORDS),
-    ("port 0", ["serve", "0", "4", "1", "a"], 2, SERVE_WORDS),
-    ("a port with no room for workers", ["serve", "65533", "4", "1", "a"], 2, SERVE_WORDS),
-    ("five workers", ["serve", "8080", "5", "1", "a"], 2, SERVE_WORDS),
-    ("no connections", ["serve", "8080", "4", "0", "a"], 2, SERVE_WORDS),
-    ("an option among the files", ["serve", "8080", "4", "1", "a", "-v"], 2, SERVE_WORDS),
+    ("no files to serve", ["serve", "8080", "4", "1"], 2, NO_SERVE),
+    ("port 0", ["serve", "0", "4", "1", "a"], 2, NO_SERVE),
+    ("a port after the last", ["serve", "65533", "4", "1", "a"], 2, NO_SERVE),
+    ("five workers", ["serve", "8080", "5", "1", "a"], 2, NO_SERVE),
+    ("no connection to accept", ["serve", "8080", "4", "0", "a"], 2, NO_SERVE),
+    ("thirteen files", ["serve", "8080", "4", "1", *"abcdefghijklm"], 2, NO_SERVE),
     ("no seed", ["load"], 2, NO_SEED),
     ("two seeds", ["load", "1", "2"], 2, NO_SEED),
     ("a word for a seed", ["load", "seven"], 2, NO_SEED),
@@ -189,6 +187,13 @@ def try_words(gate):
         run = subprocess.run([gate, *words], capture_output=True, timeout=60)
         printed = USAGE + "\n" if status == 2 else ""
         compare(what, (status, printed, said(status, text)), (run.returncode, run.stdout.decode(), run.stderr.decode()))
+
+
+def try_serve(gate):
+    """A file of serve that does not exist."""
+    run = subprocess.run([gate, "serve", "8080", "1", "1", "nosuch.jsonl"], capture_output=True, timeout=60)
+    told = said(3, "a file of serve 8080 cannot be read", "docs/SERVE.md")
+    compare("a file of serve that does not exist", (3, "", told), (run.returncode, run.stdout.decode(), run.stderr.decode()))
 
 
 def try_outside(gate):
@@ -246,8 +251,9 @@ with tempfile.TemporaryDirectory() as folder:
     try_lines(gate, folder)
     try_little_memory(gate, folder)
 try_words(gate)
+try_serve(gate)
 try_outside(gate)
 try_load(gate)
 print(*failures, sep="\n", end="\n" if failures else "")
-print(f"mistakes: {len(LINES) + len(WORDS) + 10} tried, {len(failures)} answered otherwise")
+print(f"mistakes: {len(LINES) + len(WORDS) + 11} tried, {len(failures)} answered otherwise")
 sys.exit(bool(failures))

@@ -1,16 +1,19 @@
 -- What is done for each command.
-use Rattle.std.proofs.Common.{◌≡◌, ℕ, List, [], ◌++◌, Result, Ok, Err, OnOk, is_err, false, inl, inr, refl, sym, arith, append-nil}
+use Rattle.std.proofs.Common.{◌≡◌, ℕ, List, [], ◌++◌, Result, Ok, Err, OnOk, OnErr, is_err, true, false, inl, inr, refl, sym, arith, append-nil}
 use Rattle.std.specs.declared.option.Option.{Option}
 use Rattle.std.specs.declared.option.Option.TheVariants.{Some, None}
 use Rattle.std.specs.Io.KnownBytes.{Appends}
 use Rattle.gate_outside.specs.Houses.{HouseTale}
-use Rattle.gate_words.specs.Words.{Asked as Command, run, load}
+use Rattle.serve_words.specs.Words.{Asked as Command, run, load, serve}
 use Rattle.load_run.specs.declared.fault.LoadFault.TheVariants as ends
 use Rattle.scenario.specs.declared.fault.PlayFault.TheVariants as play
-use Rattle.gateway_main.specs.Clocks.{LendsClocks}
-use Rattle.gateway_main.specs.Gate.{Outside, Does, LeavesTeam}
+use Rattle.house_loans.specs.Clocks.{LendsClocks}
+use Rattle.house_loans.proofs.Lending.{clocks_none}
+use Rattle.house_loans.proofs.Returned.{clocks_back_none}
+use Rattle.serve_ends.specs.declared.fault.ServeFault.TheVariants as serving
+use Rattle.serve_house.proofs.Back.{ran_out}
+use Rattle.gateway_main.specs.Gate.{Outside, Does, LeavesTeams}
 use Rattle.gateway_main.specs.Usage.{usage}
-use Rattle.gateway_main.proofs.Lending.{asks_none, puts_none}
 
 appends_none : (got : Option (List ℕ)) → Appends got got []
 appends_none None = tt
@@ -21,31 +24,36 @@ pub ok_holds : {T E : Type 0} (r : Result T E) (P : Type 0) → is_err r ≡ fal
 ok_holds (Ok x) P no_error holds = holds
 ok_holds (Err x) P no_error holds = absurd cc
 
+-- what holds after an answer that is an error
+pub err_holds : {T E : Type 0} (r : Result T E) (P : Type 0) → is_err r ≡ true → OnErr r P → P
+err_holds (Ok x) P error holds = absurd cc
+err_holds (Err x) P error holds = holds
+
 -- no clock was asked for
-pub lends_none : (house : HouseTale) → LendsClocks house house
-lends_none house = record {
+pub lends_none : (most : ℕ) (house : HouseTale) → LendsClocks most house house
+lends_none most house = record {
   count = 0;
-  most = omega arith;
+  within = omega arith;
   lent = house;
-  asks = asks_none house;
+  asks = clocks_none house;
   tales = [];
   as_many = refl;
-  puts = puts_none house;
+  puts = clocks_back_none house;
 }
 
 module _ (old : Outside) where
-  leaves_team : LeavesTeam old old
-  leaves_team = record {
-    starts = refl;
-    faults = refl;
+  leaves_teams : LeavesTeams old old
+  leaves_teams = record {
+    load_team = refl;
+    serve_team = refl;
   }
 
   -- out of memory before the command began
   pub out_of_memory : (R : Type 0) (command : Option Command) → Does R command old old None 6
   out_of_memory R None = record {
-    usage = inr (inr (refl, ([], old.waits ++ usage, refl, appends_none old.got)));
+    usage = inr (inr (refl, ([], old.sink.waits ++ usage, refl, appends_none old.sink.got)));
     house = refl;
-    team = leaves_team;
+    teams = leaves_teams;
     fault = refl;
   }
   out_of_memory R (Some (run file)) = record {
@@ -60,7 +68,7 @@ module _ (old : Outside) where
       clocks = refl;
       door_faults = refl;
     };
-    team = leaves_team;
+    teams = leaves_teams;
     fault = inr (refl, refl);
   }
   out_of_memory R (Some (load seed)) = record {
@@ -72,6 +80,14 @@ module _ (old : Outside) where
       late = λ none. refl;
       asked = λ e. absurd (cc);
     };
-    clocks = lends_none old.house;
+    clocks = lends_none 15 old.house;
+    serve_team = refl;
+    fault = inr (refl, refl);
+  }
+  out_of_memory R (Some (serve port workers accepts files)) = record {
+    ended = Err serving.Memory;
+    status_is = refl;
+    serves = ran_out R port workers accepts files old.sink old.serve_team old.house;
+    load_team = refl;
     fault = inr (refl, refl);
   }

@@ -1,3 +1,3 @@
 pub mod Usage
-pub mod Lending
+pub mod Bounds
 pub mod Commands

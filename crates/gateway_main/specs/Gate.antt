@@ -4,7 +4,6 @@ use Rattle.std.specs.declared.option.Option.{Option}
 use Rattle.gate_outside.specs.declared.asked.Asked.{Asked}
 use Rattle.gate_outside.specs.declared.asked.Asked.TheVariants as ask
 use Rattle.gate_outside.specs.Houses.{HouseTale, ReturnedSource, returned_source, GivesOwn}
-use Rattle.gate_outside.specs.Spawners.{Starts}
 use Rattle.gate_outside.specs.Told.{GrowsBy}
 use Rattle.scenario.specs.declared.fault.PlayFault.{PlayFault}
 use Rattle.scenario.specs.declared.fault.PlayFault.TheVariants as play
@@ -13,14 +12,17 @@ use Rattle.scenario.specs.Played.{PlaysAll, PlaysTo, PlayCause}
 use Rattle.std.specs.Io.KnownBytes.{Appends}
 use Rattle.gate_outside.specs.Causes.{Rose}
 use Rattle.gate_outside.specs.declared.faults.Fault.{Fault}
-use Rattle.gate_outside.specs.declared.faults.Fault.TheVariants as outside
-use Rattle.gate_words.specs.Words.{Asked as Command, run, load}
+use Rattle.gate_outside.specs.declared.faults.Fault.TheVariants as sink_fault
+use Rattle.serve_words.specs.Words.{Asked as Command, run, load, serve}
 use Rattle.load_run.specs.declared.fault.LoadFault.{LoadFault}
 use Rattle.load_run.specs.declared.fault.LoadFault.TheVariants as ends
 use Rattle.load_run.specs.Causes.{Loads, HasLoadCause, StartsParts}
+use Rattle.house_loans.specs.Clocks.{LendsClocks}
+use Rattle.serve_ends.specs.declared.fault.ServeFault.{ServeFault}
+use Rattle.serve_ends.specs.declared.fault.ServeFault.TheVariants as serving
+use Rattle.serve_house.specs.Serving.{SinkTale, TeamTale, ServesFiles}
 use Rattle.gateway_main.specs.declared.fault.GateFault.{GateFault}
 use Rattle.gateway_main.specs.declared.fault.GateFault.TheVariants as gate_fault
-use Rattle.gateway_main.specs.Clocks.{LendsClocks}
 use Rattle.gateway_main.specs.Usage.{usage}
 
 -- the exit status of a play
@@ -43,6 +45,17 @@ load_status (Err (ends.Out code)) = 10
 load_status (Err ends.BadText) = 11
 load_status (Err ends.Spent) = 12
 
+-- the exit status of a run of `serve`
+abbrev pub serve_status : Result (Unit {0}) ServeFault → ℕ
+serve_status (Ok x) = 0
+serve_status (Err serving.Read) = 3
+serve_status (Err serving.Write) = 4
+serve_status (Err (serving.Line file line fault)) = 5
+serve_status (Err serving.Memory) = 6
+serve_status (Err serving.Door) = 7
+serve_status (Err serving.Start) = 8
+serve_status (Err serving.Spent) = 12
+
 -- why a play did not come to its end, and nothing if it did
 abbrev pub play_fault : Result (Unit {0}) PlayFault → Option GateFault
 play_fault (Ok x) = None
@@ -52,6 +65,11 @@ play_fault (Err fault) = Some (gate_fault.Play fault)
 abbrev pub load_fault : Result (Unit {0}) LoadFault → Option GateFault
 load_fault (Ok x) = None
 load_fault (Err fault) = Some (gate_fault.Load fault)
+
+-- why a run of `serve` did not come to its end, and nothing if it did
+abbrev pub serve_fault : Result (Unit {0}) ServeFault → Option GateFault
+serve_fault (Ok x) = None
+serve_fault (Err fault) = Some (gate_fault.Serve fault)
 
 -- no source was given, and nothing was written or put back
 abbrev pub NotGiven : (returned0 returned1 : Option (List ReturnedSource)) (got0 got1 : Option (List ℕ)) → Result (Unit {0}) PlayFault → Type 0
@@ -72,8 +90,8 @@ AsksOnce asks0 asks1 file played = GrowsBy asks0 asks1 (ask.Source file) ⊎ ((a
 
 abbrev pub usage_status : Result (Unit {0}) Fault → ℕ
 usage_status (Ok x) = 2
-usage_status (Err outside.Failed) = 2
-usage_status (Err outside.Memory) = 6
+usage_status (Err sink_fault.Failed) = 2
+usage_status (Err sink_fault.Memory) = 6
 
 -- the whole usage line after the bytes that waited before the sink, or a front of both if the sink's count rose or
 -- memory ran out
@@ -90,19 +108,20 @@ pub record LeavesRest (old new : HouseTale) : Type 0 where
   pub clocks : new.clocks ≡ old.clocks
   pub door_faults : new.door_faults ≡ old.door_faults
 
--- what is outside of the command tells: its house, what its sink got, what waits before the sink, and its team
+-- what is outside of the command tells: its house, its sink, and its teams
 pub record Outside : Type 0 where
   pub house : HouseTale
-  pub got : Option (List ℕ)
-  pub waits : List ℕ
-  pub sink_faults : ℕ
-  pub starts : Starts
-  pub team_faults : ℕ
+  pub sink : SinkTale
+  pub load_team : TeamTale
+  pub serve_team : TeamTale
 
--- the team was not used
-pub record LeavesTeam (old new : Outside) : Type 0 where
-  pub starts : new.starts ≡ old.starts
-  pub faults : new.team_faults ≡ old.team_faults
+abbrev pub outside : HouseTale → SinkTale → (load_team serve_team : TeamTale) → Outside
+outside house sink load_team serve_team = record { house = house; sink = sink; load_team = load_team; serve_team = serve_team }
+
+-- no team was used
+pub record LeavesTeams (old new : Outside) : Type 0 where
+  pub load_team : new.load_team ≡ old.load_team
+  pub serve_team : new.serve_team ≡ old.serve_team
 
 -- the fault is told, unless memory ran out before the command began
 abbrev pub TellsFault : (told fault : Option GateFault) → (ran_out : Type 0) → Type 0
@@ -110,34 +129,44 @@ TellsFault told fault ran_out = (told ≡ fault) ⊎ ((told ≡ None) × ran_out
 
 -- words that are not in the grammar: the usage line is told, and nothing is asked for
 pub record Refuses (old new : Outside) (told : Option GateFault) (status : ℕ) : Type 0 where
-  pub usage : TellsUsage old.got new.got old.waits old.sink_faults new.sink_faults status
+  pub usage : TellsUsage old.sink.got new.sink.got old.sink.waits old.sink.faults new.sink.faults status
   pub house : new.house ≡ old.house
-  pub team : LeavesTeam old new
+  pub teams : LeavesTeams old new
   pub fault : told ≡ None
 
 -- `run FILE`: the file is asked for and played
 pub record Plays (file : List ℕ) (old new : Outside) (told : Option GateFault) (status : ℕ) : Type 0 where
   pub played : Result (Unit {0}) PlayFault
   pub status_is : status ≡ play_status played
-  pub runs : Runs (old.house.contents file) old.house.sources new.house.sources old.got new.got old.waits played
+  pub runs : Runs (old.house.contents file) old.house.sources new.house.sources old.sink.got new.sink.got old.sink.waits played
   pub asks : AsksOnce old.house.asks new.house.asks file played
-  pub cause : PlayCause old.house.source_faults new.house.source_faults old.sink_faults new.sink_faults played
+  pub cause : PlayCause old.house.source_faults new.house.source_faults old.sink.faults new.sink.faults played
   pub rest : LeavesRest old.house new.house
-  pub team : LeavesTeam old new
+  pub teams : LeavesTeams old new
   pub fault : TellsFault told (play_fault played) (played ≡ Err play.Memory)
 
 -- `load SEED`: the load with that seed is run, with clocks that the house lends
 pub record RunsLoad (R : Type 0) (seed : ℕ) (old new : Outside) (told : Option GateFault) (status : ℕ) : Type 0 where
   pub loaded : Result (Unit {0}) LoadFault
   pub status_is : status ≡ load_status loaded
-  pub loads : Loads seed old.got new.got old.waits loaded
-  pub cause : HasLoadCause R seed old.team_faults new.team_faults old.sink_faults new.sink_faults loaded
-  pub starts : StartsParts old.starts new.starts loaded
-  pub clocks : LendsClocks old.house new.house
+  pub loads : Loads seed old.sink.got new.sink.got old.sink.waits loaded
+  pub cause : HasLoadCause R seed old.load_team.faults new.load_team.faults old.sink.faults new.sink.faults loaded
+  pub starts : StartsParts old.load_team.starts new.load_team.starts loaded
+  pub clocks : LendsClocks 15 old.house new.house
+  pub serve_team : new.serve_team ≡ old.serve_team
   pub fault : TellsFault told (load_fault loaded) (loaded ≡ Err ends.Memory)
+
+-- `serve PORT WORKERS ACCEPTS FILES`: those who connect are served, with sources, doors and clocks that the house lends
+pub record RunsServe (R : Type 0) (port workers accepts : ℕ) (files : List (List ℕ)) (old new : Outside) (told : Option GateFault) (status : ℕ) : Type 0 where
+  pub ended : Result (Unit {0}) ServeFault
+  pub status_is : status ≡ serve_status ended
+  pub serves : ServesFiles R port workers accepts files old.house new.house old.sink new.sink old.serve_team new.serve_team ended
+  pub load_team : new.load_team ≡ old.load_team
+  pub fault : TellsFault told (serve_fault ended) (ended ≡ Err serving.Memory)
 
 -- what is done for what the words ask for
 abbrev pub Does : (R : Type 0) → Option Command → (old new : Outside) → (told : Option GateFault) → (status : ℕ) → Type 0
 Does R None old new told status = Refuses old new told status
 Does R (Some (run file)) old new told status = Plays file old new told status
 Does R (Some (load seed)) old new told status = RunsLoad R seed old new told status
+Does R (Some (serve port workers accepts files)) old new told status = RunsServe R port workers accepts files old new told status

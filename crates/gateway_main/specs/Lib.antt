@@ -1,3 +1,2 @@
 pub mod Usage
-pub mod Clocks
 pub mod Gate

@@ -6,6 +6,7 @@ use edit_text::LineFault;
 use gate_outside::std_house::STANDARD_INPUT;
 use load_run::LoadFault;
 use scenario::PlayFault;
+use serve_ends::ServeFault;
 use std::io;
 use std::io::Eprint;
 
@@ -34,7 +35,10 @@ fn tell_words<R: Eprint>(rt: &R, words: &[String]) -> io::Result<()> {
             "load" => eprintln!(rt;
                 "gate: load takes one seed, a number below 2^64 in digits (status 2; see README.md)"
             ),
-            "serve" | "client" => {
+            "serve" => eprintln!(rt;
+                "gate: serve takes a port, 1 to 65532, a number of workers, 1 to 4, of connections that each accepts, 1 to 1000000, and 1 to 12 files (status 2; see README.md)"
+            ),
+            "client" => {
                 eprintln!(rt; "gate: {command} is not built yet (status 2; see README.md)")
             }
             word => eprintln!(rt;
@@ -101,6 +105,51 @@ fn tell_load<R: Eprint>(rt: &R, seed: &str, fault: LoadFault) -> io::Result<()> 
     }
 }
 
+// The word that names a file of `serve`, by its number from 1.
+fn word_of(files: &[String], number: u8) -> &str {
+    match files.get(usize::from(number).saturating_sub(1)) {
+        Some(file) if file.as_str() == STANDARD_INPUT => "standard input",
+        Some(file) => file.as_str(),
+        None => "a file",
+    }
+}
+
+// Says why a run of `serve` did not come to its end.
+fn tell_serve<R: Eprint>(
+    rt: &R,
+    port: &str,
+    files: &[String],
+    fault: ServeFault,
+) -> io::Result<()> {
+    match fault {
+        ServeFault::Read => {
+            eprintln!(rt;
+                "gate: a file of serve {port} cannot be read (status 3; see docs/SERVE.md)"
+            )
+        }
+        ServeFault::Write => eprintln!(rt;
+            "gate: cannot write the lines of serve {port} (status 4; see docs/SERVE.md)"
+        ),
+        ServeFault::Line { file, line, fault } => eprintln!(rt;
+            "gate: line {line} of {}: {} (status 5; see docs/STEPS.md)",
+            Shown(word_of(files, file)),
+            line_is(fault)
+        ),
+        ServeFault::Memory => {
+            eprintln!(rt; "gate: out of memory in serve {port} (status 6; see docs/SERVE.md)")
+        }
+        ServeFault::Door => eprintln!(rt;
+            "gate: a port of serve {port} cannot be listened on, or its door failed (status 7; see docs/SERVE.md)"
+        ),
+        ServeFault::Start => eprintln!(rt;
+            "gate: a thread of serve {port} did not start (status 8; see docs/SERVE.md)"
+        ),
+        ServeFault::Spent => eprintln!(rt;
+            "gate: a count is at its last value in serve {port} (status 12; see docs/SERVE.md)"
+        ),
+    }
+}
+
 /// Says that memory ran out before there were words.
 pub fn tell_memory<R: Eprint>(rt: &R) -> io::Result<()> {
     eprintln!(rt; "gate: out of memory (status 6; see docs/TRANSCRIPT.md)")
@@ -121,6 +170,9 @@ pub fn tell<R: Eprint>(
     match (fault, words) {
         (Some(GateFault::Play(fault)), [_, file]) => tell_play(rt, file.as_str(), fault),
         (Some(GateFault::Load(fault)), [_, seed]) => tell_load(rt, seed.as_str(), fault),
+        (Some(GateFault::Serve(fault)), [_, port, _, _, files @ ..]) => {
+            tell_serve(rt, port.as_str(), files, fault)
+        }
         _ if status == NO_MEMORY => tell_memory(rt),
         _ => tell_words(rt, words),
     }

@@ -2,6 +2,7 @@
 
 use load_run::LoadFault;
 use scenario::PlayFault;
+use serve_ends::ServeFault;
 
 /// Why a command did not come to its end.
 #[derive(Clone, Copy, Debug)]
@@ -10,4 +11,6 @@ pub enum GateFault {
     Play(PlayFault),
     /// A load ended by this fault.
     Load(LoadFault),
+    /// A run of `serve` ended by this fault.
+    Serve(ServeFault),
 }

@@ -2,18 +2,24 @@
 
 ghost use Rattle.std.specs.Prelude.{◌≡◌, None, map, string_bytes};
 ghost use Rattle.world_law.specs.TheLaw.{TheLaw};
-ghost use Rattle.gate_words.specs.Words.{command_of};
-ghost use Rattle.gateway_main.specs.Gate.{Outside, Does};
+ghost use Rattle.serve_words.specs.Words.{command_of};
+ghost use Rattle.serve_house.specs.Serving.{sink_tale, team_tale};
+ghost use Rattle.gateway_main.specs.Gate.{outside, Does};
 
 use crate::fault::GateFault;
 use crate::loading::run_load;
 use crate::playing::run;
 use crate::refusing::refuse;
-use crate::statuses::{NO_MEMORY, load_fault, load_status, play_fault, play_status};
+use crate::statuses::{
+    NO_MEMORY, load_fault, load_status, play_fault, play_status, serve_fault, serve_status,
+};
+use gate_outside::doors::Door;
 use gate_outside::houses::House;
 use gate_outside::spawners::Spawner;
-use gate_words::{Command, read_words};
 use load_parts::LoadPart;
+use serve_house::run_serve;
+use serve_parts::ServePart;
+use serve_words::{Command, read_words};
 use std::alloc::Global;
 use std::sync::Wait;
 use std::time;
@@ -29,39 +35,45 @@ use world_law::the_law;
 /// client's link gives a code after which no client may connect again, 11 if it gives a text that is no
 /// payload, 12 if a count is at its last value.
 ///
+/// `serve PORT WORKERS ACCEPTS FILES` serves those who connect to the ports from PORT on, one for each worker, while
+/// the scripts of the files run, whose parts the other team starts: 0, or 3 if a file cannot be read, 4 if the sink
+/// fails, 5 if a line is no step, 6 if memory runs out, 7 if a port cannot be listened on or its door fails, 8 if a
+/// part does not start, 12 if a count is at its last value.
+///
 /// For other words it writes the usage line and answers 2, or 6 if memory runs out.
 ///
-/// What waited before the sink goes out first. `fault` is then why a play or a load did not come to its
+/// What waited before the sink goes out first. `fault` is then why a play, a load or a run of `serve` did not come to its
 /// end; `None` if it did, or if memory ran out before it began.
-pub fn gate<R: Wait + time::Clock + Copy + Drop, H: House, S: Spawner<LoadPart<H::Time, R>>>(
+pub fn gate<
+    R: Wait + time::Clock + Copy + Drop,
+    H: House,
+    S: Spawner<LoadPart<H::Time, R>>,
+    T: Spawner<ServePart<H::In, H::Gate, H::Time, R>>,
+>(
     rt: R,
     alloc: Global,
     words: &[String],
     house: &mut H,
     sink: &mut H::Out,
-    team: &mut S,
+    load_team: &mut S,
+    serve_team: &mut T,
     fault: &mut Option<GateFault>,
 ) -> u8
 where
+    H::In: Drop,
+    H::Gate: Drop,
     H::Time: Drop,
+    <H::Gate as Door>::Wire: Drop,
     ensures words { result ≡ 2 → command_of (map string_bytes words.now) ≡ None }
     ensures does { Does R (command_of (map string_bytes words.now))
-        (record {
-          house = H.house_tale house.old;
-          got = H.Out.got sink.old;
-          waits = H.Out.waits sink.old;
-          sink_faults = H.Out.faults sink.old;
-          starts = S.starts team.old;
-          team_faults = S.faults team.old;
-        })
-        (record {
-          house = H.house_tale house.new;
-          got = H.Out.got sink.new;
-          waits = H.Out.waits sink.new;
-          sink_faults = H.Out.faults sink.new;
-          starts = S.starts team.new;
-          team_faults = S.faults team.new;
-        })
+        (outside (H.house_tale house.old)
+        (sink_tale (H.Out.got sink.old) (H.Out.waits sink.old) (H.Out.faults sink.old))
+        (team_tale (S.starts load_team.old) (S.faults load_team.old))
+        (team_tale (T.starts serve_team.old) (T.faults serve_team.old)))
+        (outside (H.house_tale house.new)
+        (sink_tale (H.Out.got sink.new) (H.Out.waits sink.new) (H.Out.faults sink.new))
+        (team_tale (S.starts load_team.new) (S.faults load_team.new))
+        (team_tale (T.starts serve_team.new) (T.faults serve_team.new)))
         fault.new result }
     ensures dial { H.tale house.new ≡ H.tale house.old }
     ensures dial_faults { H.faults house.new ≡ H.faults house.old }
@@ -80,9 +92,23 @@ where
             play_status(&played)
         }
         Some(Command::Load { seed }) => {
-            let loaded = run_load(rt, alloc, seed, house, sink, team);
+            let loaded = run_load(rt, alloc, seed, house, sink, load_team);
             *fault = load_fault(&loaded);
             load_status(&loaded)
+        }
+        Some(
+            Command::Serve {
+                port,
+                workers,
+                accepts,
+                files,
+            },
+        ) => {
+            let ended = run_serve(
+                rt, alloc, port, workers, accepts, files, house, sink, serve_team,
+            );
+            *fault = serve_fault(&ended);
+            serve_status(&ended)
         }
     }
 }

@@ -1,7 +1,6 @@
 //! The program `gate`.
 #![tactic(auto)]
 
-mod clocks;
 mod complaint;
 mod fault;
 mod gate;
@@ -14,17 +13,18 @@ mod team;
 
 use complaint::{tell, tell_memory, tell_no_text};
 use gate_outside::buffered_sink::BufferedSink;
-use gate_outside::no_network::NoNetwork;
 use gate_outside::std_house::RealHouse;
 use gate_outside::std_streams::StdoutSink;
+use link_edge::socket_network::SocketNetwork;
 use load_parts::with_part_threads;
+use serve_parts::with_serve_threads;
 use statuses::{BAD_WORDS, NO_MEMORY};
 use std::alloc::Alloc;
 use std::env::Env;
 use std::io::ErrorKind;
 use std::process::ExitCode;
 use std::{env, io};
-use team::{Ended, GateWork};
+use team::{Ended, GateWork, LoadWork, ServeWork};
 
 // The words after the program's name.
 fn words_of<R: Env + Alloc>(rt: &R) -> io::Result<Vec<String<R::A>, R::A>> {
@@ -33,6 +33,14 @@ fn words_of<R: Env + Alloc>(rt: &R) -> io::Result<Vec<String<R::A>, R::A>> {
         words.push(word)?;
     }
     Ok(words)
+}
+
+// Whether the first word is `serve`.
+fn is_serve(words: &[String]) -> bool {
+    match words {
+        [command, ..] => command.as_str() == "serve",
+        [] => false,
+    }
 }
 
 fn main(rt: HostRuntime) -> io::Result<ExitCode> {
@@ -57,10 +65,15 @@ fn main(rt: HostRuntime) -> io::Result<ExitCode> {
         rt,
         alloc: rt.alloc(),
         words: words.as_slice(),
-        house: RealHouse::new(rt, NoNetwork::new()),
+        house: RealHouse::new(rt, SocketNetwork::new(rt.alloc(), rt)),
         sink,
     };
-    let Ended { status, fault } = with_part_threads(&rt, rt.alloc(), Vec::new(rt.alloc()), work);
+    let none_fails = Vec::new(rt.alloc());
+    let Ended { status, fault } = if is_serve(words.as_slice()) {
+        with_serve_threads(&rt, rt.alloc(), none_fails, ServeWork(work))
+    } else {
+        with_part_threads(&rt, rt.alloc(), none_fails, LoadWork(work))
+    };
     // If standard error takes nothing, the status still says what happened.
     if status == BAD_WORDS && !is_text {
         let _ = tell_no_text(&rt);

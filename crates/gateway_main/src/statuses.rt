@@ -1,12 +1,13 @@
 //! The exit statuses of the command, and the faults that they tell.
 
 ghost use Rattle.std.specs.Prelude.{◌≡◌};
-ghost use Rattle.gateway_main.specs.Gate.{play_status, play_fault, load_status, load_fault, usage_status};
+ghost use Rattle.gateway_main.specs.Gate.{play_status, play_fault, load_status, load_fault, serve_status, serve_fault, usage_status};
 
 use crate::fault::GateFault;
 use gate_outside::faults::Fault;
 use load_run::LoadFault;
 use scenario::PlayFault;
+use serve_ends::ServeFault;
 
 /// The exit status if the words are not those of a command.
 pub const BAD_WORDS: u8 = 2;
@@ -61,6 +62,32 @@ pub fn load_fault(loaded: &Result<(), LoadFault>) -> Option<GateFault>
     match loaded {
         Ok(()) => None,
         Err(fault) => Some(GateFault::Load(*fault)),
+    }
+}
+
+/// The exit status of a run of `serve`.
+pub fn serve_status(ended: &Result<(), ServeFault>) -> u8
+    ensures { result ≡ serve_status ended.now }
+{
+    match ended {
+        Ok(()) => 0,
+        Err(ServeFault::Read) => 3,
+        Err(ServeFault::Write) => 4,
+        Err(ServeFault::Line { .. }) => 5,
+        Err(ServeFault::Memory) => NO_MEMORY,
+        Err(ServeFault::Door) => 7,
+        Err(ServeFault::Start) => 8,
+        Err(ServeFault::Spent) => 12,
+    }
+}
+
+/// Why a run of `serve` did not come to its end.
+pub fn serve_fault(ended: &Result<(), ServeFault>) -> Option<GateFault>
+    ensures { result ≡ serve_fault ended.now }
+{
+    match ended {
+        Ok(()) => None,
+        Err(fault) => Some(GateFault::Serve(*fault)),
     }
 }
 

@@ -1,15 +1,36 @@
-use Rattle.std.proofs.Common.{map, string_bytes}
-use Rattle.gate_words.specs.Words.{command_of}
+use Rattle.std.proofs.Common.{◌∙◌, map, string_bytes, option_map, sym, ap, arith}
+use Rattle.std.proofs.lemmas.List.{length-map}
+use Rattle.serve_words.specs.Words.{asked, command_of}
+use Rattle.serve_house.specs.Serving.{sink_tale, team_tale}
+use Rattle.gateway_main.specs.Gate.{outside}
+use Rattle.gateway_main.proofs.Bounds.{are_bounded}
 use Rattle.gateway_main.proofs.Commands.{out_of_memory}
 use Rattle.gateway_main.proofs.gate.gate.Goals as goal
 
 -- out of memory while the words are read
 pub returns-in_default-clause-does : goal.returns-in_default-clause-does
-returns-in_default-clause-does g c = out_of_memory (record {
-  house = g.H.Dial.house_tale c.args.house.now;
-  got = g.H.Out.Sink.got c.args.sink.now;
-  waits = g.H.Out.Sink.waits c.args.sink.now;
-  sink_faults = g.H.Out.Sink.faults c.args.sink.now;
-  starts = g.S.Spawner.starts c.args.team.now;
-  team_faults = g.S.Spawner.faults c.args.team.now;
-}) g.row.R.Denot (command_of (map string_bytes c.args.words.now))
+returns-in_default-clause-does g c = out_of_memory (outside (g.H.Dial.house_tale c.args.house.now)
+    (sink_tale (g.H.Out.Sink.got c.args.sink.now) (g.H.Out.Sink.waits c.args.sink.now) (g.H.Out.Sink.faults c.args.sink.now))
+    (team_tale (g.S.Spawner.starts c.args.load_team.now) (g.S.Spawner.faults c.args.load_team.now))
+    (team_tale (g.T.Spawner.starts c.args.serve_team.now) (g.T.Spawner.faults c.args.serve_team.now)))
+    g.row.R.Denot (command_of (map string_bytes c.args.words.now))
+
+-- what is served is bounded by the grammar
+pub run_serve-ended-requires-clause-files : goal.run_serve-ended-requires-clause-files
+run_serve-ended-requires-clause-files g c =
+    let are = are_bounded c.in-Some-Serve.port c.in-Some-Serve.workers c.in-Some-Serve.accepts (map string_bytes c.in-Some-Serve.files.now) (map string_bytes c.args.words.now)
+    (sym c.in-Ok.ensures ∙ ap (option_map asked) c.in-Some-Serve.is) in
+    let many = length-map c.in-Some-Serve.files.now string_bytes in
+    (omega (arith, many, are.files_least), omega (arith, many, are.files_most))
+
+pub run_serve-ended-requires-clause-workers : goal.run_serve-ended-requires-clause-workers
+run_serve-ended-requires-clause-workers g c =
+    let are = are_bounded c.in-Some-Serve.port c.in-Some-Serve.workers c.in-Some-Serve.accepts (map string_bytes c.in-Some-Serve.files.now) (map string_bytes c.args.words.now)
+    (sym c.in-Ok.ensures ∙ ap (option_map asked) c.in-Some-Serve.is) in
+    (are.workers_least, are.workers_most)
+
+pub run_serve-ended-requires-clause-ports : goal.run_serve-ended-requires-clause-ports
+run_serve-ended-requires-clause-ports g c =
+    let are = are_bounded c.in-Some-Serve.port c.in-Some-Serve.workers c.in-Some-Serve.accepts (map string_bytes c.in-Some-Serve.files.now) (map string_bytes c.args.words.now)
+    (sym c.in-Ok.ensures ∙ ap (option_map asked) c.in-Some-Serve.is) in
+    omega (arith, are.port_most, are.workers_most)

@@ -1,9 +1,0 @@
-//! The words of the command `gate`: what they ask for, if they are in its grammar.
-#![tactic(auto)]
-
-mod command;
-mod grammar;
-mod reading;
-
-pub use command::Command;
-pub use reading::read_words;
