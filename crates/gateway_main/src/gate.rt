@@ -84,26 +84,26 @@ where
     let Ok(command) = read_words(alloc, words) else {
         return NO_MEMORY;
     };
+    let Some(command) = command else {
+        return refuse(sink);
+    };
     match command {
-        None => refuse(sink),
-        Some(Command::Run { file }) => {
+        Command::Run { file } => {
             let played = run(alloc, file, house, sink);
             *fault = play_fault(&played);
             play_status(&played)
         }
-        Some(Command::Load { seed }) => {
+        Command::Load { seed } => {
             let loaded = run_load(rt, alloc, seed, house, sink, load_team);
             *fault = load_fault(&loaded);
             load_status(&loaded)
         }
-        Some(
-            Command::Serve {
-                port,
-                workers,
-                accepts,
-                files,
-            },
-        ) => {
+        Command::Serve {
+            port,
+            workers,
+            accepts,
+            files,
+        } => {
             let ended = run_serve(
                 rt, alloc, port, workers, accepts, files, house, sink, serve_team,
             );

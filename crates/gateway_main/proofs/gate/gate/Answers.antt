@@ -1,4 +1,4 @@
-use Rattle.std.proofs.Common.{◌∙◌, map, string_bytes, option_map, sym, ap, arith}
+use Rattle.std.proofs.Common.{◌∙◌, map, string_bytes, option_map, Some, sym, ap, arith}
 use Rattle.std.proofs.lemmas.List.{length-map}
 use Rattle.serve_words.specs.Words.{asked, command_of}
 use Rattle.serve_house.specs.Serving.{sink_tale, team_tale}
@@ -18,19 +18,19 @@ returns-in_default-clause-does g c = out_of_memory (outside (g.H.Dial.house_tale
 -- what is served is bounded by the grammar
 pub run_serve-ended-requires-clause-files : goal.run_serve-ended-requires-clause-files
 run_serve-ended-requires-clause-files g c =
-    let are = are_bounded c.in-Some-Serve.port c.in-Some-Serve.workers c.in-Some-Serve.accepts (map string_bytes c.in-Some-Serve.files.now) (map string_bytes c.args.words.now)
-    (sym c.in-Ok.ensures ∙ ap (option_map asked) c.in-Some-Serve.is) in
-    let many = length-map c.in-Some-Serve.files.now string_bytes in
+    let are = are_bounded c.in-Serve.port c.in-Serve.workers c.in-Serve.accepts (map string_bytes c.in-Serve.files.now) (map string_bytes c.args.words.now)
+    (sym c.in-Ok.ensures ∙ (ap (option_map asked) c.in-Some.is ∙ ap (λ x. Some (asked x)) c.in-Serve.is)) in
+    let many = length-map c.in-Serve.files.now string_bytes in
     (omega (arith, many, are.files_least), omega (arith, many, are.files_most))
 
 pub run_serve-ended-requires-clause-workers : goal.run_serve-ended-requires-clause-workers
 run_serve-ended-requires-clause-workers g c =
-    let are = are_bounded c.in-Some-Serve.port c.in-Some-Serve.workers c.in-Some-Serve.accepts (map string_bytes c.in-Some-Serve.files.now) (map string_bytes c.args.words.now)
-    (sym c.in-Ok.ensures ∙ ap (option_map asked) c.in-Some-Serve.is) in
+    let are = are_bounded c.in-Serve.port c.in-Serve.workers c.in-Serve.accepts (map string_bytes c.in-Serve.files.now) (map string_bytes c.args.words.now)
+    (sym c.in-Ok.ensures ∙ (ap (option_map asked) c.in-Some.is ∙ ap (λ x. Some (asked x)) c.in-Serve.is)) in
     (are.workers_least, are.workers_most)
 
 pub run_serve-ended-requires-clause-ports : goal.run_serve-ended-requires-clause-ports
 run_serve-ended-requires-clause-ports g c =
-    let are = are_bounded c.in-Some-Serve.port c.in-Some-Serve.workers c.in-Some-Serve.accepts (map string_bytes c.in-Some-Serve.files.now) (map string_bytes c.args.words.now)
-    (sym c.in-Ok.ensures ∙ ap (option_map asked) c.in-Some-Serve.is) in
+    let are = are_bounded c.in-Serve.port c.in-Serve.workers c.in-Serve.accepts (map string_bytes c.in-Serve.files.now) (map string_bytes c.args.words.now)
+    (sym c.in-Ok.ensures ∙ (ap (option_map asked) c.in-Some.is ∙ ap (λ x. Some (asked x)) c.in-Serve.is)) in
     omega (arith, are.port_most, are.workers_most)
