@@ -3,7 +3,8 @@
 
 For SECONDS (600) kinds of hostile peers come one after another at a worker of PROGRAM (out/gate): peers without a handshake, or with half
 of one, or with one byte by byte; half a frame, random bytes (by a seed, SEED or 1), huge messages, an end in the middle of a
-message; CONNECTIONS (10,000) that come one after another; and 64 that never read. All the time the guild is renamed, and a
+message; CONNECTIONS (10,000) that come one after another; and 63 that never read, beside
+whom a worker has no room but for the good one. All the time the guild is renamed, and a
 bot at the same worker is sent each name, in order and under the next number. For each kind the peak of the server's memory is
 said. At the end the rest of its connections come and go, so that it ends by itself; if it does not, it is killed."""
 import json
@@ -193,8 +194,8 @@ def huge_messages(host):
 
 
 def never_read(host):
-    """64 sessions whose peers never read. One of them is over the worker's limit. They end their sessions at last."""
-    peers = [host.upgraded() for _ in range(64)]
+    """63 sessions whose peers never read, as many as a worker has beside the good one. They end their sessions at last."""
+    peers = [host.upgraded() for _ in range(63)]
     for peer in peers:
         push(peer, masked(TEXT, json.dumps({"op": 2, "d": {"token": "t1", "intents": NOISY, "properties": {}}}).encode()))
     for _ in range(max(1, UNREAD_BYTES // (2200 * MESSAGES_AT_ONCE))):
