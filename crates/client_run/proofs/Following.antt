@@ -1,5 +1,5 @@
 -- Visits one after another, and what the client holds after them.
-use Rattle.std.proofs.Common.{◌+◌, arith, length, ◌≡◌, ℕ, ◌<◌, List, [], ◌∷◌, ◌++◌, map, Bool, true, false, Option, Some, None, refl, sym, ap, subst, ◌∙◌, append_assoc, append-nil, inl, inr}
+use Rattle.std.proofs.Common.{◌+◌, arith, length, ◌≡◌, ◌⊎◌, ℕ, ◌<◌, List, [], ◌∷◌, ◌++◌, map, Bool, true, false, Option, Some, None, refl, sym, ap, subst, ◌∙◌, append_assoc, append-nil, inl, inr}
 use Rattle.std.specs.Prelude.{filter, ◌==◌, ◌&&◌, Result, Ok, Err, if◌then◌else◌, option_to_list}
 use Rattle.std.specs.List.{list_all}
 use Rattle.std.proofs.lemmas.List.{map-append, length-append}
@@ -24,10 +24,12 @@ use Rattle.client_run.specs.declared.driven.Driven.{Driven}
 use Rattle.client_run.specs.declared.driven.Driven.TheVariants as driven
 use Rattle.client_run.specs.declared.fault.DriveFault.{DriveFault}
 use Rattle.client_run.specs.declared.fault.DriveFault.TheVariants as fault
-use Rattle.client_run.specs.Histories.{dropped, is_dropped, Told, Visit, Missed, Opened, events, dispatches, url_of, told_of, all_told, left_to, is_left, StepsAll}
+use Rattle.client_run.specs.Histories.{dropped, is_dropped, Told, Visit, Missed, Opened, events, lines, dispatches, url_of, told_of, all_told, left_to, is_left, StepsAll}
 use Rattle.client_run.specs.Links.{AllMeet}
-use Rattle.client_run.specs.Drives.{Sees, Outside, Goes, Leads, after_visit, EndsWith, IsFinished, IsStopped, IsOut, IsBadText, Answers, Drives, Folds}
+use Rattle.client_run.specs.Watched.{HasToldFront}
+use Rattle.client_run.specs.Drives.{Seen, Sees, Outside, Goes, Leads, after_visit, EndsWith, IsFinished, IsStopped, IsOut, IsBadText, Answers, Drives, Folds}
 use Rattle.client_run.proofs.Telling.{events_more}
+use Rattle.client_run.proofs.Lines.{lines_more, front_more}
 use Rattle.client_run.proofs.Turning.{sees_more}
 
 -- ---- one after another
@@ -99,13 +101,23 @@ answers_more vs us (Err fault.BadText) h k = ends_more IsBadText vs us h k
 answers_more vs us (Err fault.Dials) h k = tt
 answers_more vs us (Err fault.Memory) h k = tt
 
+module _ (vs us : List Visit) (a b c : Seen) (saw : Sees a (events (all_told vs)) b) where
+  more_front : HasToldFront b.told (lines (events (all_told us))) c.told → HasToldFront a.told (lines (events (all_told (vs ++ us)))) c.told
+  more_front h =
+      subst (λ (ls : List (List ℕ)). HasToldFront a.told ls c.told) (sym (ap (λ (ts : List Told). lines (events ts)) (told_more vs us) ∙ ap lines (events_more (all_told vs) (all_told us)) ∙ lines_more (events (all_told vs)) (events (all_told us))))
+      (front_more a.told b.told c.told (lines (events (all_told vs))) (lines (events (all_told us))) saw.told h)
+
+  more_or : {P : Type 0} (t : Seen) → (P × HasToldFront b.told (lines (events (all_told us))) c.told) ⊎ (c ≡ t) → (P × HasToldFront a.told (lines (events (all_told (vs ++ us)))) c.told) ⊎ (c ≡ t)
+  more_or t (inl e) = inl (e.0, more_front e.1)
+  more_or t (inr e) = inr e
+
 pub drives_more : (first : List ℕ) (target mid : Target) (vs us : List Visit) (a b c : Outside) (r : Result Driven DriveFault) → Goes first target vs mid a b → list_all is_left vs ≡ true → Drives first mid us b c r
     → Drives first target (vs ++ us) a c r
 drives_more first target mid vs us a b c r h left k = record {
   last = k.last;
   seen = k.seen;
   goes = goes_more first target mid k.last vs us a b (record c { seen = k.seen }) h k.goes;
-  time = k.time;
+  time = more_or vs us a.seen b.seen c.seen h.sees k.seen k.time;
   dry_run = k.dry_run;
   answers = answers_more vs us r left k.answers;
 }

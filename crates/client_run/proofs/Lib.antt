@@ -1,3 +1,4 @@
+pub mod Lines
 mod Sent
 mod Telling
 mod Shapes

@@ -5,8 +5,7 @@ use Rattle.gate_outside.specs.declared.sending.Sending.{Sending}
 use Rattle.gate_outside.specs.declared.sending.Sending.TheVariants as sending
 use Rattle.gate_outside.specs.declared.faults.Fault.{Fault}
 use Rattle.gate_outside.specs.declared.faults.Fault.TheVariants as outside
-use Rattle.open_links.specs.Links.{IsFrontIfTold, with_more}
-use Rattle.open_links.proofs.Meeting.{with_none, with_two}
+use Rattle.open_links.specs.Links.{IsFrontIfTold}
 use Rattle.client_cache.specs.Cached.{Cached}
 use Rattle.client_session.specs.declared.act.Act.{Act}
 use Rattle.client_session.specs.declared.received.Received.{Received}
@@ -20,19 +19,22 @@ use Rattle.client_run.specs.declared.ending.Ending.{Ending}
 use Rattle.client_run.specs.declared.ending.Ending.TheVariants as ending
 use Rattle.client_run.specs.declared.fault.DriveFault.{DriveFault}
 use Rattle.client_run.specs.declared.fault.DriveFault.TheVariants as fault
-use Rattle.client_run.specs.Histories.{numbers, number_in, is_loss, lost_last, Dropped, are_turns, Told, told, Left, Finished, Stopped, Unread, Cut, events, sendings, given, dial_in, left_to}
+use Rattle.client_run.specs.Histories.{lines, line_in, is_loss, lost_last, Dropped, are_turns, Told, told, Left, Finished, Stopped, Unread, Cut, events, sendings, given, dial_in, left_to}
 use Rattle.client_run.specs.Links.{Gave}
+use Rattle.client_run.specs.Watched.{WatchTale, HasTold}
 use Rattle.client_run.specs.Turns.{IsToldOf, IsDrop, go_on, may_hear, Line, IsSent, FailsAt, Meets, IsAnswered, Ends, IsLost, Stands, Moves, IsLoss, by_client}
+use Rattle.client_run.proofs.Lines.{told_nothing}
 use Rattle.client_run.proofs.Telling.{lost_by, turns_of, turns_lost, hears_on, events_more, given_more, left_by, gave_told, sent_front, ends_by, ends_with, ends_cut}
 
 -- the client is told nothing more
-pub stays : (now : ℕ) (before : List Told) (c : ClientState Cached) (known later : Option (List ℕ)) (r : Result (Option Ending) DriveFault) (l : Line) → IsToldOf known [] later r → Stands before r l
-    → Moves now before c c known later r l
-stays now before c known later r l t h = ([], (refl, (λ clock e. refl, (t, subst (λ (ts : List Told). Stands ts r l) (sym (append-nil before)) h))))
+pub stays : (now : ℕ) (before : List Told) (owed : List (List ℕ)) (c : ClientState Cached) (known later : WatchTale) (r : Result (Option Ending) DriveFault) (l : Line) → IsToldOf known owed later r → Stands before r l
+    → Moves now before owed c c known later r l
+stays now before owed c known later r l t h =
+    ([], (refl, (λ clock e. refl, (subst (λ (ls : List (List ℕ)). IsToldOf known ls later r) (sym (append-nil owed)) t, subst (λ (ts : List Told). Stands ts r l) (sym (append-nil before)) h))))
 
--- nor is the watcher
-pub told_none : {A : Type 0} (r : Result A DriveFault) (known later : Option (List ℕ)) → later ≡ known → IsToldOf known [] later r
-told_none r known later same = inr (same ∙ sym (with_none known))
+-- and the watcher tells nothing more
+pub told_none : {A : Type 0} (r : Result A DriveFault) (known later : WatchTale) → later ≡ known → IsToldOf known [] later r
+told_none r known later same = inr (subst (λ (t : WatchTale). HasTold known [] t) (sym same) (told_nothing known))
 
 -- ---- the loss of a connection
 
@@ -67,8 +69,8 @@ module _ (before : List Told) (code : Option ℕ) (acts : List Act) (l : Line) (
   loss_stands (Err fault.Dials) is = absurd is
   loss_stands (Err fault.Memory) is = absurd is
 
-pub loses : (now : ℕ) (before : List Told) (code : Option ℕ) (old new : ClientState Cached) (known later : Option (List ℕ)) (r : Result (Option Ending) DriveFault) (l : Line) → later ≡ known → IsLost code before l
-    → (acts : List Act) × (StepsTo old (Loses code) new acts × IsLoss code acts r) → Moves now before old new known later r l
+pub loses : (now : ℕ) (before : List Told) (code : Option ℕ) (old new : ClientState Cached) (known later : WatchTale) (r : Result (Option Ending) DriveFault) (l : Line) → later ≡ known → IsLost code before l
+    → (acts : List Act) × (StepsTo old (Loses code) new acts × IsLoss code acts r) → Moves now before [] old new known later r l
 loses now before code old new known later r l same h does =
     (told (Loses code) does.0 ∷ [], ((new, (does.1.0, refl)), (λ clock e. refl, (told_none r known later same, loss_stands before code does.0 l h r does.1.1))))
 
@@ -91,10 +93,11 @@ module _ (before : List Told) (acts : List Act) (l : Line) (m : Meets before [] 
   drop_stands (Ok None) is = absurd is
   drop_stands (Err f) is = absurd is
 
-pub drops : (now : ℕ) (before : List Told) (old new : ClientState Cached) (known later : Option (List ℕ)) (r : Result (Option Ending) DriveFault) (l : Line) → later ≡ known → Meets before [] l
-    → (acts : List Act) × (StepsTo old (Loses None) new acts × IsDrop acts r) → Moves now before old new known later r l
-drops now before old new known later r l same m does =
-    (told (Loses None) does.0 ∷ [], ((new, (does.1.0, refl)), (λ clock e. refl, (told_none r known later same, drop_stands before does.0 l m r does.1.1))))
+pub drops : (now : ℕ) (before : List Told) (owed : List (List ℕ)) (old new : ClientState Cached) (known later : WatchTale) (r : Result (Option Ending) DriveFault) (l : Line) → HasTold known owed later → Meets before [] l
+    → (acts : List Act) × (StepsTo old (Loses None) new acts × IsDrop acts r) → Moves now before owed old new known later r l
+drops now before owed old new known later r l same m does =
+    let tells : IsToldOf known (owed ++ []) later r = inr (subst (λ (ls : List (List ℕ)). HasTold known ls later) (sym (append-nil owed)) same) in
+    (told (Loses None) does.0 ∷ [], ((new, (does.1.0, refl)), (λ clock e. refl, (tells, drop_stands before does.0 l m r does.1.1))))
 
 -- ---- the watcher
 
@@ -148,14 +151,9 @@ answered_at before payload text now acts l may is m = record {
   sent = m.sent;
 }
 
--- the watcher is told of it first
-more_told : {A : Type 0} (r : Result A DriveFault) (known later : Option (List ℕ)) (ns ms : List ℕ) → IsToldOf (with_more known ns) ms later r → IsToldOf known (ns ++ ms) later r
-more_told r known later ns ms (inl e) = inl e
-more_told r known later ns ms (inr e) = inr (e ∙ with_two known ns ms)
-
 -- the client is told it first
-pub told_first : (now : ℕ) (before : List Told) (payload : Received) (acts : List Act) (old mid new : ClientState Cached) (known later : Option (List ℕ)) (r : Result (Option Ending) DriveFault) (l : Line)
-    → StepsTo old (Receives payload now) mid acts → Moves now (before ++ told (Receives payload now) acts ∷ []) mid new (with_more known (option_to_list (number_in payload))) later r l → Moves now before old new known later r l
+pub told_first : (now : ℕ) (before : List Told) (payload : Received) (acts : List Act) (old mid new : ClientState Cached) (known later : WatchTale) (r : Result (Option Ending) DriveFault) (l : Line)
+    → StepsTo old (Receives payload now) mid acts → Moves now (before ++ told (Receives payload now) acts ∷ []) (option_to_list (line_in payload)) mid new known later r l → Moves now before [] old new known later r l
 told_first now before payload acts old mid new known later r l steps moves = (
   told (Receives payload now) acts ∷ moves.0,
   (
@@ -163,7 +161,7 @@ told_first now before payload acts old mid new known later r l steps moves = (
     (
       λ clock e. (sym e, moves.1.1.0 clock e),
       (
-        more_told r known later (option_to_list (number_in payload)) (numbers (events moves.0)) moves.1.1.1.0,
+        moves.1.1.1.0,
         subst (λ (ts : List Told). Stands ts r l) (append_assoc before (told (Receives payload now) acts ∷ []) moves.0) moves.1.1.1.1,
       ),
     ),
@@ -175,12 +173,12 @@ refused : (before : List Told) (text : List ℕ) (f : ClientFault) (l : Line) �
 refused before text f l (inl e) m = subst (λ (x : ClientFault). Stands before (Err (by_client x)) l) (sym e) (Some text, ends_cut before (Some text) l m.turns m.gave m.sent.front)
 refused before text f l (inr e) m = subst (λ (x : ClientFault). Stands before (Err (by_client x)) l) (sym e.0) (text, (ends_with before (Unread text) l false refl (λ e. absurd (cc)) (turns_of false (events before) m.turns) m.gave m.sent, e.1))
 
-pub text_refused : (now : ℕ) (before : List Told) (text : List ℕ) (old new : ClientState Cached) (known : Option (List ℕ)) (f : ClientFault) (d : DriveFault) (l : Line) → new ≡ old → d ≡ by_client f
-    → (f ≡ client.Memory) ⊎ ((f ≡ client.BadText) × IsUnread text) → Meets before (sending.Text text ∷ []) l → Moves now before old new known known (Err d) l
+pub text_refused : (now : ℕ) (before : List Told) (text : List ℕ) (old new : ClientState Cached) (known : WatchTale) (f : ClientFault) (d : DriveFault) (l : Line) → new ≡ old → d ≡ by_client f
+    → (f ≡ client.Memory) ⊎ ((f ≡ client.BadText) × IsUnread text) → Meets before (sending.Text text ∷ []) l → Moves now before [] old new known known (Err d) l
 text_refused now before text old new known f d l same is why m =
     let r : Result (Option Ending) DriveFault = Err (by_client f) in
-    subst (λ (c : ClientState Cached). Moves now before old c known known (Err d) l) (sym same)
-    (subst (λ (x : DriveFault). Moves now before old old known known (Err x) l) (sym is) (stays now before old known known r l (told_none r known known refl) (refused before text f l why m)))
+    subst (λ (c : ClientState Cached). Moves now before [] old c known known (Err d) l) (sym same)
+    (subst (λ (x : DriveFault). Moves now before [] old old known known (Err x) l) (sym is) (stays now before [] old known known r l (told_none r known known refl) (refused before text f l why m)))
 
 pub fails_front : (xs : List Sending) (l : Line) (f : Fault) → FailsAt xs l f → IsFrontIfTold xs l.tale.sent
 fails_front xs l outside.Failed h = h.0

@@ -4,6 +4,7 @@ use Rattle.std.specs.Prelude.{is_some, ◌==◌, if◌then◌else◌, option_to_
 use Rattle.std.specs.Result.{result_ok}
 use Rattle.gateway_frames.specs.declared.out.Out.{Out}
 use Rattle.gateway_frames.specs.declared.out.Out.TheVariants.{Hello, Ack, Invalid, Reconnect, Resumed}
+use Rattle.gateway_frames.specs.Out.{IsNoDispatch}
 use Rattle.client_cache.specs.Cached.{Cached}
 use Rattle.client_session.specs.declared.act.Act.{Act}
 use Rattle.client_session.specs.declared.act.Act.TheVariants.{Send, DialFirst}
@@ -14,7 +15,7 @@ use Rattle.client_session.specs.declared.received.Received.TheVariants as payloa
 use Rattle.client_session.specs.State.{ClientState}
 use Rattle.client_session.specs.Table.{dial, is_final, is_due_at, other_acts, frame_text, heartbeat}
 use Rattle.client_session.specs.Step.{Event, Receives, Loses, Asks, acts}
-use Rattle.client_run.specs.Histories.{dial_in, number_in}
+use Rattle.client_run.specs.Histories.{dial_in, line_in}
 use Rattle.client_run.specs.Turns.{is_orderly, closed_by}
 
 -- nothing is sent after a close, and where the client stays nothing is closed
@@ -66,11 +67,10 @@ orderly_acts c (Loses None) = one_dial c.session
 orderly_acts c (Loses (Some code)) = by_code (is_final code) (code == 4007) code c.session
 orderly_acts c (Asks now) = record { orderly = beaten_orderly (is_due_at c.heartbeat now) (frame_text (heartbeat c.session)); closes = λ e. asks_close c now }
 
--- to a dispatch it says nothing
-pub dispatch_answered : (c : ClientState Cached) (payload : Received) (now : ℕ) → is_some (number_in payload) ≡ true → acts c (Receives payload now) ≡ []
-dispatch_answered c (payload.Dispatch dispatch number) now e = refl
-dispatch_answered c (payload.Other (Hello interval_ms)) now e = absurd (cc)
-dispatch_answered c (payload.Other Ack) now e = absurd (cc)
-dispatch_answered c (payload.Other (Invalid resumable)) now e = absurd (cc)
-dispatch_answered c (payload.Other Reconnect) now e = absurd (cc)
-dispatch_answered c (payload.Other (Resumed number)) now e = refl
+-- a payload that is no dispatch has no line
+pub other_line : (out : Out) → IsNoDispatch out → line_in (payload.Other out) ≡ None
+other_line (Hello interval_ms) h = refl
+other_line Ack h = refl
+other_line (Invalid resumable) h = refl
+other_line Reconnect h = refl
+other_line (Resumed number) h = absurd h

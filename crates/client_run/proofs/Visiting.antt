@@ -17,9 +17,10 @@ use Rattle.client_run.specs.declared.driven.Driven.{Driven}
 use Rattle.client_run.specs.declared.driven.Driven.TheVariants as driven
 use Rattle.client_run.specs.declared.fault.DriveFault.{DriveFault}
 use Rattle.client_run.specs.declared.fault.DriveFault.TheVariants as fault
-use Rattle.client_run.specs.Histories.{Dropped, dropped, is_left, Told, End, Left, Finished, Stopped, Unread, Cut, Visit, Missed, Opened, events, left_to, StepsAll}
+use Rattle.client_run.specs.Histories.{Dropped, dropped, is_left, Told, End, Left, Finished, Stopped, Unread, Cut, Visit, Missed, Opened, events, lines, all_told, left_to, StepsAll}
 use Rattle.client_run.specs.Links.{Gave}
 use Rattle.client_run.specs.Drives.{Seen, Sees, outside, Goes, url_by, after_visit, EndsWith, IsFinished, IsStopped, IsOut, IsBadText, Answers, DryRun, Drives}
+use Rattle.client_run.specs.Watched.{HasToldFront}
 use Rattle.open_links.proofs.Meeting.{with_none}
 use Rattle.client_run.proofs.Turning.{in_time, sees_none}
 use Rattle.client_run.specs.Turns.{dropped_end, heads_to, Line, Meets, Ends, Visits, Way, Heads, settled, answer_by, Attempts}
@@ -93,8 +94,8 @@ by_dry_is dry (Err fault.BadText) = refl
 by_dry_is dry (Err (fault.Out code)) = refl
 by_dry_is dry (Ok e) = refl
 
-not_late : {A : Type 0} {f : DriveFault} → ((◌≡◌ {A = Result A DriveFault} (Err f) (Err fault.Memory)) → ⊥) → (later t : Seen) → (◌≡◌ {A = Result A DriveFault} (Err f) (Err fault.Memory)) ⊎ (later ≡ t) → later ≡ t
-not_late other later t (inl e) = absurd (other e)
+not_late : {A P : Type 0} {f : DriveFault} → ((◌≡◌ {A = Result A DriveFault} (Err f) (Err fault.Memory)) → ⊥) → (later t : Seen) → ((◌≡◌ {A = Result A DriveFault} (Err f) (Err fault.Memory)) × P) ⊎ (later ≡ t) → later ≡ t
+not_late other later t (inl e) = absurd (other e.0)
 not_late other later t (inr e) = e
 
 -- ---- a link that was used and came back
@@ -119,10 +120,22 @@ module _ (way : Way) (c0 c1 : ClientState Cached) (d0 d1 d2 : DialTale) (t0 t1 :
     sees = subst (λ (us : List Told). Sees t0 (events us) mid) (sym (append-nil ts)) times;
   }
 
-  drives_visit : (ts : List Told) (end : End) (mid : Seen) (r : Result Driven DriveFault) → StepsAll c0 ts c1 → Sees t0 (events ts) mid → Ends ts end l → (r ≡ Err fault.Memory) ⊎ (t1 ≡ mid) → DryRun d2.dry_run r
+  -- what the one visit tells is all
+  of_visit : (ts : List Told) (end : End) (mid : Seen) (r : Result Driven DriveFault) → ((r ≡ Err fault.Memory) × HasToldFront t0.told (lines (events ts)) t1.told) ⊎ (t1 ≡ mid)
+      → ((r ≡ Err fault.Memory) × HasToldFront t0.told (lines (events (all_told (Opened url ts end ∷ [])))) t1.told) ⊎ (t1 ≡ mid)
+  of_visit ts end mid r (inl e) = inl (e.0, subst (λ (us : List Told). HasToldFront t0.told (lines (events us)) t1.told) (sym (append-nil ts)) e.1)
+  of_visit ts end mid r (inr e) = inr e
+
+  -- out of memory as the answer of the whole
+  out_of_time : (ts : List Told) (mid : Seen) → ((◌≡◌ {A = Result Ending DriveFault} (Err fault.Memory) (Err fault.Memory)) × HasToldFront t0.told (lines (events ts)) t1.told) ⊎ (t1 ≡ mid)
+      → ((◌≡◌ {A = Result Driven DriveFault} (Err fault.Memory) (Err fault.Memory)) × HasToldFront t0.told (lines (events ts)) t1.told) ⊎ (t1 ≡ mid)
+  out_of_time ts mid (inl e) = inl (refl, e.1)
+  out_of_time ts mid (inr e) = inr e
+
+  drives_visit : (ts : List Told) (end : End) (mid : Seen) (r : Result Driven DriveFault) → StepsAll c0 ts c1 → Sees t0 (events ts) mid → Ends ts end l → ((r ≡ Err fault.Memory) × HasToldFront t0.told (lines (events ts)) t1.told) ⊎ (t1 ≡ mid) → DryRun d2.dry_run r
       → Answers (Opened url ts end ∷ []) r → Drives way.first way.target (Opened url ts end ∷ []) (outside c0 d0 t0) (outside c1 d2 t1) r
   drives_visit ts end mid r steps times ends time dry answers =
-      record { last = after_visit (left_to ts); seen = mid; goes = goes_visit ts end mid steps times ends; time = time; dry_run = dry; answers = answers }
+      record { last = after_visit (left_to ts); seen = mid; goes = goes_visit ts end mid steps times ends; time = of_visit ts end mid r time; dry_run = dry; answers = answers }
 
   only : (P : Visit → Type 0) (ts : List Told) (end : End) → P (Opened url ts end) → EndsWith P (Opened url ts end ∷ [])
   only P ts end h = record { front = []; last = Opened url ts end; parts = refl; left = refl; ends = h }
@@ -176,7 +189,7 @@ module _ (way : Way) (c0 c1 : ClientState Cached) (d0 d1 d2 : DialTale) (t0 t1 :
         (Opened url v.0 (Unread text) ∷ [], (drives_visit v.0 (Unread text) v.1.1.0.0 (Err fault.BadText) v.1.0 v.1.1.0.1.0 v.1.1.1.1.0 (inr late) (is_less d2.dry_run e) answers, refl))
     settles (Err fault.Dials) high e v = absurd v.1.1.1
     settles (Err fault.Memory) high e v = λ heads.
-        (Opened url v.0 (Cut v.1.1.1.0) ∷ [], (drives_visit v.0 (Cut v.1.1.1.0) v.1.1.0.0 (Err fault.Memory) v.1.0 v.1.1.0.1.0 v.1.1.1.1 (inl refl) tt tt, refl))
+        (Opened url v.0 (Cut v.1.1.1.0) ∷ [], (drives_visit v.0 (Cut v.1.1.1.0) v.1.1.0.0 (Err fault.Memory) v.1.0 v.1.1.0.1.0 v.1.1.1.1 (out_of_time v.0 v.1.1.0.0 v.1.1.0.1.1) tt tt, refl))
 
     pub attempted : (ended : Result Ending DriveFault) (r : Result (Option Driven) DriveFault) → r ≡ answer_by way2.dry_run ended → Heads way2 way3 ended r → Visits c0 c1 t0 t1 ended l
         → (vs : List Visit) × (Attempts way way3 vs (outside c0 d0 t0) (outside c1 d2 t1) r × (dropped vs ≡ dropped_end ended))

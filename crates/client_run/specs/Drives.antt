@@ -20,8 +20,9 @@ use Rattle.client_run.specs.declared.fault.DriveFault.TheVariants as fault
 use Rattle.client_run.specs.declared.watch.Wants.{Wants}
 use Rattle.client_run.specs.declared.watch.Wants.TheVariants as wants
 use Rattle.std.specs.declared.alloc.AllocError.{AllocError}
-use Rattle.client_run.specs.Histories.{Told, told, Left, Finished, Stopped, Unread, Visit, Missed, Opened, events, numbers, dispatches, left_to, url_of, all_told, is_left, StepsAll}
+use Rattle.client_run.specs.Histories.{Told, told, Left, Finished, Stopped, Unread, Visit, Missed, Opened, events, lines, dispatches, left_to, url_of, all_told, is_left, StepsAll}
 use Rattle.client_run.specs.Links.{HaveComeBack}
+use Rattle.client_run.specs.Watched.{WatchTale, HasTold, HasToldFront}
 
 -- ---- where it connects
 
@@ -54,21 +55,20 @@ Timed old (Asks now ∷ es) new = (mid : ClockTale) × (Ticks old mid now × Tim
 Timed old (Receives payload now ∷ es) new = (now ≡ old.latest) × Timed old es new
 Timed old (Loses code ∷ es) new = Timed old es new
 
--- ---- what the watcher is told
+-- ---- what the watcher tells
 
--- what the clock tells, and the numbers of the dispatches that the watcher was told of, where it
--- tells
+-- what the clock and the watcher tell
 pub record Seen : Type 0 where
   pub clock : ClockTale
-  pub told : Option (List ℕ)
+  pub told : WatchTale
 
-abbrev pub seen : ClockTale → Option (List ℕ) → Seen
+abbrev pub seen : ClockTale → WatchTale → Seen
 seen clock told = record { clock = clock; told = told }
 
--- the client is told the clock's moments, and the watcher of each dispatch, in order
+-- the client is told the clock's moments, and the watcher is asked after each dispatch, in order
 pub record Sees (old : Seen) (es : List Event) (new : Seen) : Type 0 where
   pub times : Timed old.clock es new.clock
-  pub told : new.told ≡ with_more old.told (numbers es)
+  pub told : HasTold old.told (lines es) new.told
 
 -- ---- the whole
 
@@ -134,12 +134,12 @@ DryRun dry (Err fault.Dials) = dry ≡ 9
 DryRun dry (Err fault.Memory) = Unit {0}
 
 -- what a client has done: its visits, and why it ended. Where memory ran out, the clock may have
--- answered once more, and the watcher may not have been told of the last dispatch
+-- answered once more, and the watcher tells a front of the lines
 pub record Drives (first : List ℕ) (target : Target) (vs : List Visit) (old new : Outside) (result : Result Driven DriveFault) : Type 0 where
   pub last : Target
   pub seen : Seen
   pub goes : Goes first target vs last old (record new { seen = seen })
-  pub time : (result ≡ Err fault.Memory) ⊎ (new.seen ≡ seen)
+  pub time : ((result ≡ Err fault.Memory) × HasToldFront old.seen.told (lines (events (all_told vs))) new.seen.told) ⊎ (new.seen ≡ seen)
   pub dry_run : DryRun new.dial.dry_run result
   pub answers : Answers vs result
 

@@ -1,7 +1,9 @@
 -- What a client is told and what is done for it, connection by connection (Gateway, Connection
 -- Lifecycle).
 use Rattle.std.specs.Prelude.{◌≡◌, ℕ, List, [], ◌∷◌, flat_map, map, filter, length, Bool, true, false, ◌&&◌, Option, Some, None, is_some, option_to_list}
+use Rattle.intent_set.specs.declared.kind.Kind.TheVariants.{Resumed as ResumedKind}
 use Rattle.dispatch_types.specs.declared.dispatch.Dispatch.{Dispatch}
+use Rattle.dispatch_types.specs.Kinds.{kind_of}
 use Rattle.gate_outside.specs.declared.sending.Sending.{Sending}
 use Rattle.gate_outside.specs.declared.sending.Sending.TheVariants as sending
 use Rattle.gateway_frames.specs.declared.out.Out.TheVariants.{Hello, Ack, Invalid, Reconnect, Resumed}
@@ -12,6 +14,7 @@ use Rattle.client_session.specs.declared.received.Received.{Received}
 use Rattle.client_session.specs.declared.received.Received.TheVariants as payload
 use Rattle.client_session.specs.State.{ClientState}
 use Rattle.client_session.specs.Step.{Event, Receives, Loses, Asks, StepsTo, dispatch_of}
+use Rattle.client_run.specs.Watched.{dispatch_line}
 use Rattle.client_run.specs.declared.target.Target.{Target}
 use Rattle.client_run.specs.declared.target.Target.TheVariants.{First, Resume}
 
@@ -55,22 +58,23 @@ events ts = map event_of ts
 abbrev pub dispatches : List Told → List Dispatch
 dispatches ts = flat_map (λ (t : Told). option_to_list (dispatch_of t.event)) ts
 
--- the number of the dispatch that comes, if one does
-abbrev pub number_in : Received → Option ℕ
-number_in (payload.Dispatch dispatch number) = Some number
-number_in (payload.Other (Hello interval_ms)) = None
-number_in (payload.Other Ack) = None
-number_in (payload.Other (Invalid resumable)) = None
-number_in (payload.Other Reconnect) = None
-number_in (payload.Other (Resumed number)) = Some number
+-- the line of the dispatch that comes, if one does
+abbrev pub line_in : Received → Option (List ℕ)
+line_in (payload.Dispatch dispatch number) = Some (dispatch_line number (kind_of dispatch))
+line_in (payload.Other (Hello interval_ms)) = None
+line_in (payload.Other Ack) = None
+line_in (payload.Other (Invalid resumable)) = None
+line_in (payload.Other Reconnect) = None
+line_in (payload.Other (Resumed number)) = Some (dispatch_line number ResumedKind)
 
-abbrev pub number_of : Event → Option ℕ
-number_of (Receives received now) = number_in received
-number_of (Loses code) = None
-number_of (Asks now) = None
+abbrev pub line_of : Event → Option (List ℕ)
+line_of (Receives received now) = line_in received
+line_of (Loses code) = None
+line_of (Asks now) = None
 
-abbrev pub numbers : List Event → List ℕ
-numbers es = flat_map (λ (e : Event). option_to_list (number_of e)) es
+-- the lines of the dispatches that come, in order
+abbrev pub lines : List Event → List (List ℕ)
+lines es = flat_map (λ (e : Event). option_to_list (line_of e)) es
 
 -- what goes over the link by an act
 abbrev pub sending_of : Act → List Sending

@@ -1,3 +1,4 @@
+pub mod Watched
 pub mod Histories
 pub mod Links
 pub mod Drives

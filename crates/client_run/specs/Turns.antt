@@ -7,7 +7,7 @@ use Rattle.gate_outside.specs.declared.faults.Fault.{Fault}
 use Rattle.gate_outside.specs.declared.faults.Fault.TheVariants as outside
 use Rattle.gate_outside.specs.Clocks.{ClockTale}
 use Rattle.gate_outside.specs.Links.{LinkTale, returned_link}
-use Rattle.open_links.specs.Links.{IsIfTold, IsFrontIfTold, with_more}
+use Rattle.open_links.specs.Links.{IsIfTold, IsFrontIfTold}
 use Rattle.client_cache.specs.Cached.{Cached}
 use Rattle.client_session.specs.declared.act.Act.{Act}
 use Rattle.client_session.specs.declared.act.Act.TheVariants.{Send, Hang, DialFirst, DialResume}
@@ -24,8 +24,9 @@ use Rattle.client_run.specs.declared.driven.Driven.{Driven}
 use Rattle.client_run.specs.declared.driven.Driven.TheVariants as driven
 use Rattle.client_run.specs.declared.fault.DriveFault.{DriveFault}
 use Rattle.client_run.specs.declared.fault.DriveFault.TheVariants as fault
-use Rattle.client_run.specs.Histories.{Told, told, is_loss, End, Left, Dropped, Finished, Stopped, Unread, Cut, events, numbers, sendings, given, dial_in, left_to, StepsAll, Visit, is_left}
+use Rattle.client_run.specs.Histories.{Told, told, is_loss, End, Left, Dropped, Finished, Stopped, Unread, Cut, events, lines, sendings, given, dial_in, left_to, StepsAll, Visit, is_left}
 use Rattle.client_run.specs.Links.{Gave, MeetsReturned}
+use Rattle.client_run.specs.Watched.{WatchTale, HasTold, HasToldFront}
 use Rattle.client_run.specs.Drives.{Seen, Sees, Timed, Outside, Goes, Drives, Tells}
 
 -- the fault of the client's own machine
@@ -133,18 +134,18 @@ Stands ts (Err fault.Memory) l = (text : Option (List ℕ)) × Ends ts (Cut text
 abbrev pub AreAt : ℕ → List Event → Type 0
 AreAt now es = (clock : ClockTale) → clock.latest ≡ now → Timed clock es clock
 
--- the watcher was told of the dispatches of these numbers, unless memory ran out
-abbrev pub IsToldOf : {A : Type 0} → Option (List ℕ) → List ℕ → Option (List ℕ) → Result A DriveFault → Type 0
-IsToldOf old ns new result = (result ≡ Err fault.Memory) ⊎ (new ≡ with_more old ns)
+-- the watcher tells these lines more; where memory ran out, a front of them
+abbrev pub IsToldOf : {A : Type 0} → WatchTale → List (List ℕ) → WatchTale → Result A DriveFault → Type 0
+IsToldOf old ls new result = ((result ≡ Err fault.Memory) × HasToldFront old ls new) ⊎ HasTold old ls new
 
--- the client is told more, at this moment
-abbrev pub Moves : ℕ → List Told → ClientState Cached → ClientState Cached → Option (List ℕ) → Option (List ℕ) → Result (Option Ending) DriveFault → Line → Type 0
-Moves now before old new known later result l =
-    (ts : List Told) × (StepsAll old ts new × (AreAt now (events ts) × (IsToldOf known (numbers (events ts)) later result × Stands (before ++ ts) result l)))
+-- the client is told more, at this moment. The watcher owes the lines of what it was told just before
+abbrev pub Moves : ℕ → List Told → List (List ℕ) → ClientState Cached → ClientState Cached → WatchTale → WatchTale → Result (Option Ending) DriveFault → Line → Type 0
+Moves now before owed old new known later result l =
+    (ts : List Told) × (StepsAll old ts new × (AreAt now (events ts) × (IsToldOf known (owed ++ lines (events ts)) later result × Stands (before ++ ts) result l)))
 
--- the moments are the clock's, and the watcher was told of the dispatches, unless memory ran out
+-- the moments are the clock's, and the watcher tells the lines; where memory ran out, a front of them
 abbrev pub TimedBut : {A : Type 0} → Seen → List Event → Seen → Result A DriveFault → Type 0
-TimedBut old es new result = (mid : Seen) × (Sees old es mid × ((result ≡ Err fault.Memory) ⊎ (new ≡ mid)))
+TimedBut old es new result = (mid : Seen) × (Sees old es mid × (((result ≡ Err fault.Memory) × HasToldFront old.told (lines es) new.told) ⊎ (new ≡ mid)))
 
 -- a turn
 abbrev pub Turns : List Told → ClientState Cached → ClientState Cached → Seen → Seen → Result (Option Ending) DriveFault → Line → Type 0

@@ -21,7 +21,7 @@ use std::alloc::Global;
 use std::sync::Wait;
 
 // One dial, and the turns on the link that it gives.
-fn attempt<D: Dial, C: Clock, W: Watch, R: Wait + Drop>(
+fn attempt<D: Dial, C: Clock, K, W: Watch<K>, R: Wait + Drop>(
     rt: &R,
     alloc: Global,
     route: &mut Route,
@@ -29,21 +29,22 @@ fn attempt<D: Dial, C: Clock, W: Watch, R: Wait + Drop>(
     dial: &mut D,
     clock: &mut C,
     watch: &mut W,
+    out: &mut K,
 ) -> Result<Option<Driven>, DriveFault>
 where
     D::Wire: Drop,
     requires same { route.old.dry_run ≡ (D.tale dial.old).dry_run }
     requires wet { route.old.dry_run < 9 }
     ensures attempts { (vs : List Visit) × (Attempts route.old route.new vs
-        (outside client.old (D.tale dial.old) (seen (C.tale clock.old) (W.told watch.old)))
-        (outside client.new (D.tale dial.new) (seen (C.tale clock.new) (W.told watch.new))) result
+        (outside client.old (D.tale dial.old) (seen (C.tale clock.old) (W.told watch.old out.old)))
+        (outside client.new (D.tale dial.new) (seen (C.tale clock.new) (W.told watch.new out.new))) result
         × (W.reconnects watch.new ≡ W.reconnects watch.old + dropped vs)) }
     ensures tells { TellsDriven (W.finished watch.new client.new.kept) (W.stopped watch.new) result }
 {
     match route.open_link(dial, client) {
         Ok(link) => {
             let mut wire = Wire::new(link);
-            let ended = visit(rt, alloc, client, &mut wire, clock, watch);
+            let ended = visit(rt, alloc, client, &mut wire, clock, watch, out);
             route.hang_up(dial, wire);
             route.follow(ended)
         }
@@ -59,7 +60,7 @@ where
 }
 
 // Dials again and again.
-fn drive_from<D: Dial, C: Clock, W: Watch, R: Wait + Drop>(
+fn drive_from<D: Dial, C: Clock, K, W: Watch<K>, R: Wait + Drop>(
     rt: &R,
     alloc: Global,
     route: &mut Route,
@@ -67,14 +68,15 @@ fn drive_from<D: Dial, C: Clock, W: Watch, R: Wait + Drop>(
     dial: &mut D,
     clock: &mut C,
     watch: &mut W,
+    out: &mut K,
 ) -> Result<Driven, DriveFault>
 where
     D::Wire: Drop,
     requires same { route.old.dry_run ≡ (D.tale dial.old).dry_run }
     requires wet { route.old.dry_run < 9 }
     ensures drives { (vs : List Visit) × (Drives route.old.first route.old.target vs
-        (outside client.old (D.tale dial.old) (seen (C.tale clock.old) (W.told watch.old)))
-        (outside client.new (D.tale dial.new) (seen (C.tale clock.new) (W.told watch.new))) result
+        (outside client.old (D.tale dial.old) (seen (C.tale clock.old) (W.told watch.old out.old)))
+        (outside client.new (D.tale dial.new) (seen (C.tale clock.new) (W.told watch.new out.new))) result
         × (W.reconnects watch.new ≡ W.reconnects watch.old + dropped vs)) }
     ensures tells { Tells (W.finished watch.new client.new.kept) (W.stopped watch.new) result }
 {
@@ -82,7 +84,7 @@ where
         if watch.is_stopped() {
             return Ok(Driven::Stopped);
         }
-        match attempt(rt, alloc, route, client, dial, clock, watch) {
+        match attempt(rt, alloc, route, client, dial, clock, watch, out) {
             Ok(Some(driven)) => return Ok(driven),
             Ok(None) => {}
             Err(fault) => return Err(fault),
@@ -102,7 +104,7 @@ where
 /// `Out` only if the gateway closed the connection with a code after which no reconnect is allowed,
 /// `BadText` only if a text was no payload. `Memory` from any call ends it. Each link went back to the
 /// dial after every answer.
-pub fn drive<D: Dial, C: Clock, W: Watch, R: Wait + Drop>(
+pub fn drive<D: Dial, C: Clock, K, W: Watch<K>, R: Wait + Drop>(
     rt: &R,
     alloc: Global,
     client: &mut Client,
@@ -110,13 +112,14 @@ pub fn drive<D: Dial, C: Clock, W: Watch, R: Wait + Drop>(
     dial: &mut D,
     clock: &mut C,
     watch: &mut W,
+    out: &mut K,
 ) -> Result<Driven, DriveFault>
 where
     D::Wire: Drop,
     requires { (D.tale dial.old).dry_run ≡ 0 }
     ensures drives { (vs : List Visit) × (Drives url.now First vs
-        (outside client.old (D.tale dial.old) (seen (C.tale clock.old) (W.told watch.old)))
-        (outside client.new (D.tale dial.new) (seen (C.tale clock.new) (W.told watch.new))) result
+        (outside client.old (D.tale dial.old) (seen (C.tale clock.old) (W.told watch.old out.old)))
+        (outside client.new (D.tale dial.new) (seen (C.tale clock.new) (W.told watch.new out.new))) result
         × (Folds client.old vs client.new × (W.reconnects watch.new ≡ W.reconnects watch.old + dropped vs))) }
     ensures tells { Tells (W.finished watch.new client.new.kept) (W.stopped watch.new) result }
 {
@@ -124,5 +127,5 @@ where
         return Err(DriveFault::Memory);
     };
     let mut route = Route::new(first);
-    drive_from(rt, alloc, &mut route, client, dial, clock, watch)
+    drive_from(rt, alloc, &mut route, client, dial, clock, watch, out)
 }

@@ -1,11 +1,14 @@
 //! Who watches a client.
 
-ghost use Rattle.std.specs.Prelude.{◌≡◌, ◌+◌, ℕ, List, Option, IsTrue, OnOk};
-ghost use Rattle.gate_outside.specs.Told.{GrowsBy};
+ghost use Rattle.std.specs.Prelude.{◌≡◌, ◌+◌, ℕ, IsTrue, OnOk};
+ghost use Rattle.dispatch_types.specs.declared.dispatch.Dispatch.{Dispatch as ADispatch};
+ghost use Rattle.dispatch_types.specs.Kinds.{kind_of};
 ghost use Rattle.client_cache.specs.Cached.{Cached};
 ghost use Rattle.client_run.specs.Drives.{Warrants, wanted_again};
+ghost use Rattle.client_run.specs.Watched.{WatchTale, HasToldLine, dispatch_line};
 
 use client_cache::Cache;
+use dispatch_types::Dispatch;
 use std::alloc::AllocError;
 
 /// What a watcher wants of its client.
@@ -21,16 +24,19 @@ pub enum Wants {
     Stop,
 }
 
-/// A watcher, which is told of each dispatch and says when the client ends.
-pub trait Watch {
+/// A watcher, which sees each dispatch and says when the client ends. `K` is what it writes to.
+pub trait Watch<K> {
     /// What holds of what the client holds where the watcher has seen enough.
     ghost finished: { Self → Cached → Type 0 };
 
     /// What the watcher knows where it stops the client.
     ghost stopped: { Self → Type 0 };
 
-    /// The numbers of the dispatches that it was told of, where it tells.
-    ghost told: { Self → Option (List ℕ) };
+    /// What it knows of the dispatch that it has looked at: its number, and the dispatch.
+    ghost looked: { Self → ℕ → ADispatch → Type 0 };
+
+    /// How many dispatches it was asked after, and the text of their lines, where it tells.
+    ghost told: { Self → K → WatchTale };
 
     /// How often it has wanted its client to connect again.
     ghost reconnects: { Self → ℕ };
@@ -41,9 +47,16 @@ pub trait Watch {
         ensures told { told self.new ≡ told self.old }
         ensures reconnects { reconnects self.new ≡ reconnects self.old };
 
-    /// What the watcher wants after a dispatch with this number, which is folded into the cache.
-    fn after_dispatch(&mut self, number: u64, cache: &Cache) -> Result<Wants, AllocError>
+    /// Looks at a dispatch with this number, which is not folded into the cache yet.
+    fn before_dispatch(&mut self, number: u64, dispatch: &Dispatch) -> Result<(), AllocError>
+        ensures looked { OnOk result (looked self.new number dispatch.now) }
+        ensures told { told self.new ≡ told self.old }
+        ensures reconnects { reconnects self.new ≡ reconnects self.old };
+
+    /// What the watcher wants after the dispatch that it has looked at, which is folded into the cache.
+    fn after_dispatch(&mut self, cache: &Cache, out: &mut K) -> Result<Wants, AllocError>
         ensures wants { Warrants (finished self.new cache.now) (stopped self.new) result }
-        ensures told { OnOk result (GrowsBy (told self.old) (told self.new) number) }
+        ensures told { (number : ℕ) (dispatch : ADispatch) → looked self.old number dispatch
+            → HasToldLine (told self.old out.old) (dispatch_line number (kind_of dispatch)) (told self.new out.new) result }
         ensures reconnects { reconnects self.new ≡ reconnects self.old + wanted_again result };
 }

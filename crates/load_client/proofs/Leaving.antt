@@ -10,6 +10,7 @@ use Rattle.client_run.specs.declared.fault.DriveFault.{DriveFault}
 use Rattle.client_run.specs.declared.target.Target.TheVariants.{First}
 use Rattle.client_run.specs.Histories.{Visit, dropped}
 use Rattle.client_run.specs.Drives.{Drives, Folds, Tells, outside, seen}
+use Rattle.client_run.specs.Watched.{no_tale}
 use Rattle.stop_flag.specs.Flags.{SeatState}
 use Rattle.load_client.specs.declared.load_client.LoadClient.{LoadClient}
 use Rattle.load_client.specs.declared.name_goal.NameGoal.{NameGoal}
@@ -61,15 +62,15 @@ pub has_ended : (l : LoadClient) (dial later_dial : DialTale) (clock later_clock
     → url ≡ l.url → client ≡ client_of l → IsWatch l.seat l.goal w → seat ≡ seat_after r w.seat
     → Tells (AllNamed w.goal.guilds w.goal.name later.kept × (w.has_found ≡ false)) (w.has_found ≡ true) r
     → begun.drops ≡ 0
-    → (vs : List Visit) × (Drives url First vs (outside client dial (seen clock None)) (outside later later_dial (seen later_clock None)) r × (Folds client vs later × (w.drops ≡ begun.drops + dropped vs)))
+    → (vs : List Visit) × (Drives url First vs (outside client dial (seen clock no_tale)) (outside later later_dial (seen later_clock no_tale)) r × (Folds client vs later × (w.drops ≡ begun.drops + dropped vs)))
     → (vs : List Visit) × HasEnded l vs dial later_dial clock later_clock (record { client = later; seat = seat; driven = r })
 has_ended l dial later_dial clock later_clock url client later begun w seat r to is watches leaves tells none drove =
     let vs : List Visit = drove.0 in
-    let first : Drives l.url First vs (outside client dial (seen clock None)) (outside later later_dial (seen later_clock None)) r =
-    subst (λ (text : List ℕ). Drives text First vs (outside client dial (seen clock None)) (outside later later_dial (seen later_clock None)) r) to drove.1.0 in (
+    let first : Drives l.url First vs (outside client dial (seen clock no_tale)) (outside later later_dial (seen later_clock no_tale)) r =
+    subst (λ (text : List ℕ). Drives text First vs (outside client dial (seen clock no_tale)) (outside later later_dial (seen later_clock no_tale)) r) to drove.1.0 in (
       vs,
       record {
-        drives = subst (λ (begun : ClientState Cached). Drives l.url First vs (outside begun dial (seen clock None)) (outside later later_dial (seen later_clock None)) r) is first;
+        drives = subst (λ (begun : ClientState Cached). Drives l.url First vs (outside begun dial (seen clock no_tale)) (outside later later_dial (seen later_clock no_tale)) r) is first;
         holds = λ g. drove.1.1.0 l.token l.intents g is;
         drops = few_of w.drops begun.drops (dropped vs) watches.few none drove.1.1.1;
         seat = subst (λ (s : SeatState). SeatEnds l.seat r s) (sym leaves) (seat_ends (AllNamed w.goal.guilds w.goal.name later.kept) l.seat l.goal w r watches tells);

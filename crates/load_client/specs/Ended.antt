@@ -1,5 +1,5 @@
 -- What a client of a load has done once it has ended.
-use Rattle.std.specs.Prelude.{◌≡◌, ℕ, ◌≤◌, List, ◌||◌, Option, Some, None, Result, Ok, Err, is_err}
+use Rattle.std.specs.Prelude.{◌≡◌, ℕ, ◌≤◌, List, ◌||◌, Option, Some, Result, Ok, Err, is_err}
 use Rattle.gate_outside.specs.Clocks.{ClockTale}
 use Rattle.gate_outside.specs.Dials.{DialTale}
 use Rattle.dispatch_types.specs.Fold.{fold}
@@ -11,6 +11,7 @@ use Rattle.client_run.specs.declared.fault.DriveFault.{DriveFault}
 use Rattle.client_run.specs.declared.target.Target.TheVariants.{First}
 use Rattle.client_run.specs.Histories.{Visit, dispatches, all_told, dropped}
 use Rattle.client_run.specs.Drives.{Drives, outside, seen}
+use Rattle.client_run.specs.Watched.{no_tale}
 use Rattle.stop_flag.specs.Flags.{SeatState}
 use Rattle.load_client.specs.declared.load_client.LoadClient.{LoadClient}
 use Rattle.load_client.specs.declared.ended_client.EndedClient.{EndedClient}
@@ -39,8 +40,8 @@ pub record SeatEnds (old : SeatState) (r : Result Driven DriveFault) (new : Seat
 -- dispatches that it was told; it had its link dropped ten times at most; and it has finished only if
 -- it holds each guild of its goal with the goal's name
 pub record HasEnded (c : LoadClient) (vs : List Visit) (dial later_dial : DialTale) (clock later_clock : ClockTale) (e : EndedClient) : Type 0 where
-  pub drives : Drives c.url First vs (outside (client_of c) dial (seen clock None))
-      (outside e.client later_dial (seen later_clock None)) e.driven
+  pub drives : Drives c.url First vs (outside (client_of c) dial (seen clock no_tale))
+      (outside e.client later_dial (seen later_clock no_tale)) e.driven
   pub holds : (g : ℕ) → held_of e.client.kept g ≡ fold c.intents g (dispatches (all_told vs))
   pub drops : dropped vs ≤ 10
   pub seat : SeatEnds c.seat e.driven e.seat

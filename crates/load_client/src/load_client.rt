@@ -65,6 +65,7 @@ where
         dial,
         clock,
         &mut watch,
+        &mut (),
     );
     EndedClient {
         client,

@@ -6,6 +6,7 @@ ghost use Rattle.load_client.specs.Watching.{IsWatch, Looks, new_watch, counted,
 use crate::name_goal::NameGoal;
 use client_cache::Cache;
 use client_run::{DriveFault, Driven, Wants, Watch};
+use dispatch_types::Dispatch;
 use std::alloc::AllocError;
 use std::marker::{Brand, Model, PhantomData};
 use stop_flag::StopSeat;
@@ -126,15 +127,18 @@ impl<B: Beginning> LoadWatch<B> {
     }
 }
 
-impl<B: Beginning> Watch for LoadWatch<B> {
-    ghost use Rattle.std.specs.Prelude.{◌≡◌, true, false, None};
+impl<B: Beginning> Watch<()> for LoadWatch<B> {
+    ghost use Rattle.std.specs.Prelude.{◌≡◌, true, false};
+    ghost use Rattle.client_run.specs.Watched.{no_tale};
     ghost use Rattle.load_client.specs.Names.{AllNamed};
 
     ghost finished = { λ w cache. AllNamed w.goal.guilds w.goal.name cache × (w.has_found ≡ false) };
 
     ghost stopped = { λ w. w.has_found ≡ true };
 
-    ghost told = { λ _. None };
+    ghost looked = { λ _ _ _. Unit {0} };
+
+    ghost told = { λ _ _. no_tale };
 
     ghost reconnects = { λ w. w.drops };
 
@@ -144,7 +148,14 @@ impl<B: Beginning> Watch for LoadWatch<B> {
         self.look()
     }
 
-    fn after_dispatch(&mut self, _number: u64, cache: &Cache) -> Result<Wants, AllocError>
+    fn before_dispatch(&mut self, _number: u64, _dispatch: &Dispatch) -> Result<(), AllocError>
+        ensures ok { result ≡ Ok tt }
+        ensures same { self.new ≡ self.old }
+    {
+        Ok(())
+    }
+
+    fn after_dispatch(&mut self, cache: &Cache, _out: &mut ()) -> Result<Wants, AllocError>
         ensures exact { result ≡ Ok (wants_of (counted self.old) cache.now) }
         ensures after { self.new ≡ after_want (counted self.old) (wants_of (counted self.old) cache.now) }
     {

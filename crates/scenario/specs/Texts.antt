@@ -4,7 +4,7 @@ use Rattle.guild_model.specs.declared.verdict.Verdict.{Verdict}
 use Rattle.guild_model.specs.declared.verdict.Verdict.TheVariants as verdict
 use Rattle.guild_model.specs.Verdict.{verdict_number, verdict_name}
 use Rattle.edit_fields.specs.declared.fault.LineFault.{LineFault}
-use Rattle.edit_fields.specs.declared.fault.LineFault.TheVariants as fault
+use Rattle.line_faults.specs.Faults.{fault_number, fault_name}
 use Rattle.edit_fields.specs.Names.{name_text}
 use Rattle.edit_fields.specs.Edits.{edit_name}
 use Rattle.worker_core.specs.declared.io.Output.{Output}
@@ -59,23 +59,6 @@ lagged_line l = codes "lagged " ++ (decimal l.worker ++ (32 ∷ (decimal l.guild
 abbrev pub lagged_text : Option Lagged → List ℕ
 lagged_text None = []
 lagged_text (Some l) = lagged_line l
-
--- running out of memory is no fault of a line
-abbrev pub fault_number : LineFault → ℕ
-fault_number fault.NotJson = 1
-fault_number fault.NoSuchStep = 2
-fault_number fault.Missing = 3
-fault_number fault.WrongType = 4
-fault_number fault.TooLong = 5
-fault_number fault.Memory = 0
-
-abbrev pub fault_name : LineFault → List ℕ
-fault_name fault.NotJson = codes "NotJson"
-fault_name fault.NoSuchStep = codes "NoSuchStep"
-fault_name fault.Missing = codes "Missing"
-fault_name fault.WrongType = codes "WrongType"
-fault_name fault.TooLong = codes "TooLong"
-fault_name fault.Memory = codes "Memory"
 
 -- a line that is refused, which ends the play
 abbrev pub stop_line : ℕ → LineFault → List ℕ

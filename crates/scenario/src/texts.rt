@@ -1,11 +1,13 @@
 //! Appends transcript lines, each whole or not at all.
 ghost use Rattle.std.specs.Prelude.{◌≡◌, ◌++◌, ◌∷◌, [], is_ok, codes, decimal, if◌then◌else◌};
-ghost use Rattle.scenario.specs.Texts.{fault_number, fault_name, limit_of, refused_line, lagged_line, stop_line, written_line};
+ghost use Rattle.line_faults.specs.Faults.{fault_number, fault_name};
+ghost use Rattle.scenario.specs.Texts.{limit_of, refused_line, lagged_line, stop_line, written_line};
 
 use crate::lagged::Lagged;
 use edit_text::LineFault;
 use guild_model::Verdict;
 use itoa::Buffer;
+use line_faults::{fault_name, fault_number};
 use payload_text::{Payload, Pieces, append_all};
 use std::alloc::AllocError;
 use worker_core::Output;
@@ -105,32 +107,6 @@ pub fn put_lag(text: &mut Vec<u8>, lag: Lagged) -> Result<(), AllocError>
     )
 }
 
-fn number_of(fault: LineFault) -> u8
-    ensures { result ≡ fault_number fault }
-{
-    match fault {
-        LineFault::NotJson => 1,
-        LineFault::NoSuchStep => 2,
-        LineFault::Missing => 3,
-        LineFault::WrongType => 4,
-        LineFault::TooLong => 5,
-        LineFault::Memory => 0,
-    }
-}
-
-fn name_of(fault: LineFault) -> &'static str
-    ensures { result.now ≡ fault_name fault }
-{
-    match fault {
-        LineFault::NotJson => "NotJson",
-        LineFault::NoSuchStep => "NoSuchStep",
-        LineFault::Missing => "Missing",
-        LineFault::WrongType => "WrongType",
-        LineFault::TooLong => "TooLong",
-        LineFault::Memory => "Memory",
-    }
-}
-
 /// Appends the line of a refused line, which ends the transcript.
 pub fn put_stop(text: &mut Vec<u8>, line: u64, fault: LineFault) -> Result<(), AllocError>
     ensures { text.new.items ≡ (if is_ok result then text.old.items ++ stop_line line fault else text.old.items) }
@@ -138,9 +114,7 @@ pub fn put_stop(text: &mut Vec<u8>, line: u64, fault: LineFault) -> Result<(), A
     let mut line_buffer = Buffer::new();
     let mut number_buffer = Buffer::new();
     let line = line_buffer.format(line);
-    let number = number_buffer.format(number_of(fault));
-    append_all(
-        text,
-        &["stop line ", line, " ", number, " ", name_of(fault), "\n"],
-    )
+    let number = number_buffer.format(fault_number(fault));
+    let name = fault_name(fault);
+    append_all(text, &["stop line ", line, " ", number, " ", name, "\n"])
 }

@@ -10,15 +10,15 @@ use Rattle.client_run.proofs.driving.drive.Goals as goal
 pub returns-in_default-clause-drives : goal.returns-in_default-clause-drives
 returns-in_default-clause-drives g c =
     let d = g.D.Dial.tale c.args.dial.now in
-    let t = seen (g.C.Clock.tale c.args.clock.now) (g.W.Watch.told c.args.watch.now) in
+    let t = seen (g.C.Clock.tale c.args.clock.now) (g.W.Watch.told c.args.watch.now c.args.out.now) in
     let client = c.args.client.now in
     let goes = goes_nowhere c.args.url.now First client d d t refl refl in
-    ([], (record { last = First; seen = t; goes = goes; time = inl refl; dry_run = tt; answers = tt }, (folds c.args.url.now First First client client [] goes.leads, none_dropped (g.W.Watch.reconnects c.args.watch.now))))
+    ([], (record { last = First; seen = t; goes = goes; time = inr refl; dry_run = tt; answers = tt }, (folds c.args.url.now First First client client [] goes.leads, none_dropped (g.W.Watch.reconnects c.args.watch.now))))
 
 pub returns-clause-drives : goal.returns-clause-drives
 returns-clause-drives g c =
-    let a = outside c.args.client.now (g.D.Dial.tale c.args.dial.now) (seen (g.C.Clock.tale c.args.clock.now) (g.W.Watch.told c.args.watch.now)) in
-    let b = outside c.drive_from.new.client (g.D.Dial.tale c.drive_from.new.dial) (seen (g.C.Clock.tale c.drive_from.new.clock) (g.W.Watch.told c.drive_from.new.watch)) in
+    let a = outside c.args.client.now (g.D.Dial.tale c.args.dial.now) (seen (g.C.Clock.tale c.args.clock.now) (g.W.Watch.told c.args.watch.now c.args.out.now)) in
+    let b = outside c.drive_from.new.client (g.D.Dial.tale c.drive_from.new.dial) (seen (g.C.Clock.tale c.drive_from.new.clock) (g.W.Watch.told c.drive_from.new.watch c.drive_from.new.out)) in
     let r = c.drive_from.result in
     let did = c.drive_from.ensures.drives in
     let vs = did.0 in

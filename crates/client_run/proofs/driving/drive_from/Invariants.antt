@@ -8,7 +8,7 @@ use Rattle.client_run.proofs.driving.drive_from.Given as goal
 abbrev pub invariant-loop : goal.invariant-loop
 invariant-loop g l = record {
   vs : List Visit;
-  goes : Goes l.fn.route.first l.fn.route.target vs l.route.target (outside l.fn.client (g.D.Dial.tale l.fn.dial) (seen (g.C.Clock.tale l.fn.clock) (g.W.Watch.told l.fn.watch))) (outside l.client (g.D.Dial.tale l.dial) (seen (g.C.Clock.tale l.clock) (g.W.Watch.told l.watch)));
+  goes : Goes l.fn.route.first l.fn.route.target vs l.route.target (outside l.fn.client (g.D.Dial.tale l.fn.dial) (seen (g.C.Clock.tale l.fn.clock) (g.W.Watch.told l.fn.watch l.fn.out))) (outside l.client (g.D.Dial.tale l.dial) (seen (g.C.Clock.tale l.clock) (g.W.Watch.told l.watch l.out)));
   left : list_all is_left vs ≡ true;
   first : l.route.first ≡ l.fn.route.first;
   same : l.route.dry_run ≡ (g.D.Dial.tale l.dial).dry_run;

@@ -1,0 +1,47 @@
+-- internal: cited by private functions only
+-- What the watcher knows, and how a client ends.
+use Rattle.std.specs.Prelude.{◌≡◌, ◌⊎◌, ℕ, List, [], ◌++◌, Result, Ok, Err}
+use Rattle.std.specs.Io.KnownBytes.{Appends}
+use Rattle.gate_outside.specs.Causes.{Rose}
+use Rattle.gate_outside.specs.Streams.{AppendsFront}
+use Rattle.dispatch_types.specs.declared.dispatch.Dispatch.{Dispatch}
+use Rattle.dispatch_types.specs.Kinds.{kind_of}
+use Rattle.client_hooks.specs.declared.note.HookNote.{HookNote}
+use Rattle.client_hooks.specs.Kinds.{place}
+use Rattle.client_run.specs.declared.driven.Driven.{Driven}
+use Rattle.client_run.specs.declared.driven.Driven.TheVariants as driven
+use Rattle.client_run.specs.declared.fault.DriveFault.{DriveFault}
+use Rattle.client_run.specs.declared.fault.DriveFault.TheVariants as drive
+use Rattle.client_follow.specs.declared.fault.FollowFault.{FollowFault}
+use Rattle.client_follow.specs.declared.fault.FollowFault.TheVariants.{Write, Memory}
+use Rattle.client_follow.specs.Follows.{SinkTale, IsAnswer, Writes}
+
+-- the note of the one hook: the place of the dispatch's kind
+abbrev pub note_of : ℕ → Dispatch → HookNote
+note_of number dispatch = record { hook = 0; number = number; value = place (kind_of dispatch) }
+
+-- the answer where the sink has failed: that, if nothing else was wrong
+abbrev pub or_write : Result (Unit {0}) FollowFault → Result (Unit {0}) FollowFault
+or_write (Ok u) = Err Write
+or_write (Err f) = Err f
+
+-- the whole text went out and the answer stays; or a front of it did, and the sink failed or memory ran out
+abbrev pub IsWritten : Result (Unit {0}) FollowFault → List ℕ → SinkTale → SinkTale → Result (Unit {0}) FollowFault → Type 0
+IsWritten answer text old new result =
+    ((result ≡ answer) × (Appends old.got new.got (old.waits ++ text) × (new.waits ≡ [])))
+    ⊎ (AppendsFront old.got new.got (old.waits ++ text) × (((result ≡ or_write answer) × Rose old.faults new.faults) ⊎ (result ≡ Err Memory)))
+
+-- nothing more is written, and this is answered
+pub record IsLeft (old new : SinkTale) (result answer : Result (Unit {0}) FollowFault) : Type 0 where
+  pub got : new.got ≡ old.got
+  pub faults : new.faults ≡ old.faults
+  pub answered : result ≡ answer
+
+-- what is said at the end is written, unless the sink has failed or memory ran out before
+abbrev pub Ends : Result Driven DriveFault → List ℕ → SinkTale → SinkTale → Result (Unit {0}) FollowFault → Type 0
+Ends (Ok driven.Stopped) said old new result = IsLeft old new result (Err Write)
+Ends (Err drive.Memory) said old new result = IsLeft old new result (Err Memory)
+Ends (Ok driven.Finished) said old new result = IsAnswer (Ok driven.Finished) result × Writes said old new result
+Ends (Err drive.Dials) said old new result = IsAnswer (Err drive.Dials) result × Writes said old new result
+Ends (Err (drive.Out code)) said old new result = IsAnswer (Err (drive.Out code)) result × Writes said old new result
+Ends (Err drive.BadText) said old new result = IsAnswer (Err drive.BadText) result × Writes said old new result
