@@ -1,2 +1,4 @@
-mod Noting
+mod Telling
 mod Going
+mod Endings
+mod Written

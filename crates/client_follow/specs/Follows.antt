@@ -1,5 +1,5 @@
 -- What a client that follows a gateway has done.
-use Rattle.std.specs.Prelude.{◌≡◌, ◌⊎◌, ℕ, List, [], ◌++◌, length, Bool, false, Option, Some, Result, Ok, Err}
+use Rattle.std.specs.Prelude.{◌≡◌, ◌⊎◌, ℕ, List, [], ◌++◌, length, false, Option, Some, Result, Ok, Err}
 use Rattle.std.specs.Io.KnownBytes.{Appends}
 use Rattle.gate_outside.specs.Causes.{Rose}
 use Rattle.gate_outside.specs.Clocks.{ClockTale}
@@ -35,17 +35,21 @@ abbrev pub lines_of : List Visit → List (List ℕ)
 lines_of vs = lines (events (all_told vs))
 
 -- what the watcher tells before the first dispatch
-abbrev pub before_all : SinkTale → WatchTale
-before_all sink = record { count = Some 0; got = sink.got; waits = sink.waits; faults = sink.faults; failed = false }
+abbrev pub before_all : ℕ → SinkTale → WatchTale
+before_all count sink = record { count = Some 0; goal = Some count; got = sink.got; waits = sink.waits; faults = sink.faults; failed = false }
+
+-- what is said of a fault
+abbrev pub fault_line : DriveFault → List ℕ
+fault_line drive.Dials = []
+fault_line (drive.Out code) = closed_line code
+fault_line drive.BadText = bad_text_line
+fault_line drive.Memory = []
 
 -- what is written after the lines, by how the client ended and what it then holds
 abbrev pub Says : Cached → Result Driven DriveFault → List ℕ → Type 0
 Says c (Ok driven.Finished) text = AreGuildLines c text
 Says c (Ok driven.Stopped) text = text ≡ []
-Says c (Err drive.Dials) text = text ≡ []
-Says c (Err (drive.Out code)) text = text ≡ closed_line code
-Says c (Err drive.BadText) text = text ≡ bad_text_line
-Says c (Err drive.Memory) text = text ≡ []
+Says c (Err f) text = text ≡ fault_line f
 
 -- the answer by how the client ended: it is stopped only where its sink has failed
 abbrev pub answer_of : Result Driven DriveFault → Result (Unit {0}) FollowFault
@@ -94,7 +98,7 @@ pub record Follows (f : Following) (vs : List Visit) (old new : Around) (result 
   pub ended : Result Driven DriveFault
   pub told : WatchTale
   pub said : List ℕ
-  pub drives : Drives f.url First vs (outside (client_of f) old.dial (seen old.clock (before_all old.sink))) (outside client new.dial (seen new.clock told)) ended
+  pub drives : Drives f.url First vs (outside (client_of f) old.dial (seen old.clock (before_all f.count old.sink))) (outside client new.dial (seen new.clock told)) ended
   pub holds : (g : ℕ) → held_of client.kept g ≡ fold f.intents g (dispatches (all_told vs))
   pub count : ended ≡ Ok driven.Finished → length (lines_of vs) ≡ f.count
   pub says : Says client.kept ended said

@@ -1,13 +1,9 @@
 -- internal: cited by private functions only
--- What the watcher knows, and how a client ends.
-use Rattle.std.specs.Prelude.{◌≡◌, ◌⊎◌, ℕ, List, [], ◌++◌, Result, Ok, Err}
+-- How a client ends.
+use Rattle.std.specs.Prelude.{◌≡◌, ◌⊎◌, ℕ, List, [], ◌++◌, Bool, true, false, Result, Ok, Err}
 use Rattle.std.specs.Io.KnownBytes.{Appends}
 use Rattle.gate_outside.specs.Causes.{Rose}
 use Rattle.gate_outside.specs.Streams.{AppendsFront}
-use Rattle.dispatch_types.specs.declared.dispatch.Dispatch.{Dispatch}
-use Rattle.dispatch_types.specs.Kinds.{kind_of}
-use Rattle.client_hooks.specs.declared.note.HookNote.{HookNote}
-use Rattle.client_hooks.specs.Kinds.{place}
 use Rattle.client_run.specs.declared.driven.Driven.{Driven}
 use Rattle.client_run.specs.declared.driven.Driven.TheVariants as driven
 use Rattle.client_run.specs.declared.fault.DriveFault.{DriveFault}
@@ -16,9 +12,14 @@ use Rattle.client_follow.specs.declared.fault.FollowFault.{FollowFault}
 use Rattle.client_follow.specs.declared.fault.FollowFault.TheVariants.{Write, Memory}
 use Rattle.client_follow.specs.Follows.{SinkTale, IsAnswer, Writes}
 
--- the note of the one hook: the place of the dispatch's kind
-abbrev pub note_of : ℕ → Dispatch → HookNote
-note_of number dispatch = record { hook = 0; number = number; value = place (kind_of dispatch) }
+-- whether something may be written after a client that ended so
+abbrev pub may_write : Result Driven DriveFault → Bool
+may_write (Ok driven.Finished) = true
+may_write (Ok driven.Stopped) = false
+may_write (Err drive.Dials) = true
+may_write (Err (drive.Out code)) = true
+may_write (Err drive.BadText) = true
+may_write (Err drive.Memory) = false
 
 -- the answer where the sink has failed: that, if nothing else was wrong
 abbrev pub or_write : Result (Unit {0}) FollowFault → Result (Unit {0}) FollowFault
@@ -28,7 +29,7 @@ or_write (Err f) = Err f
 -- the whole text went out and the answer stays; or a front of it did, and the sink failed or memory ran out
 abbrev pub IsWritten : Result (Unit {0}) FollowFault → List ℕ → SinkTale → SinkTale → Result (Unit {0}) FollowFault → Type 0
 IsWritten answer text old new result =
-    ((result ≡ answer) × (Appends old.got new.got (old.waits ++ text) × (new.waits ≡ [])))
+    ((result ≡ answer) × Appends old.got new.got (old.waits ++ text) × (new.waits ≡ []))
     ⊎ (AppendsFront old.got new.got (old.waits ++ text) × (((result ≡ or_write answer) × Rose old.faults new.faults) ⊎ (result ≡ Err Memory)))
 
 -- nothing more is written, and this is answered

@@ -3,8 +3,8 @@
 ghost use Rattle.std.specs.Prelude.{◌≡◌, ◌++◌, ◌∷◌, List, ℕ, OnOk, is_ok, if◌then◌else◌, option_to_list, option_map};
 ghost use Rattle.std.specs.Option.{option_copied};
 ghost use Rattle.client_cache.specs.Cached.{Cached as ACached};
-ghost use Rattle.client_follow.specs.Lines.{AreGuildLines, guild_line, count_line, closed_line};
-ghost use Rattle.client_follow.specs.Follows.{Says};
+ghost use Rattle.client_follow.specs.Lines.{AreGuildLines, guild_line, count_line};
+ghost use Rattle.client_follow.specs.Follows.{Says, fault_line};
 
 use client_cache::Cache;
 use client_run::{DriveFault, Driven};
@@ -35,7 +35,15 @@ fn add_counts(
     append_all(
         text,
         &[
-            "guild ", guild, " channels ", channels, " threads ", threads, " members ", members, "\n",
+            "guild ",
+            guild,
+            " channels ",
+            channels,
+            " threads ",
+            threads,
+            " members ",
+            members,
+            "\n",
         ],
     )
 }
@@ -63,20 +71,26 @@ fn add_guild_line(
 
 // Adds a line for each guild of which the client holds a view.
 fn add_guild_lines(text: &mut Vec<u8>, cache: &Cache) -> Result<(), AllocError>
-    ensures { (said : List ℕ) × (AreGuildLines cache.now said × OnOk result (text.new.items ≡ text.old.items ++ said)) }
+    ensures { (said : List ℕ) × AreGuildLines cache.now said × OnOk result (text.new.items ≡ text.old.items ++ said) }
 {
     for guild in cache.guilds() {
-        add_guild_line(text, *guild, cache.view(*guild))?;
+        if let Err(error) = add_guild_line(text, *guild, cache.view(*guild)) {
+            return Err(error);
+        }
     }
     Ok(())
 }
 
-// Adds the line of a close.
-fn add_closed_line(text: &mut Vec<u8>, code: u16) -> Result<(), AllocError>
-    ensures { text.new.items ≡ (if is_ok result then text.old.items ++ closed_line code else text.old.items) }
+// Adds what is said of a fault.
+fn add_fault(text: &mut Vec<u8>, fault: DriveFault) -> Result<(), AllocError>
+    ensures { text.new.items ≡ (if is_ok result then text.old.items ++ fault_line fault else text.old.items) }
 {
     let mut buffer = Buffer::new();
-    append_all(text, &["closed ", buffer.format(code), "\n"])
+    match fault {
+        DriveFault::Out(code) => append_all(text, &["closed ", buffer.format(code), "\n"]),
+        DriveFault::BadText => append_all(text, &["bad text", "\n"]),
+        DriveFault::Dials | DriveFault::Memory => Ok(()),
+    }
 }
 
 /// Adds what is said at the end of a client that has ended so, and holds this.
@@ -88,12 +102,11 @@ pub fn add_end(
     ended: Result<Driven, DriveFault>,
     cache: &Cache,
 ) -> Result<(), AllocError>
-    ensures { (said : List ℕ) × (Says cache.now ended said × OnOk result (text.new.items ≡ text.old.items ++ said)) }
+    ensures { (said : List ℕ) × Says cache.now ended said × OnOk result (text.new.items ≡ text.old.items ++ said) }
 {
     match ended {
         Ok(Driven::Finished) => add_guild_lines(text, cache),
-        Err(DriveFault::Out(code)) => add_closed_line(text, code),
-        Err(DriveFault::BadText) => append_all(text, &["bad text", "\n"]),
-        Ok(Driven::Stopped) | Err(DriveFault::Dials) | Err(DriveFault::Memory) => Ok(()),
+        Ok(Driven::Stopped) => Ok(()),
+        Err(fault) => add_fault(text, fault),
     }
 }

@@ -1,8 +1,8 @@
 //! How a client that follows a gateway ends.
 
-ghost use Rattle.std.specs.Prelude.{◌≡◌, ◌++◌, ℕ, List};
+ghost use Rattle.std.specs.Prelude.{◌≡◌, ◌++◌, ℕ, List, true};
 ghost use Rattle.client_follow.specs.Follows.{Says, answer_of, sink_tale};
-ghost use Rattle.client_follow.specs.Watching.{IsWritten, Ends};
+ghost use Rattle.client_follow.specs.Watching.{IsWritten, Ends, may_write};
 
 use crate::closing::add_end;
 use crate::fault::FollowFault;
@@ -26,6 +26,14 @@ fn answer_of(ended: Result<Driven, DriveFault>) -> Result<(), FollowFault>
     }
 }
 
+// Whether something may be written after a client that ended so: not where its sink has failed or memory ran
+// out.
+fn may_write(ended: Result<Driven, DriveFault>) -> bool
+    ensures { result ≡ may_write ended }
+{
+    !matches!(ended, Ok(Driven::Stopped) | Err(DriveFault::Memory))
+}
+
 // Writes what waits here. The sink's fault is the answer only where there would be no other.
 fn write_end<K: Sink>(
     answer: Result<(), FollowFault>,
@@ -43,6 +51,25 @@ fn write_end<K: Sink>(
     }
 }
 
+// Writes what is said at the end after what still waits, and answers.
+fn write_said<K: Sink>(
+    ended: Result<Driven, DriveFault>,
+    cache: &Cache,
+    waiting: Vec<u8>,
+    sink: &mut K,
+) -> Result<(), FollowFault>
+    requires { may_write ended ≡ true }
+    ensures { (said : List ℕ) × Says cache.now ended said × Ends ended said
+        (sink_tale (K.got sink.old) (K.waits sink.old ++ waiting.items) (K.faults sink.old))
+        (sink_tale (K.got sink.new) (K.waits sink.new) (K.faults sink.new)) result }
+{
+    let mut waiting = waiting;
+    match add_end(&mut waiting, ended, cache) {
+        Ok(()) => write_end(answer_of(ended), &mut waiting, sink),
+        Err(_) => Err(FollowFault::Memory),
+    }
+}
+
 /// Ends a client that has ended so and holds this: writes what is said at the end after what still waits, and
 /// answers. Where the sink has failed or memory ran out before, it writes nothing more.
 pub fn end<K: Sink>(
@@ -51,17 +78,12 @@ pub fn end<K: Sink>(
     waiting: Vec<u8>,
     sink: &mut K,
 ) -> Result<(), FollowFault>
-    ensures { (said : List ℕ) × (Says cache.now ended said × Ends ended said
+    ensures { (said : List ℕ) × Says cache.now ended said × Ends ended said
         (sink_tale (K.got sink.old) (K.waits sink.old ++ waiting.items) (K.faults sink.old))
-        (sink_tale (K.got sink.new) (K.waits sink.new) (K.faults sink.new)) result) }
+        (sink_tale (K.got sink.new) (K.waits sink.new) (K.faults sink.new)) result }
 {
-    let mut waiting = waiting;
-    match answer_of(ended) {
-        Err(FollowFault::Write) => Err(FollowFault::Write),
-        Err(FollowFault::Memory) => Err(FollowFault::Memory),
-        answer => {
-            add_end(&mut waiting, ended, cache)?;
-            write_end(answer, &mut waiting, sink)
-        }
+    if may_write(ended) {
+        return write_said(ended, cache, waiting, sink);
     }
+    answer_of(ended)
 }

@@ -1,12 +1,20 @@
 //! Bytes go out.
 
-ghost use Rattle.std.specs.Prelude.{◌≡◌, ◌++◌, [], OnOk, OnErr};
+ghost use Rattle.std.specs.Prelude.{◌≡◌, ◌≤◌, ◌++◌, [], length, drop, OnOk};
 ghost use Rattle.std.specs.Io.KnownBytes.{Appends};
 ghost use Rattle.gate_outside.specs.Causes.{FaultHasCause};
 ghost use Rattle.gate_outside.specs.Streams.{Carries};
 
 use gate_outside::faults::Fault;
 use gate_outside::streams::Sink;
+
+// Removes so many bytes at the front.
+fn remove_front(bytes: &mut Vec<u8>, count: usize)
+    requires { count ≤ length bytes.old.items }
+    ensures { bytes.new.items ≡ drop count bytes.old.items }
+{
+    bytes.drain(..count);
+}
 
 /// Writes all bytes that wait here, and lets them go out. What the sink does not take still waits here.
 ///
@@ -21,7 +29,7 @@ pub fn write_out<K: Sink>(waiting: &mut Vec<u8>, sink: &mut K) -> Result<(), Fau
 {
     while !waiting.is_empty() {
         let count = sink.write(waiting.as_slice())?;
-        waiting.drain(..count);
+        remove_front(waiting, count);
     }
     sink.flush()
 }

@@ -1,8 +1,8 @@
 -- Lines that a watcher tells, one after another.
-use Rattle.std.proofs.Common.{◌≡◌, ◌⊎◌, ℕ, ◌+◌, ◌≤◌, List, [], ◌++◌, Bool, true, Option, Some, None, refl, sym, ap, subst, ◌∙◌, arith, inl, inr, append_assoc, append-nil, length, length-append}
+use Rattle.std.proofs.Common.{◌≡◌, ◌⊎◌, ℕ, ◌+◌, ◌≤◌, List, [], ◌++◌, true, Option, Some, None, refl, sym, ap, subst, ◌∙◌, arith, inl, inr, append_assoc, append-nil, length, length-append}
 use Rattle.std.specs.Prelude.{option_map, option_to_list}
 use Rattle.std.proofs.lemmas.Grind.{flat_map-append}
-use Rattle.gate_outside.specs.Causes.{Rose, one_more}
+use Rattle.gate_outside.specs.Causes.{Rose}
 use Rattle.gate_outside.specs.Streams.{Carries}
 use Rattle.gate_outside.proofs.Fronts.{puts, carries_more}
 use Rattle.client_session.specs.Step.{Event}
@@ -20,7 +20,7 @@ same_count : (n : ℕ) → n ≤ n
 same_count n = omega arith
 
 pub told_nothing : (t : WatchTale) → HasTold t [] t
-told_nothing t = record { count = count_none t.count; text = puts t.got t.waits t.waits [] (sym (append-nil t.waits)); later = same_count t.faults; rose = λ e. inl e }
+told_nothing t = record { count = count_none t.count; goal = refl; text = puts t.got t.waits t.waits [] (sym (append-nil t.waits)); later = same_count t.faults; rose = λ e. inl e }
 
 both_more : (n a b c : ℕ) → c ≡ a + b → (n + a) + b ≡ n + c
 both_more n a b c e = omega (arith, e)
@@ -52,6 +52,7 @@ module _ (a b c : WatchTale) (later_ab : a.faults ≤ b.faults) (later_bc : b.fa
 
 pub told_two : (a b c : WatchTale) (xs ys : List (List ℕ)) → HasTold a xs b → HasTold b ys c → HasTold a (xs ++ ys) c
 told_two a b c xs ys h k = record {
+  goal = k.goal ∙ h.goal;
   count = k.count ∙ ap (λ (o : Option ℕ). option_map (λ n. n + length ys) o) h.count ∙ count_two a.count xs ys;
   text = subst (λ (text : List ℕ). Carries a.got c.got c.waits text) (append_assoc a.waits (text_of xs) (text_of ys) ∙ ap (λ (text : List ℕ). a.waits ++ text) (sym (text_two xs ys)))
       (carries_more a.got b.got c.got b.waits c.waits (a.waits ++ text_of xs) (text_of ys) h.text k.text);
@@ -64,11 +65,11 @@ abbrev pub with_lines : WatchTale → List (List ℕ) → WatchTale
 with_lines t lines = record t { count = option_map (λ n. n + length lines) t.count; waits = t.waits ++ text_of lines }
 
 pub told_all : (t : WatchTale) (lines : List (List ℕ)) → HasTold t lines (with_lines t lines)
-told_all t lines = record { count = refl; text = puts t.got t.waits (t.waits ++ text_of lines) (text_of lines) refl; later = same_count t.faults; rose = λ e. inl e }
+told_all t lines = record { count = refl; goal = refl; text = puts t.got t.waits (t.waits ++ text_of lines) (text_of lines) refl; later = same_count t.faults; rose = λ e. inl e }
 
 -- a watcher that tells nothing
 pub told_silent : (lines : List (List ℕ)) → HasTold no_tale lines no_tale
-told_silent lines = record { count = refl; text = record { sent = text_of lines; is = append-nil (text_of lines); wrote = tt }; later = same_count 0; rose = λ e. inl e }
+told_silent lines = record { count = refl; goal = refl; text = record { sent = text_of lines; is = append-nil (text_of lines); wrote = tt }; later = same_count 0; rose = λ e. inl e }
 
 -- those of more events
 pub lines_more : (es fs : List Event) → lines (es ++ fs) ≡ lines es ++ lines fs
@@ -77,8 +78,12 @@ lines_more es fs = flat_map-append (λ (e : Event). option_to_list (line_of e)) 
 -- ---- a front of them
 
 pub front_none : (old new : WatchTale) → new ≡ old → HasToldFront old [] new
-front_none old new same = ([], ([], (refl, subst (λ (t : WatchTale). HasTold old [] t) (sym same) (told_nothing old))))
+front_none old new same = record { front = []; rest = []; parts = refl; told = subst (λ (t : WatchTale). HasTold old [] t) (sym same) (told_nothing old) }
 
 pub front_more : (old mid new : WatchTale) (xs ys : List (List ℕ)) → HasTold old xs mid → HasToldFront mid ys new → HasToldFront old (xs ++ ys) new
-front_more old mid new xs ys saw h =
-    (xs ++ h.0, (h.1.0, (ap (λ (ls : List (List ℕ)). xs ++ ls) h.1.1.0 ∙ sym (append_assoc xs h.0 h.1.0), told_two old mid new xs h.0 saw h.1.1.1)))
+front_more old mid new xs ys saw h = record {
+  front = xs ++ h.front;
+  rest = h.rest;
+  parts = ap (λ (ls : List (List ℕ)). xs ++ ls) h.parts ∙ sym (append_assoc xs h.front h.rest);
+  told = told_two old mid new xs h.front saw h.told;
+}

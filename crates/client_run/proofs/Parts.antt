@@ -1,5 +1,5 @@
 -- The parts of a turn.
-use Rattle.std.proofs.Common.{◌≡◌, ◌⊎◌, ℕ, List, [], ◌∷◌, ◌++◌, Bool, true, false, Option, Some, None, refl, sym, ap, subst, ◌∙◌, append_assoc, append-nil, inl, inr}
+use Rattle.std.proofs.Common.{◌≡◌, ◌⊎◌, ◌+◌, arith, ℕ, List, [], ◌∷◌, ◌++◌, Bool, true, false, Option, Some, None, refl, sym, ap, subst, ◌∙◌, append_assoc, append-nil, inl, inr}
 use Rattle.std.specs.Prelude.{option_to_list, Result, Ok, Err}
 use Rattle.gate_outside.specs.declared.sending.Sending.{Sending}
 use Rattle.gate_outside.specs.declared.sending.Sending.TheVariants as sending
@@ -19,10 +19,10 @@ use Rattle.client_run.specs.declared.ending.Ending.{Ending}
 use Rattle.client_run.specs.declared.ending.Ending.TheVariants as ending
 use Rattle.client_run.specs.declared.fault.DriveFault.{DriveFault}
 use Rattle.client_run.specs.declared.fault.DriveFault.TheVariants as fault
-use Rattle.client_run.specs.Histories.{lines, line_in, is_loss, lost_last, Dropped, are_turns, Told, told, Left, Finished, Stopped, Unread, Cut, events, sendings, given, dial_in, left_to}
+use Rattle.client_run.specs.Histories.{line_in, is_loss, lost_last, Dropped, are_turns, Told, told, Left, Finished, Stopped, Unread, Cut, events, sendings, given, dial_in, left_to}
 use Rattle.client_run.specs.Links.{Gave}
 use Rattle.client_run.specs.Watched.{WatchTale, HasTold}
-use Rattle.client_run.specs.Turns.{IsToldOf, IsDrop, go_on, may_hear, Line, IsSent, FailsAt, Meets, IsAnswered, Ends, IsLost, Stands, Moves, IsLoss, by_client}
+use Rattle.client_run.specs.Turns.{IsToldOf, IsUnasked, TellsPart, dropped_part, IsDrop, go_on, may_hear, Line, IsSent, FailsAt, Meets, IsAnswered, Ends, IsLost, Stands, Moves, IsLoss, by_client}
 use Rattle.client_run.proofs.Lines.{told_nothing}
 use Rattle.client_run.proofs.Telling.{lost_by, turns_of, turns_lost, hears_on, events_more, given_more, left_by, gave_told, sent_front, ends_by, ends_with, ends_cut}
 
@@ -74,7 +74,33 @@ pub loses : (now : ℕ) (before : List Told) (code : Option ℕ) (old new : Clie
 loses now before code old new known later r l same h does =
     (told (Loses code) does.0 ∷ [], ((new, (does.1.0, refl)), (λ clock e. refl, (told_none r known later same, loss_stands before code does.0 l h r does.1.1))))
 
--- a link that was dropped
+-- ---- where the watcher is not asked
+
+pub loss_unasked : (code : Option ℕ) (acts : List Act) (r : Result (Option Ending) DriveFault) → IsLoss code acts r → IsUnasked r
+loss_unasked code acts (Ok None) is = absurd is
+loss_unasked code acts (Ok (Some (ending.Left target))) is = tt
+loss_unasked code acts (Ok (Some (ending.Dropped target))) is = absurd is
+loss_unasked code acts (Ok (Some ending.Finished)) is = absurd is
+loss_unasked code acts (Ok (Some ending.Stopped)) is = absurd is
+loss_unasked code acts (Err f) is = tt
+
+pub unasked_tells : (finished stopped : Type 0) (r : Result (Option Ending) DriveFault) → IsUnasked r → TellsPart finished stopped r
+unasked_tells finished stopped (Ok None) is = tt
+unasked_tells finished stopped (Ok (Some (ending.Left target))) is = tt
+unasked_tells finished stopped (Ok (Some (ending.Dropped target))) is = absurd is
+unasked_tells finished stopped (Ok (Some ending.Finished)) is = absurd is
+unasked_tells finished stopped (Ok (Some ending.Stopped)) is = absurd is
+unasked_tells finished stopped (Err f) is = tt
+
+pub unasked_counts : (n : ℕ) (r : Result (Option Ending) DriveFault) → IsUnasked r → n ≡ n + dropped_part r
+unasked_counts n (Ok None) is = omega arith
+unasked_counts n (Ok (Some (ending.Left target))) is = omega arith
+unasked_counts n (Ok (Some (ending.Dropped target))) is = absurd is
+unasked_counts n (Ok (Some ending.Finished)) is = absurd is
+unasked_counts n (Ok (Some ending.Stopped)) is = absurd is
+unasked_counts n (Err f) is = omega arith
+
+-- ---- a link that was dropped
 module _ (before : List Told) (acts : List Act) (l : Line) (m : Meets before [] l) where
   abbrev pub after_drop : List Told
   after_drop = before ++ told (Loses None) acts ∷ []

@@ -1,6 +1,6 @@
 -- What a client says to each event.
 use Rattle.std.proofs.Common.{◌≡◌, ℕ, List, [], ◌∷◌, Bool, true, false, Option, Some, None, refl}
-use Rattle.std.specs.Prelude.{is_some, ◌==◌, if◌then◌else◌, option_to_list, Ok, Err}
+use Rattle.std.specs.Prelude.{◌==◌, if◌then◌else◌, option_to_list, Ok, Err}
 use Rattle.std.specs.Result.{result_ok}
 use Rattle.gateway_frames.specs.declared.out.Out.{Out}
 use Rattle.gateway_frames.specs.declared.out.Out.TheVariants.{Hello, Ack, Invalid, Reconnect, Resumed}
@@ -10,7 +10,6 @@ use Rattle.client_session.specs.declared.act.Act.{Act}
 use Rattle.client_session.specs.declared.act.Act.TheVariants.{Send, DialFirst}
 use Rattle.client_session.specs.declared.fault.ClientFault.TheVariants.{Out as OutFault}
 use Rattle.client_session.specs.declared.session.Session.{Session}
-use Rattle.client_session.specs.declared.received.Received.{Received}
 use Rattle.client_session.specs.declared.received.Received.TheVariants as payload
 use Rattle.client_session.specs.State.{ClientState}
 use Rattle.client_session.specs.Table.{dial, is_final, is_due_at, other_acts, frame_text, heartbeat}

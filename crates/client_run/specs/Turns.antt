@@ -220,6 +220,15 @@ TellsPart finished stopped (Ok (Some ending.Finished)) = finished
 TellsPart finished stopped (Ok (Some ending.Stopped)) = stopped
 TellsPart finished stopped (Err f) = Unit {0}
 
+-- nothing that a watcher wants
+abbrev pub IsUnasked : Result (Option Ending) DriveFault → Type 0
+IsUnasked (Ok None) = Unit {0}
+IsUnasked (Ok (Some (ending.Left target))) = Unit {0}
+IsUnasked (Ok (Some (ending.Dropped target))) = ⊥
+IsUnasked (Ok (Some ending.Finished)) = ⊥
+IsUnasked (Ok (Some ending.Stopped)) = ⊥
+IsUnasked (Err f) = Unit {0}
+
 abbrev pub TellsEnd : Type 0 → Type 0 → Result Ending DriveFault → Type 0
 TellsEnd finished stopped (Ok e) = TellsPart finished stopped (Ok (Some e))
 TellsEnd finished stopped (Err f) = Unit {0}

@@ -15,8 +15,9 @@ text_of lines = flat_map (λ line. line) lines
 
 -- what a watcher tells, with what it writes to
 pub record WatchTale : Type 0 where
-  -- how many dispatches it was asked after, where it tells
+  -- how many dispatches it was asked after, and after how many it ends its client, where it tells
   pub count : Option ℕ
+  pub goal : Option ℕ
   -- what went out, where that is told, and what waits
   pub got : Option (List ℕ)
   pub waits : List ℕ
@@ -26,20 +27,24 @@ pub record WatchTale : Type 0 where
 
 -- a watcher that tells nothing
 abbrev pub no_tale : WatchTale
-no_tale = record { count = None; got = None; waits = []; faults = 0; failed = false }
+no_tale = record { count = None; goal = None; got = None; waits = []; faults = 0; failed = false }
 
 -- it was asked after dispatches with these lines
 pub record HasTold (old : WatchTale) (lines : List (List ℕ)) (new : WatchTale) : Type 0 where
   pub count : new.count ≡ option_map (λ n. n + length lines) old.count
+  pub goal : new.goal ≡ old.goal
   pub text : Carries old.got new.got new.waits (old.waits ++ text_of lines)
   pub later : old.faults ≤ new.faults
   pub rose : new.failed ≡ true → (old.failed ≡ true) ⊎ Rose old.faults new.faults
 
--- with a front of these
-abbrev pub HasToldFront : WatchTale → List (List ℕ) → WatchTale → Type 0
-HasToldFront old lines new = (front rest : List (List ℕ)) × ((lines ≡ front ++ rest) × HasTold old front new)
+-- it was asked after dispatches with a front of these
+pub record HasToldFront (old : WatchTale) (lines : List (List ℕ)) (new : WatchTale) : Type 0 where
+  pub front : List (List ℕ)
+  pub rest : List (List ℕ)
+  pub parts : lines ≡ front ++ rest
+  pub told : HasTold old front new
 
--- with this one; where memory ran out, perhaps without it
+-- after one with this line; where memory ran out, perhaps without it
 abbrev pub HasToldLine : {A E : Type 0} → WatchTale → List ℕ → WatchTale → Result A E → Type 0
 HasToldLine old line new (Ok x) = HasTold old (line ∷ []) new
 HasToldLine old line new (Err e) = HasToldFront old (line ∷ []) new

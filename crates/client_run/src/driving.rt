@@ -39,6 +39,7 @@ where
         (outside client.old (D.tale dial.old) (seen (C.tale clock.old) (W.told watch.old out.old)))
         (outside client.new (D.tale dial.new) (seen (C.tale clock.new) (W.told watch.new out.new))) result
         × (W.reconnects watch.new ≡ W.reconnects watch.old + dropped vs)) }
+    ensures house { D.house_tale dial.new ≡ D.house_tale dial.old }
     ensures tells { TellsDriven (W.finished watch.new client.new.kept) (W.stopped watch.new) result }
 {
     match route.open_link(dial, client) {
@@ -78,6 +79,7 @@ where
         (outside client.old (D.tale dial.old) (seen (C.tale clock.old) (W.told watch.old out.old)))
         (outside client.new (D.tale dial.new) (seen (C.tale clock.new) (W.told watch.new out.new))) result
         × (W.reconnects watch.new ≡ W.reconnects watch.old + dropped vs)) }
+    ensures house { D.house_tale dial.new ≡ D.house_tale dial.old }
     ensures tells { Tells (W.finished watch.new client.new.kept) (W.stopped watch.new) result }
 {
     for _ in rt.forever() {
@@ -121,6 +123,7 @@ where
         (outside client.old (D.tale dial.old) (seen (C.tale clock.old) (W.told watch.old out.old)))
         (outside client.new (D.tale dial.new) (seen (C.tale clock.new) (W.told watch.new out.new))) result
         × (Folds client.old vs client.new × (W.reconnects watch.new ≡ W.reconnects watch.old + dropped vs))) }
+    ensures house { D.house_tale dial.new ≡ D.house_tale dial.old }
     ensures tells { Tells (W.finished watch.new client.new.kept) (W.stopped watch.new) result }
 {
     let Ok(first) = Text::new(alloc, url) else {

@@ -1,15 +1,15 @@
 //! What comes over a link.
 
-ghost use Rattle.std.specs.Prelude.{◌≡◌, ◌∷◌, ◌++◌, ◌+◌, [], ℕ, true, false, None, List};
+ghost use Rattle.std.specs.Prelude.{◌≡◌, ◌∷◌, ◌++◌, ◌+◌, [], ℕ, true, false, None, List, MatchResult};
 ghost use Rattle.gate_outside.specs.declared.sending.Sending.TheVariants as sending;
 ghost use Rattle.dispatch_types.specs.declared.dispatch.Dispatch.{Dispatch as ADispatch};
 ghost use Rattle.dispatch_types.specs.Kinds.{kind_of};
 ghost use Rattle.client_session.specs.declared.received.Received.TheVariants as payload;
 ghost use Rattle.client_session.specs.Received.{IsTextOf};
-ghost use Rattle.client_session.specs.Step.{Event};
+ghost use Rattle.client_session.specs.Step.{Event, Receives, StepsTo, Keeps};
 ghost use Rattle.client_run.specs.Histories.{Told, told, events, dial_in};
 ghost use Rattle.client_run.specs.Watched.{WatchTale, dispatch_line};
-ghost use Rattle.client_run.specs.Turns.{Meets, IsAnswered, Moves, TellsPart, dropped_part, is_orderly, closed_by, may_hear};
+ghost use Rattle.client_run.specs.Turns.{Meets, IsAnswered, Moves, IsUnasked, TellsPart, dropped_part, is_orderly, closed_by, may_hear};
 
 use crate::acting::{act_on_all, close, next_target};
 use crate::ending::Ending;
@@ -17,7 +17,7 @@ use crate::fault::DriveFault;
 use crate::losing::{lose, lose_dropped};
 use crate::watch::{Wants, Watch};
 use crate::wire::Wire;
-use client_session::{Act, Client, Received};
+use client_session::{Act, Client, ClientFault, Received};
 use dispatch_types::Dispatch;
 use gate_outside::faults::Fault;
 use gate_outside::links::Link;
@@ -51,6 +51,16 @@ fn ask<L: Link + Drop, K, W: Watch<K>>(
     }
 }
 
+// The client folds a dispatch, to which it says nothing.
+fn fold(client: &mut Client, dispatch: Dispatch, number: u64, now: u64) -> Result<(), ClientFault>
+    ensures { MatchResult result
+        (λ _. StepsTo client.old (Receives (payload.Dispatch dispatch number) now) client.new [])
+        (Keeps client.old client.new) }
+{
+    client.on_received(Received::Dispatch(dispatch, number), now)?;
+    Ok(())
+}
+
 // The watcher looks at a dispatch, the client folds it, and the watcher is asked.
 fn hear_dispatch<L: Link + Drop, K, W: Watch<K>>(
     client: &mut Client,
@@ -70,8 +80,8 @@ fn hear_dispatch<L: Link + Drop, K, W: Watch<K>>(
         Ok(()) => {}
         Err(_) => return Err(DriveFault::Memory),
     }
-    match client.on_received(Received::Dispatch(dispatch, number), now) {
-        Ok(_) => ask(client, wire, watch, out),
+    match fold(client, dispatch, number, now) {
+        Ok(()) => ask(client, wire, watch, out),
         Err(fault) => Err(DriveFault::from(fault)),
     }
 }
@@ -86,8 +96,7 @@ fn answer<L: Link + Drop>(
     requires closes { dial_in acts.now ≡ None → closed_by false acts.now ≡ false }
     ensures moves { (now : ℕ) (before : List Told) (event : Event) (known : WatchTale) → IsAnswered before event acts.now wire.old
         → Moves now (before ++ told event acts.now ∷ []) [] client.old client.new known known result wire.new }
-    ensures tells { (finished stopped : Type 0) → TellsPart finished stopped result }
-    ensures counts { dropped_part result ≡ 0 }
+    ensures unasked { IsUnasked result }
 {
     match act_on_all(wire, acts) {
         Err(Fault::Memory) => return Err(DriveFault::Memory),
@@ -109,8 +118,7 @@ fn hear_other<L: Link + Drop>(
 ) -> Result<Option<Ending>, DriveFault>
     ensures moves { (before : List Told) (text : List ℕ) (known : WatchTale) → IsTextOf text (payload.Other out) → may_hear false (events before) ≡ true → Meets before (sending.Text text ∷ []) wire.old
         → Moves now before [] client.old client.new known known result wire.new }
-    ensures tells { (finished stopped : Type 0) → TellsPart finished stopped result }
-    ensures counts { dropped_part result ≡ 0 }
+    ensures unasked { IsUnasked result }
 {
     match client.on_received(Received::Other(out), now) {
         Ok(acts) => answer(client, wire, &acts),

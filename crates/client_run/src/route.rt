@@ -69,6 +69,7 @@ impl Route {
         ensures dials { Dials (D.tale dial.old) (D.tale dial.new) (url_by self.old.first self.old.target client.now.session) result }
         ensures new_link { IfOk result (λ l. IsNewLink (D.Wire.tale l) (D.Wire.faults l)) }
         ensures route { self.new ≡ record self.old { dry_run = (D.tale dial.new).dry_run } }
+        ensures house { D.house_tale dial.new ≡ D.house_tale dial.old }
     {
         match dial.dial(self.url(client)) {
             Err(Fault::Failed) => {
@@ -87,6 +88,7 @@ impl Route {
         requires wet { self.old.dry_run < 9 }
         ensures back { HangsUp (D.tale dial.old) (D.tale dial.new) wire.tale wire.faults }
         ensures route { self.new ≡ record self.old { dry_run = (D.tale dial.new).dry_run } }
+        ensures house { D.house_tale dial.new ≡ D.house_tale dial.old }
     {
         self.dry_run = wire.dry_after(self.dry_run);
         wire.give_back(dial);

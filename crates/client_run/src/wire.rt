@@ -100,7 +100,8 @@ impl<L: Link + Drop> Wire<L> {
 
     /// The dial takes the link back.
     pub fn give_back<D: Dial<Wire = L>>(self, dial: &mut D)
-        ensures { HangsUp (D.tale dial.old) (D.tale dial.new) self.tale self.faults }
+        ensures back { HangsUp (D.tale dial.old) (D.tale dial.new) self.tale self.faults }
+        ensures house { D.house_tale dial.new ≡ D.house_tale dial.old }
     {
         let Wire { link, .. } = self;
         dial.back(link);

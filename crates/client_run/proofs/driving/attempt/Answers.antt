@@ -1,4 +1,4 @@
-use Rattle.std.proofs.Common.{◌+◌, ◌≡◌, [], ◌∷◌, ℕ, ◌<◌, ◌≤◌, refl, sym, ap, subst, ◌∙◌, inl, inr}
+use Rattle.std.proofs.Common.{◌+◌, ◌≡◌, [], ◌∷◌, ℕ, ◌<◌, ◌≤◌, refl, sym, ap, subst, ◌∙◌, inr}
 use Rattle.std.specs.Prelude.{nat_le}
 use Rattle.gate_outside.specs.Causes.{one_more}
 use Rattle.gate_outside.specs.Clocks.{ClockTale}

@@ -1,4 +1,4 @@
-use Rattle.std.proofs.Common.{List, [], ℕ, refl, ap, subst, ◌∙◌, inl}
+use Rattle.std.proofs.Common.{List, [], ℕ, refl, ap, subst, ◌∙◌, inr}
 use Rattle.client_run.specs.declared.target.Target.{Target}
 use Rattle.client_run.specs.declared.target.Target.TheVariants.{First}
 use Rattle.client_run.specs.Drives.{Drives, outside, seen}

@@ -18,6 +18,7 @@ loop-init g c =
       first = refl;
       same = c.requires.same;
       wet = c.requires.wet;
+      house = refl;
       count = none_dropped (g.W.Watch.reconnects c.args.watch.now);
     }
 
@@ -75,5 +76,6 @@ loop-preserved g c =
       first = last.1.0.1.1.0 ∙ went.first;
       same = last.1.0.1.1.1.0;
       wet = last.1.0.1.1.1.1;
+      house = c.in-Ok-None.ensures.house ∙ went.house;
       count = dropped_more start (g.W.Watch.reconnects c.loop.watch) now went.vs last.0 went.count (last.1.1 ∙ ap (λ (n : ℕ). n + dropped last.0) c.is_stopped.ensures.reconnects);
     }

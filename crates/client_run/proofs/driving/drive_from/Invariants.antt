@@ -13,5 +13,6 @@ invariant-loop g l = record {
   first : l.route.first ≡ l.fn.route.first;
   same : l.route.dry_run ≡ (g.D.Dial.tale l.dial).dry_run;
   wet : l.route.dry_run < 9;
+  house : g.D.Dial.house_tale l.dial ≡ g.D.Dial.house_tale l.fn.dial;
   count : g.W.Watch.reconnects l.watch ≡ g.W.Watch.reconnects l.fn.watch + dropped vs;
 }

@@ -4,7 +4,7 @@ use Rattle.client_run.specs.declared.ending.Ending.TheVariants as ending
 use Rattle.client_run.specs.declared.fault.DriveFault.TheVariants as fault
 use Rattle.client_run.specs.Histories.{told, given, sendings}
 use Rattle.client_run.specs.Turns.{IsSent, FailsAt, closed_by}
-use Rattle.client_run.proofs.Parts.{stays, told_none, loses, answer_cut, answer_lost, answer_left, answer_stays}
+use Rattle.client_run.proofs.Parts.{stays, loss_unasked, told_none, loses, answer_cut, answer_lost, answer_left, answer_stays}
 use Rattle.client_run.proofs.hearing.answer.Goals as goal
 
 pub returns-in-Err-Memory-clause-moves : goal.returns-in-Err-Memory-clause-moves
@@ -44,3 +44,6 @@ returns-in-None-clause-moves g c now before event known h =
     let sent = subst (λ (r : Result (Unit {0}) Fault). MatchResult r (λ _. IsSent (closed_by false acts) all l) (FailsAt all l)) c.in-Ok.is (c.act_on_all.ensures.sent (given before) h.sent) in
     stays now (before ++ told event acts ∷ []) [] c.args.client.now known known r l (told_none r known known refl)
     (answer_stays before event acts c.args.wire.now l c.act_on_all.ensures.gave h (closed_by false acts) (c.requires.closes (sym c.next_target.ensures ∙ c.in-None.is)) sent)
+
+pub returns-in-Err-Failed-clause-unasked : goal.returns-in-Err-Failed-clause-unasked
+returns-in-Err-Failed-clause-unasked g c = loss_unasked None c.lose.ensures.0 c.lose.result c.lose.ensures.1.1

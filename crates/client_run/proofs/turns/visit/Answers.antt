@@ -1,4 +1,4 @@
-use Rattle.std.proofs.Common.{List, Option, Ok, ℕ, ◌+◌, [], refl, sym, ap, subst, ◌∙◌}
+use Rattle.std.proofs.Common.{Option, Ok, ℕ, ◌+◌, [], refl, sym, ap, subst, ◌∙◌}
 use Rattle.client_run.specs.declared.ending.Ending.{Ending}
 use Rattle.client_run.specs.Watched.{WatchTale}
 use Rattle.client_run.specs.Drives.{seen}

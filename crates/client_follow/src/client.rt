@@ -1,17 +1,13 @@
 //! A client that follows a gateway.
 
 ghost use Rattle.std.specs.Prelude.{◌≡◌, List};
-ghost use Rattle.std.specs.Fn.{FnReturnsAt};
-ghost use Rattle.client_hooks.specs.Calls.{Keeps};
 ghost use Rattle.client_run.specs.Histories.{Visit};
 ghost use Rattle.client_follow.specs.Follows.{Follows, around, sink_tale};
 
 use crate::ending::end;
 use crate::fault::FollowFault;
 use crate::following::Following;
-use crate::place_rule::PlaceRule;
 use crate::watch::LineWatch;
-use client_hooks::{Hook, Kept};
 use client_run::drive;
 use client_session::Client;
 use gate_outside::clocks::Clock;
@@ -23,8 +19,8 @@ use std::sync::Wait;
 /// Follows a gateway: connects by the URL, and again where its connection is lost, folds each dispatch into
 /// what the client holds, and writes its line, which is its number and name. After so many dispatches as are
 /// asked for it closes the connection with 1000, and writes for each guild of which it holds a view, ascending,
-/// how many channels, threads and members it holds. The hook answers the name of each dispatch by its place.
-/// All lines go out at once. It waits as long as the gateway does.
+/// how many channels, threads and members it holds. Each line goes out at once.
+/// It waits as long as the gateway does.
 ///
 /// # Errors
 /// `Write` if the sink fails before that. `Dials` if nine dials and links have failed, one after another,
@@ -38,13 +34,12 @@ pub fn follow<D: Dial, C: Clock, K: Sink, R: Wait + Drop>(
     dial: &mut D,
     clock: &mut C,
     sink: &mut K,
-    hook: Kept<PlaceRule>,
 ) -> Result<(), FollowFault>
 where
     D::Wire: Drop,
-    requires dry { (D.tale dial.old).dry_run ≡ 0 }
-    requires keeps { Keeps (FnReturnsAt Hook.Fn hook.hook) PlaceRule.Meets }
-    ensures { (vs : List Visit) × Follows following vs
+    requires { (D.tale dial.old).dry_run ≡ 0 }
+    ensures house { D.house_tale dial.new ≡ D.house_tale dial.old }
+    ensures follows { (vs : List Visit) × Follows following vs
         (around (D.tale dial.old) (C.tale clock.old) (sink_tale (K.got sink.old) (K.waits sink.old) (K.faults sink.old)))
         (around (D.tale dial.new) (C.tale clock.new) (sink_tale (K.got sink.new) (K.waits sink.new) (K.faults sink.new))) result }
 {
@@ -54,7 +49,7 @@ where
         intents,
         count,
     } = following;
-    let mut watch = LineWatch::new(alloc, count, hook)?;
+    let mut watch = LineWatch::new(alloc, count);
     let mut client = Client::new(alloc, token, intents);
     let ended = drive(
         rt,
