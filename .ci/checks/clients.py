@@ -1,4 +1,5 @@
-"""Serves examples/clients/edits.jsonl to bots that lose their links twice and resume, if the built program knows `serve`."""
+"""Serves examples/clients/edits.jsonl to bots that lose their links twice and resume, and to `gate client`, if the built program
+knows `serve`."""
 import ast
 import collections
 import glob
@@ -129,6 +130,28 @@ def serve(gate, found):
                 process.kill()
 
 
+def follow(gate):
+    """`gate client` with a token that no bot has, and as docs/CLIENT.md shows it."""
+    with open("docs/CLIENT.md") as file:
+        page = re.findall(r"^    (\d+ [A-Z_]+|guild \d.*)$", file.read(), re.M)
+    opening, later = parts(f"{FOLDER}/edits.jsonl")
+    server = Server(opening, 1, 2, gate)
+    words = [gate, "client", server.urls[0]]
+    run = subprocess.run([*words, "t0", INTENTS, "1"], stdout=subprocess.PIPE, stderr=subprocess.DEVNULL, timeout=LIMIT_SECONDS)
+    compare("client with a token that no bot has", (10, "closed 4004\n"), (run.returncode, run.stdout.decode()))
+    client = subprocess.Popen([*words, "t1", INTENTS, "4"], stdout=subprocess.PIPE)
+    try:
+        lines = [client.stdout.readline() for _ in range(3)]
+        server.write(later[:1])
+        lines += client.stdout.readlines()
+        compare("client of docs/CLIENT.md", (0, page), (client.wait(), [line.decode().rstrip("\n") for line in lines]))
+        compare("serve beside client", 0, server.end()[0])
+    finally:
+        for process in (server.process, client):
+            if process.poll() is None:
+                process.kill()
+
+
 def out_of_time(*_):
     raise TimeoutError(f"not done after {LIMIT_SECONDS} seconds")
 
@@ -146,6 +169,7 @@ def main():
     signal.alarm(LIMIT_SECONDS)
     try:
         serve(gate, found)
+        follow(gate)
     except (OSError, subprocess.TimeoutExpired) as fault:
         failures.append(f"clients: {fault}")
     signal.alarm(0)

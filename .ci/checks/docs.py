@@ -9,7 +9,8 @@ import subprocess
 import sys
 
 os.chdir(os.path.join(os.path.dirname(os.path.abspath(__file__)), "../.."))
-STEPS, TRANSCRIPT, PAYLOADS, LOAD, SERVE = "docs/STEPS.md", "docs/TRANSCRIPT.md", "docs/PAYLOADS.md", "docs/LOAD.md", "docs/SERVE.md"
+STEPS, TRANSCRIPT, PAYLOADS, LOAD = "docs/STEPS.md", "docs/TRANSCRIPT.md", "docs/PAYLOADS.md", "docs/LOAD.md"
+SERVE, CLIENT = "docs/SERVE.md", "docs/CLIENT.md"
 # What the page calls a kind of field, by the name of the function that reads it.
 KINDS = {"moment": "time", "kind": "channel type", "thread_kind": "thread type", "overwrite_kind": "overwrite type", "parts": "count"}
 # Which objects stand under these keys, and are these dispatches.
@@ -140,7 +141,8 @@ def compare_tables():
     compare_rows("close codes", TRANSCRIPT, [(line, (int(code), name)) for line, (code, name, *_) in rows(TRANSCRIPT, "code")], source)
     statuses = functions("crates/gateway_main/src/statuses.rt")
     others = constants("gateway_main")
-    for page, name, head in ((TRANSCRIPT, "play_status", "status"), (LOAD, "load_status", "status of a load"), (SERVE, "serve_status", "status of a server")):
+    for page, name, head in ((TRANSCRIPT, "play_status", "status"), (LOAD, "load_status", "status of a load"),
+                             (SERVE, "serve_status", "status of a server"), (CLIENT, "follow_status", "status of a client")):
         told = [int(others.get(status, status)) for status in re.findall(r"=> (\w+),", statuses[name])]
         compare_rows("statuses", page, [(line, int(status)) for line, (status, *_) in rows(page, head)], sorted({*told, others["BAD_WORDS"]}))
 

@@ -1,10 +1,15 @@
 """Plays files and words that bot authors get wrong, and compares what the built program says: its status, the
 last line of the transcript and the line on standard error. Without a built program nothing is played."""
+import base64
+import hashlib
 import os
+import re
 import resource
+import socket
 import subprocess
 import sys
 import tempfile
+import threading
 
 os.chdir(os.path.join(os.path.dirname(os.path.abspath(__file__)), "../.."))
 BOT = '{"step":"bot","token":"t1","user":"9","name":"bee","privileged":33026}'
@@ -123,6 +128,8 @@ SAID = {
 }
 NO_SEED = "load takes one seed, a number below 2^64 in digits"
 NO_SERVE = "serve takes a port, 1 to 65532, a number of workers, 1 to 4, of connections that each accepts, 1 to 1000000, and 1 to 12 files"
+NO_CLIENT = ("client takes a URL that begins with ws://, of at most 200 bytes, a token, of 1 to 100 bytes, a number of intents, "
+             "and of dispatches, 1 to 1000000")
 # What was wrong, the words, the status and the line on standard error.
 WORDS = [
     ("no word", [], 2, "no command"),
@@ -135,13 +142,24 @@ WORDS = [
     ("help", ["--help"], 2, "no command --help"),
     ("an empty word", [""], 2, 'no command ""'),
     ("a word with a line feed", ["a\nb"], 2, 'no command "a\\nb"'),
-    ("a command that is not built", ["client", "ws://a", "t", "1", "1"], 2, "client is not built yet"),
     ("no files to serve", ["serve", "8080", "4", "1"], 2, NO_SERVE),
     ("port 0", ["serve", "0", "4", "1", "a"], 2, NO_SERVE),
     ("a port after the last", ["serve", "65533", "4", "1", "a"], 2, NO_SERVE),
     ("five workers", ["serve", "8080", "5", "1", "a"], 2, NO_SERVE),
     ("no connection to accept", ["serve", "8080", "4", "0", "a"], 2, NO_SERVE),
     ("thirteen files", ["serve", "8080", "4", "1", *"abcdefghijklm"], 2, NO_SERVE),
+    ("no count of dispatches", ["client", "ws://a", "t", "1"], 2, NO_CLIENT),
+    ("a fifth word of client", ["client", "ws://a", "t", "1", "1", "1"], 2, NO_CLIENT),
+    ("a URL without ws://", ["client", "127.0.0.1:8080", "t", "1", "1"], 2, NO_CLIENT),
+    ("a URL with TLS", ["client", "wss://a", "t", "1", "1"], 2, NO_CLIENT),
+    ("a URL of 201 bytes", ["client", "ws://" + "a" * 196, "t", "1", "1"], 2, NO_CLIENT),
+    ("an empty token", ["client", "ws://a", "", "1", "1"], 2, NO_CLIENT),
+    ("a dash for a token", ["client", "ws://a", "-", "1", "1"], 2, NO_CLIENT),
+    ("a token of 101 bytes", ["client", "ws://a", "t" * 101, "1", "1"], 2, NO_CLIENT),
+    ("an intent that is none", ["client", "ws://a", "t", "131072", "1"], 2, NO_CLIENT),
+    ("an intent by name", ["client", "ws://a", "t", "GUILDS", "1"], 2, NO_CLIENT),
+    ("a count of 0", ["client", "ws://a", "t", "1", "0"], 2, NO_CLIENT),
+    ("a count of 1000001", ["client", "ws://a", "t", "1", "1000001"], 2, NO_CLIENT),
     ("no seed", ["load"], 2, NO_SEED),
     ("two seeds", ["load", "1", "2"], 2, NO_SEED),
     ("a word for a seed", ["load", "seven"], 2, NO_SEED),
@@ -237,6 +255,34 @@ def try_load(gate):
         compare("a load to a full disk", (4, said(4, "cannot write the summary of load 7", "docs/LOAD.md")), (run.returncode, run.stderr.decode()))
 
 
+def answer_once(door, frame):
+    """Answers the handshake of one WebSocket client, and sends it this frame."""
+    peer, _ = door.accept()
+    with peer:
+        head = b""
+        while b"\r\n\r\n" not in head:
+            head += peer.recv(4096)
+        key = re.search(rb"(?i)sec-websocket-key: *(\S+)", head)[1]
+        accept = base64.b64encode(hashlib.sha1(key + b"258EAFA5-E914-47DA-95CA-C5AB0DC85B11").digest())
+        peer.sendall(b"HTTP/1.1 101 Switching Protocols\r\nUpgrade: websocket\r\nConnection: Upgrade\r\nSec-WebSocket-Accept: " + accept + b"\r\n\r\n" + frame)
+        while peer.recv(4096):
+            pass
+
+
+def try_client(gate):
+    """A gateway that closes for good, one that sends what is no payload, and none."""
+    door = socket.create_server(("127.0.0.1", 0))
+    url = f"ws://127.0.0.1:{door.getsockname()[1]}"
+    for what, frame, status, printed, text in (
+            ("a close for good", b"\x88\x02\x0f\xa4", 10, "closed 4004\n", f"client {url} was closed with 4004"),
+            ("a text that is no payload", b"\x81\x02{}", 11, "bad text\n", f"client {url} got a text that is no payload"),
+            ("no gateway", None, 9, "", f"nine connections of client {url} failed, one after another, without a text between them")):
+        peer = threading.Thread(target=answer_once, args=(door, frame), daemon=True)
+        peer.start() if frame else door.close()
+        run = subprocess.run([gate, "client", url, "t1", "1", "1"], capture_output=True, timeout=60)
+        compare(what, (status, printed, said(status, text, "docs/CLIENT.md")), (run.returncode, run.stdout.decode(), run.stderr.decode()))
+
+
 def program():
     """The program that GATE names, or else the one that the gate has built."""
     built = os.environ.get("GATE") or "crates/gateway_main/out/gateway_main"
@@ -254,6 +300,7 @@ try_words(gate)
 try_serve(gate)
 try_outside(gate)
 try_load(gate)
+try_client(gate)
 print(*failures, sep="\n", end="\n" if failures else "")
-print(f"mistakes: {len(LINES) + len(WORDS) + 11} tried, {len(failures)} answered otherwise")
+print(f"mistakes: {len(LINES) + len(WORDS) + 14} tried, {len(failures)} answered otherwise")
 sys.exit(bool(failures))

@@ -4,7 +4,7 @@ use Rattle.std.proofs.lemmas.Bool.Decides.{nat_tests}
 use Rattle.std.specs.Prelude.{option_and_then}
 use Rattle.std.specs.List.{list_any}
 use Rattle.std.specs.Str.{bytes_eq}
-use Rattle.serve_words.specs.Words.{Asked, run, load, serve, is_option, number_of, number_to, served, run_words, load_words, serve_words, named_words, command_of}
+use Rattle.serve_words.specs.Words.{Asked, run, load, serve, is_option, number_of, number_to, url_of, token_of, intents_of, served, followed, run_words, load_words, serve_words, client_words, named_words, command_of}
 
 -- the bounds of what `serve` asks for
 pub record AreBounded (port workers : ℕ) (files : List (List ℕ)) : Type 0 where
@@ -83,15 +83,31 @@ module _ (port workers accepts : ℕ) (files : List (List ℕ)) where
             files_most = grind (arith, nat_tests, both.1);
           })
 
+  of_followed : (url token : Option (List ℕ)) (intents count : Option ℕ) → Is (followed url token intents count) → ⊥
+  of_followed None token intents count e = absurd cc
+  of_followed (Some url) None intents count e = absurd cc
+  of_followed (Some url) (Some token) None count e = absurd cc
+  of_followed (Some url) (Some token) (Some intents) None e = absurd cc
+  of_followed (Some url) (Some token) (Some intents) (Some count) e = absurd cc
+
+  of_client : (words : List (List ℕ)) → Is (client_words words) → ⊥
+  of_client [] e = absurd cc
+  of_client (url ∷ []) e = absurd cc
+  of_client (url ∷ token ∷ []) e = absurd cc
+  of_client (url ∷ token ∷ intents ∷ []) e = absurd cc
+  of_client (url ∷ token ∷ intents ∷ count ∷ []) e = of_followed (url_of url) (token_of token) (intents_of intents) (number_to 1000000 count) e
+  of_client (url ∷ token ∷ intents ∷ count ∷ more ∷ words) e = absurd cc
+
   of_names : (words : List (List ℕ)) → Is (named_words words) → AreBounded port workers files
   of_names [] e = absurd cc
-  of_names (name ∷ words) e = by_tests (bytes_eq name (codes "run")) (bytes_eq name (codes "load")) (bytes_eq name (codes "serve")) e
+  of_names (name ∷ words) e = by_tests (bytes_eq name (codes "run")) (bytes_eq name (codes "load")) (bytes_eq name (codes "serve")) (bytes_eq name (codes "client")) e
     where
-      by_tests : (a b c : Bool) → Is (if a then run_words words else (if b then load_words words else (if c then serve_words words else None))) → AreBounded port workers files
-      by_tests true b c e = absurd (of_run words e)
-      by_tests false true c e = absurd (of_load words e)
-      by_tests false false true e = of_serve words e
-      by_tests false false false e = absurd cc
+      by_tests : (a b c d : Bool) → Is (if a then run_words words else (if b then load_words words else (if c then serve_words words else (if d then client_words words else None)))) → AreBounded port workers files
+      by_tests true b c d e = absurd (of_run words e)
+      by_tests false true c d e = absurd (of_load words e)
+      by_tests false false true d e = of_serve words e
+      by_tests false false false true e = absurd (of_client words e)
+      by_tests false false false false e = absurd cc
 
   pub are_bounded : (words : List (List ℕ)) → Is (command_of words) → AreBounded port workers files
   are_bounded words e = by_option (list_any is_option words) e

@@ -4,7 +4,7 @@ use Rattle.std.specs.declared.option.Option.{Option}
 use Rattle.std.specs.declared.option.Option.TheVariants.{Some, None}
 use Rattle.std.specs.Io.KnownBytes.{Appends}
 use Rattle.gate_outside.specs.Houses.{HouseTale}
-use Rattle.serve_words.specs.Words.{Asked as Command, run, load, serve}
+use Rattle.serve_words.specs.Words.{Asked as Command, run, load, serve, client}
 use Rattle.load_run.specs.declared.fault.LoadFault.TheVariants as ends
 use Rattle.scenario.specs.declared.fault.PlayFault.TheVariants as play
 use Rattle.house_loans.specs.Clocks.{LendsClocks}
@@ -12,7 +12,8 @@ use Rattle.house_loans.proofs.Lending.{clocks_none}
 use Rattle.house_loans.proofs.Returned.{clocks_back_none}
 use Rattle.serve_ends.specs.declared.fault.ServeFault.TheVariants as serving
 use Rattle.serve_house.proofs.Back.{ran_out}
-use Rattle.gateway_main.specs.Gate.{Outside, Does, LeavesTeams}
+use Rattle.client_follow.specs.declared.fault.FollowFault.TheVariants as follow
+use Rattle.gateway_main.specs.Gate.{Outside, Does, LeavesDial, LeavesTeams}
 use Rattle.gateway_main.specs.Usage.{usage}
 
 appends_none : (got : Option (List ℕ)) → Appends got got []
@@ -48,11 +49,18 @@ module _ (old : Outside) where
     serve_team = refl;
   }
 
+  leaves_dial : LeavesDial old old
+  leaves_dial = record {
+    dial = refl;
+    dial_faults = refl;
+  }
+
   -- out of memory before the command began
   pub out_of_memory : (R : Type 0) (command : Option Command) → Does R command old old None 6
   out_of_memory R None = record {
     usage = inr (inr (refl, ([], old.sink.waits ++ usage, refl, appends_none old.sink.got)));
     house = refl;
+    dial = leaves_dial;
     teams = leaves_teams;
     fault = refl;
   }
@@ -68,6 +76,7 @@ module _ (old : Outside) where
       clocks = refl;
       door_faults = refl;
     };
+    dial = leaves_dial;
     teams = leaves_teams;
     fault = inr (refl, refl);
   }
@@ -81,6 +90,7 @@ module _ (old : Outside) where
       asked = λ e. absurd (cc);
     };
     clocks = lends_none 15 old.house;
+    dial = leaves_dial;
     serve_team = refl;
     fault = inr (refl, refl);
   }
@@ -88,6 +98,14 @@ module _ (old : Outside) where
     ended = Err serving.Memory;
     status_is = refl;
     serves = ran_out R port workers accepts files old.sink old.serve_team old.house;
+    dial = leaves_dial;
     load_team = refl;
+    fault = inr (refl, refl);
+  }
+  out_of_memory R (Some (client url token intents count)) = record {
+    followed = Err follow.Memory;
+    status_is = refl;
+    follows = inl (record { fault = refl; asks = clocks_none old.house; dial = refl; sink = refl });
+    teams = leaves_teams;
     fault = inr (refl, refl);
   }

@@ -3,6 +3,7 @@ use Rattle.std.specs.Prelude.{◌≡◌, ◌⊎◌, ℕ, List, ◌++◌, Result,
 use Rattle.std.specs.declared.option.Option.{Option}
 use Rattle.gate_outside.specs.declared.asked.Asked.{Asked}
 use Rattle.gate_outside.specs.declared.asked.Asked.TheVariants as ask
+use Rattle.gate_outside.specs.Dials.{DialTale}
 use Rattle.gate_outside.specs.Houses.{HouseTale, ReturnedSource, returned_source, GivesOwn}
 use Rattle.gate_outside.specs.Told.{GrowsBy}
 use Rattle.scenario.specs.declared.fault.PlayFault.{PlayFault}
@@ -13,7 +14,7 @@ use Rattle.std.specs.Io.KnownBytes.{Appends}
 use Rattle.gate_outside.specs.Causes.{Rose}
 use Rattle.gate_outside.specs.declared.faults.Fault.{Fault}
 use Rattle.gate_outside.specs.declared.faults.Fault.TheVariants as sink_fault
-use Rattle.serve_words.specs.Words.{Asked as Command, run, load, serve}
+use Rattle.serve_words.specs.Words.{Asked as Command, run, load, serve, client}
 use Rattle.load_run.specs.declared.fault.LoadFault.{LoadFault}
 use Rattle.load_run.specs.declared.fault.LoadFault.TheVariants as ends
 use Rattle.load_run.specs.Causes.{Loads, HasLoadCause, StartsParts}
@@ -21,8 +22,11 @@ use Rattle.house_loans.specs.Clocks.{LendsClocks}
 use Rattle.serve_ends.specs.declared.fault.ServeFault.{ServeFault}
 use Rattle.serve_ends.specs.declared.fault.ServeFault.TheVariants as serving
 use Rattle.serve_house.specs.Serving.{SinkTale, TeamTale, ServesFiles}
+use Rattle.client_follow.specs.declared.fault.FollowFault.{FollowFault}
+use Rattle.client_follow.specs.declared.fault.FollowFault.TheVariants as follow
 use Rattle.gateway_main.specs.declared.fault.GateFault.{GateFault}
 use Rattle.gateway_main.specs.declared.fault.GateFault.TheVariants as gate_fault
+use Rattle.gateway_main.specs.Following.{following as client_of, FollowsOver}
 use Rattle.gateway_main.specs.Usage.{usage}
 
 -- the exit status of a play
@@ -56,6 +60,15 @@ serve_status (Err serving.Door) = 7
 serve_status (Err serving.Start) = 8
 serve_status (Err serving.Spent) = 12
 
+-- the exit status of a client
+abbrev pub follow_status : Result (Unit {0}) FollowFault → ℕ
+follow_status (Ok x) = 0
+follow_status (Err follow.Write) = 4
+follow_status (Err follow.Memory) = 6
+follow_status (Err follow.Dials) = 9
+follow_status (Err (follow.Closed code)) = 10
+follow_status (Err follow.BadText) = 11
+
 -- why a play did not come to its end, and nothing if it did
 abbrev pub play_fault : Result (Unit {0}) PlayFault → Option GateFault
 play_fault (Ok x) = None
@@ -70,6 +83,11 @@ load_fault (Err fault) = Some (gate_fault.Load fault)
 abbrev pub serve_fault : Result (Unit {0}) ServeFault → Option GateFault
 serve_fault (Ok x) = None
 serve_fault (Err fault) = Some (gate_fault.Serve fault)
+
+-- why a client did not come to its end, and nothing if it did
+abbrev pub follow_fault : Result (Unit {0}) FollowFault → Option GateFault
+follow_fault (Ok x) = None
+follow_fault (Err fault) = Some (gate_fault.Follow fault)
 
 -- no source was given, and nothing was written or put back
 abbrev pub NotGiven : (returned0 returned1 : Option (List ReturnedSource)) (got0 got1 : Option (List ℕ)) → Result (Unit {0}) PlayFault → Type 0
@@ -108,15 +126,23 @@ pub record LeavesRest (old new : HouseTale) : Type 0 where
   pub clocks : new.clocks ≡ old.clocks
   pub door_faults : new.door_faults ≡ old.door_faults
 
--- what is outside of the command tells: its house, its sink, and its teams
+-- what is outside of the command tells: its house, also as a dial, with its count of faults as one; its sink, and its teams
 pub record Outside : Type 0 where
   pub house : HouseTale
+  pub dial : DialTale
+  pub dial_faults : ℕ
   pub sink : SinkTale
   pub load_team : TeamTale
   pub serve_team : TeamTale
 
-abbrev pub outside : HouseTale → SinkTale → (load_team serve_team : TeamTale) → Outside
-outside house sink load_team serve_team = record { house = house; sink = sink; load_team = load_team; serve_team = serve_team }
+abbrev pub outside : HouseTale → DialTale → (dial_faults : ℕ) → SinkTale → (load_team serve_team : TeamTale) → Outside
+outside house dial dial_faults sink load_team serve_team =
+    record { house = house; dial = dial; dial_faults = dial_faults; sink = sink; load_team = load_team; serve_team = serve_team }
+
+-- no URL was dialled
+pub record LeavesDial (old new : Outside) : Type 0 where
+  pub dial : new.dial ≡ old.dial
+  pub dial_faults : new.dial_faults ≡ old.dial_faults
 
 -- no team was used
 pub record LeavesTeams (old new : Outside) : Type 0 where
@@ -131,6 +157,7 @@ TellsFault told fault ran_out = (told ≡ fault) ⊎ ((told ≡ None) × ran_out
 pub record Refuses (old new : Outside) (told : Option GateFault) (status : ℕ) : Type 0 where
   pub usage : TellsUsage old.sink.got new.sink.got old.sink.waits old.sink.faults new.sink.faults status
   pub house : new.house ≡ old.house
+  pub dial : LeavesDial old new
   pub teams : LeavesTeams old new
   pub fault : told ≡ None
 
@@ -142,6 +169,7 @@ pub record Plays (file : List ℕ) (old new : Outside) (told : Option GateFault)
   pub asks : AsksOnce old.house.asks new.house.asks file played
   pub cause : PlayCause old.house.source_faults new.house.source_faults old.sink.faults new.sink.faults played
   pub rest : LeavesRest old.house new.house
+  pub dial : LeavesDial old new
   pub teams : LeavesTeams old new
   pub fault : TellsFault told (play_fault played) (played ≡ Err play.Memory)
 
@@ -153,6 +181,7 @@ pub record RunsLoad (R : Type 0) (seed : ℕ) (old new : Outside) (told : Option
   pub cause : HasLoadCause R seed old.load_team.faults new.load_team.faults old.sink.faults new.sink.faults loaded
   pub starts : StartsParts old.load_team.starts new.load_team.starts loaded
   pub clocks : LendsClocks 15 old.house new.house
+  pub dial : LeavesDial old new
   pub serve_team : new.serve_team ≡ old.serve_team
   pub fault : TellsFault told (load_fault loaded) (loaded ≡ Err ends.Memory)
 
@@ -161,8 +190,17 @@ pub record RunsServe (R : Type 0) (port workers accepts : ℕ) (files : List (Li
   pub ended : Result (Unit {0}) ServeFault
   pub status_is : status ≡ serve_status ended
   pub serves : ServesFiles R port workers accepts files old.house new.house old.sink new.sink old.serve_team new.serve_team ended
+  pub dial : LeavesDial old new
   pub load_team : new.load_team ≡ old.load_team
   pub fault : TellsFault told (serve_fault ended) (ended ≡ Err serving.Memory)
+
+-- `client URL TOKEN INTENTS COUNT`: the gateway at that URL is followed, over the house's dial and with a clock that it lends
+pub record RunsClient (url token : List ℕ) (intents count : ℕ) (old new : Outside) (told : Option GateFault) (status : ℕ) : Type 0 where
+  pub followed : Result (Unit {0}) FollowFault
+  pub status_is : status ≡ follow_status followed
+  pub follows : FollowsOver (client_of url token intents count) old.house new.house old.dial new.dial old.sink new.sink followed
+  pub teams : LeavesTeams old new
+  pub fault : TellsFault told (follow_fault followed) (followed ≡ Err follow.Memory)
 
 -- what is done for what the words ask for
 abbrev pub Does : (R : Type 0) → Option Command → (old new : Outside) → (told : Option GateFault) → (status : ℕ) → Type 0
@@ -170,3 +208,4 @@ Does R None old new told status = Refuses old new told status
 Does R (Some (run file)) old new told status = Plays file old new told status
 Does R (Some (load seed)) old new told status = RunsLoad R seed old new told status
 Does R (Some (serve port workers accepts files)) old new told status = RunsServe R port workers accepts files old new told status
+Does R (Some (client url token intents count)) old new told status = RunsClient url token intents count old new told status

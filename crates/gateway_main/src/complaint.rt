@@ -2,6 +2,7 @@
 use crate::fault::GateFault;
 use crate::shown::Shown;
 use crate::statuses::NO_MEMORY;
+use client_follow::FollowFault;
 use edit_text::LineFault;
 use gate_outside::std_house::STANDARD_INPUT;
 use load_run::LoadFault;
@@ -38,9 +39,9 @@ fn tell_words<R: Eprint>(rt: &R, words: &[String]) -> io::Result<()> {
             "serve" => eprintln!(rt;
                 "gate: serve takes a port, 1 to 65532, a number of workers, 1 to 4, of connections that each accepts, 1 to 1000000, and 1 to 12 files (status 2; see README.md)"
             ),
-            "client" => {
-                eprintln!(rt; "gate: {command} is not built yet (status 2; see README.md)")
-            }
+            "client" => eprintln!(rt;
+                "gate: client takes a URL that begins with ws://, of at most 200 bytes, a token, of 1 to 100 bytes, a number of intents, and of dispatches, 1 to 1000000 (status 2; see README.md)"
+            ),
             word => eprintln!(rt;
                 "gate: no command {} (status 2; see README.md)",
                 Shown(word)
@@ -150,6 +151,28 @@ fn tell_serve<R: Eprint>(
     }
 }
 
+// Says why a client did not come to its end. The token is not said.
+fn tell_client<R: Eprint>(rt: &R, url: &str, fault: FollowFault) -> io::Result<()> {
+    let url = Shown(url);
+    match fault {
+        FollowFault::Write => eprintln!(rt;
+            "gate: cannot write the lines of client {url} (status 4; see docs/CLIENT.md)"
+        ),
+        FollowFault::Memory => {
+            eprintln!(rt; "gate: out of memory in client {url} (status 6; see docs/CLIENT.md)")
+        }
+        FollowFault::Dials => eprintln!(rt;
+            "gate: nine connections of client {url} failed, one after another, without a text between them (status 9; see docs/CLIENT.md)"
+        ),
+        FollowFault::Closed { code } => eprintln!(rt;
+            "gate: client {url} was closed with {code} (status 10; see docs/CLIENT.md)"
+        ),
+        FollowFault::BadText => eprintln!(rt;
+            "gate: client {url} got a text that is no payload (status 11; see docs/CLIENT.md)"
+        ),
+    }
+}
+
 /// Says that memory ran out before there were words.
 pub fn tell_memory<R: Eprint>(rt: &R) -> io::Result<()> {
     eprintln!(rt; "gate: out of memory (status 6; see docs/TRANSCRIPT.md)")
@@ -173,6 +196,7 @@ pub fn tell<R: Eprint>(
         (Some(GateFault::Serve(fault)), [_, port, _, _, files @ ..]) => {
             tell_serve(rt, port.as_str(), files, fault)
         }
+        (Some(GateFault::Follow(fault)), [_, url, ..]) => tell_client(rt, url.as_str(), fault),
         _ if status == NO_MEMORY => tell_memory(rt),
         _ => tell_words(rt, words),
     }

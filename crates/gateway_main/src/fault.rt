@@ -1,5 +1,6 @@
 //! Why a command does not come to its end.
 
+use client_follow::FollowFault;
 use load_run::LoadFault;
 use scenario::PlayFault;
 use serve_ends::ServeFault;
@@ -13,4 +14,6 @@ pub enum GateFault {
     Load(LoadFault),
     /// A run of `serve` ended by this fault.
     Serve(ServeFault),
+    /// A client ended by this fault.
+    Follow(FollowFault),
 }

@@ -7,11 +7,13 @@ ghost use Rattle.serve_house.specs.Serving.{sink_tale, team_tale};
 ghost use Rattle.gateway_main.specs.Gate.{outside, Does};
 
 use crate::fault::GateFault;
+use crate::following::run_client;
 use crate::loading::run_load;
 use crate::playing::run;
 use crate::refusing::refuse;
 use crate::statuses::{
-    NO_MEMORY, load_fault, load_status, play_fault, play_status, serve_fault, serve_status,
+    NO_MEMORY, follow_fault, follow_status, load_fault, load_status, play_fault, play_status,
+    serve_fault, serve_status,
 };
 use gate_outside::doors::Door;
 use gate_outside::houses::House;
@@ -40,10 +42,16 @@ use world_law::the_law;
 /// fails, 5 if a line is no step, 6 if memory runs out, 7 if a port cannot be listened on or its door fails, 8 if a
 /// part does not start, 12 if a count is at its last value.
 ///
+/// `client URL TOKEN INTENTS COUNT` follows the gateway at that URL as a bot with that token and those intents, over the
+/// house's dial, and writes a line for each of COUNT dispatches, and then one for each guild of which it holds a view:
+/// 0, or 4 if the sink fails, 6 if memory runs out, 9 if nine dials and links fail, one after another, without a text
+/// between them, 10 if the gateway closes with a code after which no client may connect again, 11 if it sends a text
+/// that is no payload.
+///
 /// For other words it writes the usage line and answers 2, or 6 if memory runs out.
 ///
-/// What waited before the sink goes out first. `fault` is then why a play, a load or a run of `serve` did not come to its
-/// end; `None` if it did, or if memory ran out before it began.
+/// What waited before the sink goes out first. `fault` is then why a play, a load, a run of `serve` or a client did not
+/// come to its end; `None` if it did, or if memory ran out before it began. No dial of the house has failed yet.
 pub fn gate<
     R: Wait + time::Clock + Copy + Drop,
     H: House,
@@ -64,19 +72,19 @@ where
     H::Gate: Drop,
     H::Time: Drop,
     <H::Gate as Door>::Wire: Drop,
+    H::Wire: Drop,
+    requires { (H.tale house.old).dry_run ≡ 0 }
     ensures words { result ≡ 2 → command_of (map string_bytes words.now) ≡ None }
     ensures does { Does R (command_of (map string_bytes words.now))
-        (outside (H.house_tale house.old)
+        (outside (H.house_tale house.old) (H.tale house.old) (H.faults house.old)
         (sink_tale (H.Out.got sink.old) (H.Out.waits sink.old) (H.Out.faults sink.old))
         (team_tale (S.starts load_team.old) (S.faults load_team.old))
         (team_tale (T.starts serve_team.old) (T.faults serve_team.old)))
-        (outside (H.house_tale house.new)
+        (outside (H.house_tale house.new) (H.tale house.new) (H.faults house.new)
         (sink_tale (H.Out.got sink.new) (H.Out.waits sink.new) (H.Out.faults sink.new))
         (team_tale (S.starts load_team.new) (S.faults load_team.new))
         (team_tale (T.starts serve_team.new) (T.faults serve_team.new)))
         fault.new result }
-    ensures dial { H.tale house.new ≡ H.tale house.old }
-    ensures dial_faults { H.faults house.new ≡ H.faults house.old }
     ensures law { TheLaw }
 {
     the_law();
@@ -109,6 +117,16 @@ where
             );
             *fault = serve_fault(&ended);
             serve_status(&ended)
+        }
+        Command::Client {
+            url,
+            token,
+            intents,
+            count,
+        } => {
+            let followed = run_client(&rt, alloc, url, token, intents, count, house, sink);
+            *fault = follow_fault(&followed);
+            follow_status(&followed)
         }
     }
 }

@@ -3,6 +3,7 @@
 
 mod complaint;
 mod fault;
+mod following;
 mod gate;
 mod loading;
 mod playing;

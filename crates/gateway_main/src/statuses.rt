@@ -1,9 +1,10 @@
 //! The exit statuses of the command, and the faults that they tell.
 
 ghost use Rattle.std.specs.Prelude.{◌≡◌};
-ghost use Rattle.gateway_main.specs.Gate.{play_status, play_fault, load_status, load_fault, serve_status, serve_fault, usage_status};
+ghost use Rattle.gateway_main.specs.Gate.{play_status, play_fault, load_status, load_fault, serve_status, serve_fault, follow_status, follow_fault, usage_status};
 
 use crate::fault::GateFault;
+use client_follow::FollowFault;
 use gate_outside::faults::Fault;
 use load_run::LoadFault;
 use scenario::PlayFault;
@@ -88,6 +89,30 @@ pub fn serve_fault(ended: &Result<(), ServeFault>) -> Option<GateFault>
     match ended {
         Ok(()) => None,
         Err(fault) => Some(GateFault::Serve(*fault)),
+    }
+}
+
+/// The exit status of a client.
+pub fn follow_status(followed: &Result<(), FollowFault>) -> u8
+    ensures { result ≡ follow_status followed.now }
+{
+    match followed {
+        Ok(()) => 0,
+        Err(FollowFault::Write) => 4,
+        Err(FollowFault::Memory) => NO_MEMORY,
+        Err(FollowFault::Dials) => 9,
+        Err(FollowFault::Closed { .. }) => 10,
+        Err(FollowFault::BadText) => 11,
+    }
+}
+
+/// Why a client did not come to its end.
+pub fn follow_fault(followed: &Result<(), FollowFault>) -> Option<GateFault>
+    ensures { result ≡ follow_fault followed.now }
+{
+    match followed {
+        Ok(()) => None,
+        Err(fault) => Some(GateFault::Follow(*fault)),
     }
 }
 

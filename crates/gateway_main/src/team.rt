@@ -1,5 +1,7 @@
 //! The command over a team that runs each part of a load, or of a run of `serve`, in a thread of its own.
 
+ghost use Rattle.std.specs.Prelude.{◌≡◌};
+
 use crate::fault::GateFault;
 use crate::gate::gate;
 use gate_outside::doors::Door;
@@ -32,6 +34,8 @@ pub struct GateWork<'a, R, H: House> {
     pub house: H,
     /// Where it writes.
     pub sink: H::Out,
+    /// No dial of its house has failed.
+    pub ghost dry: { (H.tale house).dry_run ≡ 0 },
 }
 
 impl<'a, R: Wait + time::Clock + Copy + Drop, H: House + Drop> GateWork<'a, R, H>
@@ -41,6 +45,7 @@ where
     H::Gate: Drop,
     H::Time: Drop,
     <H::Gate as Door>::Wire: Drop,
+    H::Wire: Drop,
 {
     // Does what the words say with these teams.
     fn with_teams<
@@ -73,6 +78,7 @@ where
     H::Gate: Drop,
     H::Time: Drop,
     <H::Gate as Door>::Wire: Drop,
+    H::Wire: Drop,
 {
     ghost use Rattle.std.specs.Prelude.{⊤};
 
@@ -99,6 +105,7 @@ where
     H::Gate: Drop,
     H::Time: Drop,
     <H::Gate as Door>::Wire: Drop,
+    H::Wire: Drop,
 {
     ghost use Rattle.std.specs.Prelude.{⊤};
 

@@ -1,4 +1,7 @@
+pub mod Intents
 pub mod Walks
 pub mod Subcommands
+pub mod Singles
+pub mod Serve
 pub mod Commands
 pub mod Found

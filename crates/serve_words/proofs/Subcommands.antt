@@ -7,7 +7,8 @@ use Rattle.clap.specs.Faults.{check_fault, defaults_fault, entered_fault, fault_
 use Rattle.clap.specs.Simple.{Shape, built, entered, label_of, names_of, new_shape, rows_at, subcommand_of}
 use Rattle.clap.specs.Takes.{default_passes, entered_passes, is_valid, level_passes, settle_passes, takes, turn_passes, walk_passes}
 use Rattle.clap.specs.Walk.{finished, Names, Text, Walk, answers_to, nothing_held, idle, rows_after, settled, subcommand_met, value, walk, walked}
-use Rattle.serve_words.specs.Grammar.{gate}
+use Rattle.serve_words.specs.Words.{Asked}
+use Rattle.serve_words.specs.Grammar.{gate, found_in}
 use Rattle.serve_words.proofs.Walks.{IsFree, IsPlain, at_start, first_empty, second_empty, step_is_faultless, stopped_at, stopped_walk, stopped_passes}
 
 abbrev pub top : Shape
@@ -42,6 +43,17 @@ load_is = record { stops = refl; passes = refl; found = refl; own = refl }
 pub serve_is : IsNamed (codes "serve") (shape_by (codes "serve"))
 unfolding walked
 serve_is = record { stops = refl; passes = refl; found = refl; own = refl }
+
+pub client_is : IsNamed (codes "client") (shape_by (codes "client"))
+unfolding walked
+client_is = record { stops = refl; passes = refl; found = refl; own = refl }
+
+-- what is asked for by what `clap` finds in a name and the words after it
+abbrev pub found_by : Text → List Text → Option Asked
+found_by name words = found_in (name ∷ words) (subcommand_of gate (name ∷ words))
+
+abbrev pub IsTaken : Text → List Text → Type 0
+IsTaken name words = takes gate (name ∷ words) ≡ true
 
 -- what is asked of a walk at its end
 abbrev pub ends : Shape → Walk → Bool → Bool

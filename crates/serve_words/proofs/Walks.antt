@@ -42,7 +42,7 @@ plain (b ∷ []) is = by_dash (b == 45) refl
     by_dash false e = record { long = rw e refl; short = rw e refl; other = no_dashes (b ∷ []) is }
 plain (b ∷ d ∷ bs) is = record { long = rw is refl; short = rw is refl; other = no_dashes (b ∷ d ∷ bs) is }
 
-pub neither : (s t : Bool) → s || t ≡ false → (s ≡ false) × (t ≡ false)
+neither : (s t : Bool) → s || t ≡ false → (s ≡ false) × (t ≡ false)
 neither false t e = (refl, e)
 neither true t e = absurd (true≢false e)
 
@@ -52,6 +52,14 @@ first_plain word words none = plain word (neither (is_option word) (list_any is_
 
 pub others_plain : (word : Text) (words : List Text) → list_any is_option (word ∷ words) ≡ false → list_any is_option words ≡ false
 others_plain word words none = (neither (is_option word) (list_any is_option words) none).1
+
+-- two parts of words without options have none
+pub split_none : (words more : List Text) → list_any is_option (words ++ more) ≡ false → (list_any is_option words ≡ false) × (list_any is_option more ≡ false)
+split_none [] more none = (refl, none)
+split_none (word ∷ words) more none =
+    let parts = neither (is_option word) (list_any is_option (words ++ more)) none in
+    let later = split_none words more parts.1 in
+    (ap₂ (λ (s t : Bool). s || t) parts.0 later.0, later.1)
 
 -- ---- kinds of faults
 

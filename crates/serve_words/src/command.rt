@@ -1,5 +1,7 @@
 //! What the words of the command ask for.
 
+use intent_set::Intents;
+
 /// What the words of the command ask for.
 #[derive(Clone, Copy, Debug)]
 pub enum Command<'a> {
@@ -22,5 +24,16 @@ pub enum Command<'a> {
         accepts: u32,
         /// The names of the step files, 1 to 12. `-` is standard input.
         files: &'a [String],
+    },
+    /// `client URL TOKEN INTENTS COUNT`: to follow the gateway at that URL as a bot.
+    Client {
+        /// The gateway's URL, which begins with `ws://`, of at most 200 bytes.
+        url: &'a str,
+        /// The bot's token, of 1 to 100 bytes.
+        token: &'a str,
+        /// The intents with which the bot identifies.
+        intents: Intents,
+        /// After how many dispatches it ends, 1 to 1,000,000.
+        count: u32,
     },
 }

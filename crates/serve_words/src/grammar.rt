@@ -2,7 +2,7 @@
 
 ghost use Rattle.std.specs.Prelude.{◌≡◌, false, IfOk, codes};
 ghost use Rattle.clap.specs.Words.{app_of, new_app, rule_of};
-ghost use Rattle.serve_words.specs.Grammar.{required, files, one_word, serve, without_help, gate, HasNoGlobals};
+ghost use Rattle.serve_words.specs.Grammar.{required, files, one_word, serve, client, without_help, gate, HasNoGlobals};
 
 use clap::Arg;
 use std::alloc::{AllocError, Global};
@@ -46,6 +46,17 @@ fn serve<'a>(alloc: Global) -> Result<clap::Command<'a>, AllocError>
         .arg(files(alloc))
 }
 
+// The subcommand `client`.
+fn client<'a>(alloc: Global) -> Result<clap::Command<'a>, AllocError>
+    ensures app { IfOk result (λ command. app_of command ≡ client) }
+    ensures globals { IfOk result HasNoGlobals }
+{
+    one_word(alloc, "client", "URL")?
+        .arg(required(alloc, "TOKEN"))?
+        .arg(required(alloc, "INTENTS"))?
+        .arg(required(alloc, "COUNT"))
+}
+
 // The command without its subcommands. It takes neither the name of the program nor words for help.
 fn without_help<'a>(alloc: Global) -> clap::Command<'a>
     ensures { app_of result ≡ without_help (new_app (codes "gate")) }
@@ -63,8 +74,10 @@ pub fn grammar<'a>(alloc: Global) -> Result<clap::Command<'a>, AllocError>
     let run = one_word(alloc, "run", "FILE")?;
     let load = one_word(alloc, "load", "SEED")?;
     let serve = serve(alloc)?;
+    let client = client(alloc)?;
     without_help(alloc)
         .subcommand(run)?
         .subcommand(load)?
-        .subcommand(serve)
+        .subcommand(serve)?
+        .subcommand(client)
 }

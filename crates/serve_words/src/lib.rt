@@ -4,6 +4,7 @@
 mod command;
 mod grammar;
 mod reading;
+mod word;
 
 pub use command::Command;
 pub use reading::read_words;

@@ -2,15 +2,15 @@
 
 ghost use Rattle.std.specs.Prelude.{◌≡◌, ◌≤◌, map, drop, string_bytes, option_map, IfOk, IfSome};
 ghost use Rattle.std.specs.List.{list_any};
-ghost use Rattle.clap.specs.Words.{found_of, rows_of, subcommand_rows_of};
-ghost use Rattle.serve_words.specs.Words.{is_option, number_of, number_to, asked, command_of};
-ghost use Rattle.serve_words.specs.Grammar.{file_in, seed_in, number_in, serve_in, found_in};
+ghost use Rattle.clap.specs.Words.{first_of, found_of, rows_of, subcommand_rows_of};
+ghost use Rattle.serve_words.specs.Words.{is_option, asked, command_of};
+ghost use Rattle.serve_words.specs.Grammar.{file_in, seed_in, number_in, serve_in, client_in, found_in};
 
 use crate::command::Command;
 use crate::grammar::grammar;
+use crate::word::{intents_of, number_of, number_to, token_of, url_of};
 use clap::ArgMatches;
 use clap::error::ErrorKind;
-use snowflake_id::Snowflake;
 use std::alloc::{AllocError, Global};
 
 // The last port after which the other workers have theirs.
@@ -19,6 +19,8 @@ const LAST_PORT: u64 = 65_532;
 const MOST_WORKERS: u64 = 4;
 
 const MOST_ACCEPTS: u64 = 1_000_000;
+
+const MOST_COUNT: u64 = 1_000_000;
 
 // Whether a word is an option: it begins with a dash, and is not the dash alone.
 fn is_option(word: &str) -> bool
@@ -36,27 +38,11 @@ fn has_options(words: &[String]) -> bool
     words.iter().any(|word| is_option(word))
 }
 
-// The number that a word is: digits, whose value is below 2^64. Ids are written so too.
-fn number_of(word: &str) -> Option<u64>
-    ensures { result ≡ number_of word.now }
+// The word that `clap` found by this name.
+fn word_in<'a>(found: &ArgMatches<'a>, name: &str) -> Option<&'a str>
+    ensures { option_map (λ word. word.now) result ≡ first_of name.now (rows_of (found_of found.now)) }
 {
-    match Snowflake::parse(word) {
-        Ok(number) => Some(number.0),
-        Err(_) => None,
-    }
-}
-
-// The number that a word is, if it is from 1 to `most`.
-fn number_to(most: u64, word: &str) -> Option<u64>
-    ensures is { result ≡ number_to most word.now }
-    ensures bound { IfSome result (λ number. number ≤ most) }
-{
-    let number = number_of(word)?;
-    if 1 <= number && number <= most {
-        Some(number)
-    } else {
-        None
-    }
+    found.get_str(name)
 }
 
 // The number from 1 to `most` that `clap` found by this name.
@@ -64,14 +50,14 @@ fn number_in(found: &ArgMatches<'_>, name: &str, most: u64) -> Option<u64>
     ensures is { result ≡ number_in most name.now (rows_of (found_of found.now)) }
     ensures bound { IfSome result (λ number. number ≤ most) }
 {
-    number_to(most, found.get_str(name)?)
+    number_to(most, word_in(found, name)?)
 }
 
 // The command `run`, by what `clap` found for it.
 fn run_of<'a>(found: &ArgMatches<'a>) -> Option<Command<'a>>
     ensures { option_map asked result ≡ file_in (rows_of (found_of found.now)) }
 {
-    let file = found.get_str("FILE")?;
+    let file = word_in(found, "FILE")?;
     Some(Command::Run { file })
 }
 
@@ -79,7 +65,7 @@ fn run_of<'a>(found: &ArgMatches<'a>) -> Option<Command<'a>>
 fn load_of<'a>(found: &ArgMatches<'a>) -> Option<Command<'a>>
     ensures { option_map asked result ≡ seed_in (rows_of (found_of found.now)) }
 {
-    let seed = number_of(found.get_str("SEED")?)?;
+    let seed = number_of(word_in(found, "SEED")?)?;
     Some(Command::Load { seed })
 }
 
@@ -109,6 +95,22 @@ fn serve_of<'a>(found: &ArgMatches<'a>, words: &'a [String]) -> Option<Command<'
     })
 }
 
+// The command `client`, by what `clap` found for it.
+fn client_of<'a>(found: &ArgMatches<'a>) -> Option<Command<'a>>
+    ensures { option_map asked result ≡ client_in (rows_of (found_of found.now)) }
+{
+    let url = url_of(word_in(found, "URL")?)?;
+    let token = token_of(word_in(found, "TOKEN")?)?;
+    let intents = intents_of(word_in(found, "INTENTS")?)?;
+    let count = number_in(found, "COUNT", MOST_COUNT)? as u32;
+    Some(Command::Client {
+        url,
+        token,
+        intents,
+        count,
+    })
+}
+
 // The command, by what `clap` found.
 fn command_in<'a>(found: &ArgMatches<'a>, words: &'a [String]) -> Option<Command<'a>>
     ensures { option_map asked result ≡ found_in (map string_bytes words.entry.now) (subcommand_rows_of found.now) }
@@ -119,15 +121,18 @@ fn command_in<'a>(found: &ArgMatches<'a>, words: &'a [String]) -> Option<Command
     if let Some(load) = found.subcommand_matches("load") {
         return load_of(load);
     }
-    match found.subcommand_matches("serve") {
-        Some(serve) => serve_of(serve, words),
+    if let Some(serve) = found.subcommand_matches("serve") {
+        return serve_of(serve, words);
+    }
+    match found.subcommand_matches("client") {
+        Some(client) => client_of(client),
         None => None,
     }
 }
 
 /// What the words ask for. `None` exactly if they are not in the grammar: `run` with one file, `load` with a
-/// seed, or `serve` with a port, a number of workers, a number of connections that each accepts, and 1 to 12
-/// files.
+/// seed, `serve` with a port, a number of workers, a number of connections that each accepts, and 1 to 12
+/// files, or `client` with a URL, a token, a set of intents and a count.
 ///
 /// `clap` finds the subcommand and its words, and refuses too few or too many of them. What it would take and
 /// the grammar does not is tested here: options, of which the grammar has none, and the numbers.

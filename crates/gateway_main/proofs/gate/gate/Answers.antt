@@ -9,7 +9,7 @@ use Rattle.gateway_main.proofs.gate.gate.Goals as goal
 
 -- out of memory while the words are read
 pub returns-in_default-clause-does : goal.returns-in_default-clause-does
-returns-in_default-clause-does g c = out_of_memory (outside (g.H.Dial.house_tale c.args.house.now)
+returns-in_default-clause-does g c = out_of_memory (outside (g.H.Dial.house_tale c.args.house.now) (g.H.Dial.tale c.args.house.now) (g.H.Dial.faults c.args.house.now)
     (sink_tale (g.H.Out.Sink.got c.args.sink.now) (g.H.Out.Sink.waits c.args.sink.now) (g.H.Out.Sink.faults c.args.sink.now))
     (team_tale (g.S.Spawner.starts c.args.load_team.now) (g.S.Spawner.faults c.args.load_team.now))
     (team_tale (g.T.Spawner.starts c.args.serve_team.now) (g.T.Spawner.faults c.args.serve_team.now)))
