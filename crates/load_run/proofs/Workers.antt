@@ -14,7 +14,7 @@ use Rattle.run_ends.specs.Logs.{HasPart}
 use Rattle.load_run.specs.declared.sorting.WorkerEnd.{WorkerEnd}
 use Rattle.load_run.specs.Loads.{WorkerRan}
 use Rattle.load_run.proofs.Writers.{Writer, Log, guild_of, IsSealedOf}
-use Rattle.load_run.proofs.Sealed.{Reader, IsReaderOf, log_of, all_have_logs, all_known}
+use Rattle.load_run.proofs.Sealed.{Reader, ReadsLog, log_of, all_have_logs, all_known}
 use Rattle.load_run.proofs.Senders.{Served, AllServed}
 
 -- of all in a list, those in a part of it
@@ -30,7 +30,7 @@ unread : (ws : List Writer) → All IsUnread (map new_reader ws)
 unread [] = All-nil IsUnread
 unread (w ∷ ws) = All-cons IsUnread (new_reader w) (map new_reader ws) refl (unread ws)
 
-readers_of : (is : List Input) (ws : List Writer) (ls : List Log) (rs : List Reader) → AllZip IsSealedOf ws ls → AllZip (Reads is) (map new_reader ws) rs → AllZip IsReaderOf ls rs
+readers_of : (is : List Input) (ws : List Writer) (ls : List Log) (rs : List Reader) → AllZip IsSealedOf ws ls → AllZip (Reads is) (map new_reader ws) rs → AllZip ReadsLog ls rs
 readers_of is [] [] [] sealed reads = tt
 readers_of is [] [] (r ∷ rs) sealed reads = elim reads [ ]
 readers_of is [] (l ∷ ls) rs sealed reads = elim sealed [ ]
@@ -43,7 +43,7 @@ abbrev pub readers : {R : Type 0} → WorkerEnd R → List Reader
 readers e = e.readers.items
 
 module _ {R : Type 0} (posts : List PostId) (writers : List Writer) (ls : List Log) (sealed : AllZip IsSealedOf writers ls) (up : IsById guild_of ls) where
-  of_worker : (k : ℕ) (e : WorkerEnd R) → Served posts writers k e → AllZip IsReaderOf ls (readers e)
+  of_worker : (k : ℕ) (e : WorkerEnd R) → Served posts writers k e → AllZip ReadsLog ls (readers e)
   of_worker k e s =
       readers_of (inputs s.history) writers ls (readers e) sealed
       (subst (λ (rs : List Reader). AllZip (Reads (inputs s.history)) (map new_reader writers) rs) s.ends.readers_after

@@ -4,8 +4,7 @@ use Rattle.guild_model.specs.Record.{Record}
 use Rattle.client_run.specs.declared.driven.Driven.TheVariants.{Finished}
 use Rattle.load_client.specs.Agreement.{AgreeSo}
 use Rattle.load_client.specs.declared.ended_client.EndedClient.{EndedClient}
-use Rattle.worker_run.specs.declared.report.WorkReport.{WorkReport}
-use Rattle.gate_parts.specs.declared.ending.Ending.TheVariants.{Ran}
+use Rattle.gate_ends.specs.Left.{HasRun}
 use Rattle.gate_parts.specs.declared.script_part.ScriptDone.{ScriptDone}
 use Rattle.load_parts.specs.declared.load_part.LoadPart.{LoadPart}
 use Rattle.load_parts.specs.declared.load_part.LoadPart.TheVariants as part
@@ -30,7 +29,7 @@ module _ {C R : Type 0} where
 
 -- the script has sent all that it has
 abbrev pub HasSentAll : ScriptDone → Type 0
-HasSentAll d = d.ending ≡ Ran (Ok tt)
+HasSentAll d = HasRun d.ending
 
 abbrev pub HasFinished : EndedClient → Type 0
 HasFinished c = c.driven ≡ Ok Finished
@@ -44,4 +43,4 @@ AllAgreeSo records number (c ∷ cs) (n ∷ ns) = AgreeSo (viewer_of number) c.c
 
 -- the worker has served until its door had ended and each log had its seal
 abbrev pub HasServed : {R : Type 0} → WorkerEnd R → Type 0
-HasServed e = (report : WorkReport) × (e.ending ≡ Ran (Ok report))
+HasServed e = HasRun e.ending

@@ -13,7 +13,6 @@ mod rooms;
 mod running;
 mod sorting;
 mod summing;
-mod writing;
 
 pub use fault::LoadFault;
 pub use loading::load;

@@ -9,7 +9,7 @@ use crate::playing::{Played, play};
 use crate::rooms::{PARTS, make_rooms};
 use crate::sorting::Ends;
 use crate::summing::{Senders, sum_up};
-use crate::writing::write_out;
+use gate_ends::write_out;
 use gate_outside::clocks::Clock;
 use gate_outside::faults::Fault;
 use gate_outside::spawners::Spawner;

@@ -1,24 +1,24 @@
 -- The actors of a run, and the guilds of each.
-use Rattle.std.proofs.Common.{◌≡◌, ℕ, suc, ◌+◌, ◌<◌, ◌==◌, ◌%◌, Bool, true, false, List, [], ◌∷◌, ◌++◌, length, Some, Ok, slice_get, refl, sym, ap, ◌∙◌, subst, arith}
-use Rattle.std.specs.List.{All, AllZip, range_with_len, position}
+use Rattle.std.proofs.Common.{◌≡◌, ℕ, ◌+◌, ◌==◌, ◌%◌, List, [], ◌∷◌, Ok, refl, sym, subst, arith}
+use Rattle.std.specs.List.{All}
 use Rattle.std.proofs.lemmas.List.Elements.{All-nil, All-cons}
-use Rattle.std.proofs.lemmas.Option.{same_Some}
 use Rattle.std.proofs.lemmas.Bool.Decides.{Decides-eqb}
 use Rattle.edit_post.specs.Post.{PostId, new_taker}
 use Rattle.guild_actor.specs.declared.report.ActReport.{ActReport}
 use Rattle.guild_places.specs.Places.{guilds_of, AreDistinct}
 use Rattle.gate_parts.specs.declared.actor_part.ActorDone.{ActorDone}
 use Rattle.gate_parts.specs.declared.ending.Ending.TheVariants.{Ran}
-use Rattle.gate_parts.specs.Actors.{Acts, ActsAs}
+use Rattle.gate_parts.specs.Actors.{Acts}
 use Rattle.run_stage.specs.Dealing.{evens, odds, dealt_to}
 use Rattle.run_ends.specs.Logs.{IsOfActor}
 use Rattle.serve_ends.specs.Services.{Service, senders}
 use Rattle.serve_ends.specs.Ends.{ActorEnds}
 use Rattle.serve_ends.proofs.Places.{AtPlaces, at_places}
-use Rattle.serve_ends.proofs.Writers.{Writer}
+use Rattle.gate_ends.proofs.Acted.{ActedAt, AreOf}
+use Rattle.gate_ends.proofs.Writers.{Writer}
 
 module _ (gs : List ℕ) where
-  -- the guild of the writer is the actor's
+  -- the guild of a writer is the actor's
   abbrev IsOf : ℕ → Writer → Type 0
   IsOf actor w = IsOfActor gs 2 actor w.0
 
@@ -37,25 +37,15 @@ module _ (gs : List ℕ) where
         All-cons (IsOf 1) b (odds ws) (k + 1, h.1.0, (Decides-eqb ((k + 1) % 2) 1).1 (odd_next k even)) more.1,
       )
 
-  pub of_actors : (ws : List Writer) → guilds_of ws ≡ gs → AreDistinct gs → All (IsOf 0) (evens ws) × All (IsOf 1) (odds ws)
+  pub of_actors : (ws : List Writer) → guilds_of ws ≡ gs → AreDistinct gs → AreOf gs 0 (evens ws) × AreOf gs 1 (odds ws)
   of_actors ws same distinct = all_dealt 0 refl ws (subst (AtPlaces gs 0) (sym same) (at_places gs distinct))
-
--- the two last of two are both
-pub two_of : {T : Type 0} (P : ℕ → T → Type 0) (front : List T) (a b : T) → AllZip P (range_with_len 0 2) (front ++ a ∷ b ∷ []) → P 0 a × P 1 b
-two_of P [] a b h = (h.0, h.1.0)
-two_of P (x ∷ []) a b h = elim h.1.1 [ ]
-two_of P (x ∷ y ∷ []) a b h = elim h.1.1 [ ]
-two_of P (x ∷ y ∷ z ∷ front) a b h = elim h.1.1 [ ]
-
--- two posts
-pub both_posts : (posts : List PostId) (a b : PostId) → length posts ≡ 2 → slice_get posts 0 ≡ Some a → slice_get posts 1 ≡ Some b → posts ≡ a ∷ b ∷ []
-both_posts [] a b two x y = absurd (omega (arith, two))
-both_posts (p ∷ []) a b two x y = absurd (omega (arith, two))
-both_posts (p ∷ q ∷ []) a b two x y = ap (λ r. r ∷ q ∷ []) (same_Some p a x) ∙ ap (λ r. a ∷ r ∷ []) (same_Some q b y)
-both_posts (p ∷ q ∷ r ∷ ps) a b two x y = absurd (omega (arith, two))
 
 module _ {R : Type 0} where
   -- an actor that has acted
-  pub acted : (s : Service) (posts : List PostId) (writers : List Writer) (number : ℕ) (d : ActorDone R) (report : ActReport R) → (ends : ActorEnds s posts writers number d) → d.ending ≡ Ran (Ok report)
-      → ActsAs (new_taker ends.post (senders s)) (dealt_to number writers) report
-  acted s posts writers number d report ends ran = subst (λ e. Acts (new_taker ends.post (senders s)) (dealt_to number writers) e) ran ends.acts
+  pub acted : (s : Service) (posts : List PostId) (writers : List Writer) (number : ℕ) (d : ActorDone R) (report : ActReport R) → ActorEnds s posts writers number d → d.ending ≡ Ran (Ok report)
+      → ActedAt posts (senders s) number (dealt_to number writers) report
+  acted s posts writers number d report ends ran = record {
+    post = ends.post;
+    at_place = ends.at_place;
+    acts = subst (λ e. Acts (new_taker ends.post (senders s)) (dealt_to number writers) e) ran ends.acts;
+  }

@@ -15,15 +15,15 @@ use Rattle.worker_run.specs.declared.report.WorkReport.{WorkReport}
 use Rattle.gate_parts.specs.declared.ending.Ending.TheVariants.{Ran}
 use Rattle.gate_parts.specs.Workers.{WorksOrStops}
 use Rattle.run_stage.specs.Dealing.{IsAt}
-use Rattle.run_stage.specs.Hubs.{new_reader}
 use Rattle.run_ends.specs.Senders.{new_passes, HasSent, HaveSent}
-use Rattle.serve_ends.specs.declared.ending.FileEnd.{FileEnd}
-use Rattle.serve_ends.specs.declared.ending.WorkerEnd.{WorkerEnd}
-use Rattle.serve_ends.specs.Done.{HasSentAll, HasServed}
+use Rattle.serve_ends.specs.Files.{FileEnd}
+use Rattle.gate_ends.specs.declared.ending.WorkerEnd.{WorkerEnd}
+use Rattle.gate_ends.specs.Ends.{HasSentAll, HasServed}
 use Rattle.serve_ends.specs.Ends.{FileEnds, WorkerEnds, SendsOrStops}
 use Rattle.serve_ends.specs.Served.{IsTextOf}
 use Rattle.serve_ends.specs.Services.{Service, FileTale, ascending}
-use Rattle.serve_ends.proofs.Writers.{Writer}
+use Rattle.gate_ends.proofs.Writers.{Writer}
+use Rattle.run_stage.proofs.Written.{guilds_of_readers}
 
 abbrev Sending : Type 0
 Sending = ℕ × Edit
@@ -86,10 +86,6 @@ module _ (s : Service) (posts : List PostId) where
 
   -- ---- workers
 
-  guilds_read : (ws : List Writer) → guilds_of (map new_reader ws) ≡ guilds_of ws
-  guilds_read [] = refl
-  guilds_read (w ∷ ws) = ap (λ g. w.0 ∷ g) (guilds_read ws)
-
   -- what is known of a worker that has served
   pub record Served (writers : List Writer) (number : ℕ) (e : WorkerEnd) : Type 0 where
     pub ends : WorkerEnds s posts writers number e
@@ -108,7 +104,7 @@ module _ (s : Service) (posts : List PostId) where
   has_sent writers number e ids w = record {
     sent = w.works.sent;
     are = subst (λ (xs : List Sender). AreSent gs (wishes w.history) xs w.works.sent) w.ends.passes_before
-        (subst (λ (l : List ℕ). AreSent l (wishes w.history) w.ends.before.passes w.works.sent) (ap guilds_of w.ends.readers_before ∙ guilds_read writers ∙ ids) w.works.wishes);
+        (subst (λ (l : List ℕ). AreSent l (wishes w.history) w.ends.before.passes w.works.sent) (ap guilds_of w.ends.readers_before ∙ guilds_of_readers writers ∙ ids) w.works.wishes);
     ended = sym w.ends.passes_after ∙ w.works.passes;
   }
 

@@ -1,50 +1,29 @@
 -- The readers of the workers of a run, and what each worker has done.
-use Rattle.std.proofs.Common.{◌≡◌, ℕ, ◌+◌, List, [], ◌∷◌, ◌++◌, map, flat_map, length, refl, sym, ap, ◌∙◌, subst}
+use Rattle.std.proofs.Common.{◌≡◌, ℕ, ◌+◌, List, [], ◌∷◌, map, flat_map, length, sym, ap, ◌∙◌, subst}
 use Rattle.std.specs.List.{All, AllZip, range_with_len}
-use Rattle.std.proofs.lemmas.List.Elements.{All-nil, All-cons, All-head, All-tail, All-append}
+use Rattle.std.proofs.lemmas.List.Elements.{All-nil, All-append}
 use Rattle.collections.specs.ById.{IsById}
 use Rattle.edit_apply.specs.declared.Edit.{Edit}
 use Rattle.edit_post.specs.Post.{PostId}
-use Rattle.world_law.specs.Inputs.{Input}
 use Rattle.load_settle.specs.Readers.{HasLog}
 use Rattle.worker_run.specs.Histories.{wishes, inputs}
 use Rattle.worker_run.specs.Hubs.{IsUnread, Reads, HasSeenAll}
 use Rattle.run_stage.specs.Hubs.{new_reader}
 use Rattle.run_ends.specs.Logs.{HasPart}
-use Rattle.serve_ends.specs.declared.ending.WorkerEnd.{WorkerEnd}
+use Rattle.gate_ends.specs.declared.ending.WorkerEnd.{WorkerEnd}
 use Rattle.serve_ends.specs.Served.{WorkerRan}
 use Rattle.serve_ends.specs.Services.{Service}
-use Rattle.serve_ends.proofs.Writers.{Writer, Log, guild_of, IsSealedOf}
-use Rattle.serve_ends.proofs.Sealed.{Reader, IsReaderOf, log_of, all_have_logs, all_known}
+use Rattle.gate_ends.proofs.Readers.{All-second, unread, readers_of}
+use Rattle.gate_ends.proofs.Sealed.{Reader, ReadsLog, log_of, all_have_logs, all_known}
+use Rattle.gate_ends.proofs.Writers.{Writer, Log, guild_of, IsSealedOf}
+use Rattle.run_ends.proofs.Ending.{All-first}
 use Rattle.serve_ends.proofs.Sendings.{Served, AllServed}
-
--- of all in a list, those in a part of it
-All-first : {T : Type 0} (P : T → Type 0) (xs ys : List T) → All P (xs ++ ys) → All P xs
-All-first P [] ys h = All-nil P
-All-first P (x ∷ xs) ys h = All-cons P x xs (All-head P x (xs ++ ys) h) (All-first P xs ys (All-tail P x (xs ++ ys) h))
-
-All-second : {T : Type 0} (P : T → Type 0) (xs ys : List T) → All P (xs ++ ys) → All P ys
-All-second P [] ys h = h
-All-second P (x ∷ xs) ys h = All-second P xs ys (All-tail P x (xs ++ ys) h)
-
-unread : (ws : List Writer) → All IsUnread (map new_reader ws)
-unread [] = All-nil IsUnread
-unread (w ∷ ws) = All-cons IsUnread (new_reader w) (map new_reader ws) refl (unread ws)
-
-readers_of : (is : List Input) (ws : List Writer) (ls : List Log) (rs : List Reader) → AllZip IsSealedOf ws ls → AllZip (Reads is) (map new_reader ws) rs → AllZip IsReaderOf ls rs
-readers_of is [] [] [] sealed reads = tt
-readers_of is [] [] (r ∷ rs) sealed reads = elim reads [ ]
-readers_of is [] (l ∷ ls) rs sealed reads = elim sealed [ ]
-readers_of is (w ∷ ws) [] rs sealed reads = elim sealed [ ]
-readers_of is (w ∷ ws) (l ∷ ls) [] sealed reads = elim reads [ ]
-readers_of is (w ∷ ws) (l ∷ ls) (r ∷ rs) sealed reads =
-    ((reads.0.guild ∙ sym sealed.0.0, reads.0.hub ∙ sym sealed.0.1, sealed.0.2), readers_of is ws ls rs sealed.1 reads.1)
 
 abbrev pub readers : WorkerEnd → List Reader
 readers e = e.readers.items
 
 module _ (s : Service) (posts : List PostId) (writers : List Writer) (ls : List Log) (sealed : AllZip IsSealedOf writers ls) (up : IsById guild_of ls) where
-  of_worker : (k : ℕ) (e : WorkerEnd) → Served s posts writers k e → AllZip IsReaderOf ls (readers e)
+  of_worker : (k : ℕ) (e : WorkerEnd) → Served s posts writers k e → AllZip ReadsLog ls (readers e)
   of_worker k e w =
       readers_of (inputs w.history) writers ls (readers e) sealed
       (subst (λ (rs : List Reader). AllZip (Reads (inputs w.history)) (map new_reader writers) rs) w.ends.readers_after

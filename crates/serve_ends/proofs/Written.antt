@@ -10,7 +10,7 @@ use Rattle.guild_hub.specs.Logs.{Published}
 use Rattle.load_settle.specs.Readers.{log_under}
 use Rattle.log_summary.specs.Summary.{guild_text}
 use Rattle.serve_ends.specs.Lines.{worker_line, worker_lines, line_of}
-use Rattle.serve_ends.proofs.Writers.{Log, guild_of}
+use Rattle.gate_ends.proofs.Writers.{Log, guild_of}
 
 one_more_of : {X : Type 0} (f : ℕ → List X) (k n : ℕ) → flat_map f (range_with_len k (suc n)) ≡ flat_map f (range_with_len k n) ++ f (k + n)
 one_more_of f k zero = append-nil (f k) ∙ ap f (sym (add-zero k))

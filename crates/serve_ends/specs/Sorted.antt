@@ -9,8 +9,8 @@ use Rattle.serve_parts.specs.declared.serve_part.ServePart.TheVariants as part
 use Rattle.serve_parts.specs.declared.serve_part.ServeDone.{ServeDone}
 use Rattle.serve_parts.specs.declared.serve_part.ServeDone.TheVariants as done
 use Rattle.serve_parts.specs.Kinds.{actor_of, script_of, worker_of}
-use Rattle.serve_ends.specs.declared.ending.FileEnd.{FileEnd}
-use Rattle.serve_ends.specs.declared.ending.WorkerEnd.{WorkerEnd}
+use Rattle.serve_ends.specs.Files.{FileEnd}
+use Rattle.gate_ends.specs.declared.ending.WorkerEnd.{WorkerEnd}
 use Rattle.serve_ends.specs.declared.ends.Returned.{Returned}
 use Rattle.serve_ends.specs.declared.ends.Ends.{Ends}
 

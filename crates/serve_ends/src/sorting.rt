@@ -4,8 +4,8 @@ ghost use Rattle.std.specs.Prelude.{◌≡◌, ◌+◌, ◌≤◌, ◌++◌, ◌
 ghost use Rattle.serve_ends.specs.Sorted.{HasRoom, HasSpace, Sorts, GivesBack, source_of_part, door_of_part, clock_of_part};
 ghost use Rattle.serve_parts.specs.declared.serve_part.ServeDone.TheVariants.{Script, Worker};
 
-use crate::ending::{FileEnd, WorkerEnd};
 use crate::ends::{Ends, Returned};
+use gate_ends::{ScriptEnd, WorkerEnd};
 use gate_parts::WorkerDone;
 use serve_parts::{DoorDone, FileDone, ServeDone, ServePart};
 use std::sync::Wait;
@@ -26,7 +26,7 @@ impl<S: Drop, D: Drop, C: Drop, R: Wait + Copy + Drop> Ends<S, D, C, R> {
         } = done;
         drop(seat);
         add(&mut self.returned.sources, source);
-        add(&mut self.scripts, FileEnd { ending, passes });
+        add(&mut self.scripts, ScriptEnd { ending, passes });
     }
 
     // Adds what a worker has left.

@@ -8,6 +8,7 @@ use Rattle.gate_outside.specs.Clocks.{ClockTale, IsNewClock}
 use Rattle.gate_outside.specs.Doors.{DoorTale, IsNewDoor}
 use Rattle.gate_outside.specs.Houses.{returned_source, returned_door}
 use Rattle.session_core.specs.declared.bot.Bot.{Bot as ABot}
+use Rattle.gate_ends.proofs.Zips.{many_zip}
 use Rattle.house_loans.specs.Sources.{source_counts}
 use Rattle.house_loans.specs.Doors.{door_counts}
 use Rattle.serve_ends.specs.Services.{Service, HasHead, file_tales, door_given, service}
@@ -25,12 +26,6 @@ use Rattle.serve_house.specs.Begun.{AreBegun}
 use Rattle.serve_house.specs.Parts.{AreAlike, AreNew, ServesOrNot, loans_of}
 use Rattle.serve_house.specs.Serving.{SinkTale, TeamTale}
 use Rattle.serve_house.proofs.Told.{failed_reads, told_all, tales_by}
-
-many_zip : {A B : Type 0} (R : A → B → Type 0) (xs : List A) (ys : List B) → AllZip R xs ys → length ys ≡ length xs
-many_zip R [] [] h = refl
-many_zip R [] (y ∷ ys) h = absurd h
-many_zip R (x ∷ xs) [] h = absurd h
-many_zip R (x ∷ xs) (y ∷ ys) h = ap suc (many_zip R xs ys h.1)
 
 -- as many files as sources whose heads were read
 pub many_read : {S : Type 0} (left : S → Known (List ℕ)) (faults : S → ℕ) (sources : List S) (files : List (ScriptFile S)) (bots : List ABot) (guilds : List ℕ)

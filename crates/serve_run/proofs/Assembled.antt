@@ -24,14 +24,15 @@ use Rattle.serve_ends.specs.Ends.{ActorEnds, FileEnds, WorkerEnds, Joined}
 use Rattle.serve_ends.specs.Faults.{first_fault}
 use Rattle.serve_ends.specs.Services.{Service, HasHead, service, ascending}
 use Rattle.serve_ends.specs.Sorted.{IsEmpty, Sorts, file_end, worker_end, source_of, door_of}
-use Rattle.serve_ends.specs.declared.ending.FileEnd.{FileEnd}
-use Rattle.serve_ends.specs.declared.ending.WorkerEnd.{WorkerEnd}
+use Rattle.serve_ends.specs.Files.{FileEnd}
+use Rattle.gate_ends.specs.declared.ending.WorkerEnd.{WorkerEnd}
 use Rattle.serve_ends.specs.declared.ends.Ends.{Ends}
 use Rattle.serve_ends.specs.declared.fault.ServeFault.{ServeFault}
 use Rattle.serve_run.specs.Causes.{ShowsFault}
 use Rattle.serve_run.specs.Ended.{EndsSo, MayHave}
 use Rattle.serve_run.specs.Lent.{IsStageOf, TellsLent}
-use Rattle.serve_run.proofs.Counting.{two_actors, all_scripts, all_workers, as_given}
+use Rattle.gate_ends.proofs.Zips.{many_zip}
+use Rattle.serve_run.proofs.Counting.{two_actors, all_scripts, all_workers}
 use Rattle.serve_run.proofs.Failing.{shows}
 use Rattle.serve_run.proofs.Fronts.{ZipFront, ByKind, front_zip, kinds, numbered, numbered_map, all_numbered}
 use Rattle.serve_run.proofs.Told.{many_files, many_doors, one_actor, one_script, one_worker, head_of}
@@ -115,12 +116,12 @@ module _ {S D C R : Type 0} (left : S → Known (List ℕ)) (faults : S → ℕ)
         let every = parts ∙ ap (λ l. front ++ l) (all every_one) ∙ append-nil front in
         let each = by_kind left faults door_tale door_faults clock_tale stage.actors.items stage.scripts.items stage.workers.items dones
         (subst (λ l. AllZip (ServeGives left faults door_tale door_faults clock_tale) l dones) (sym every) gave) in (
-          as_given ActorGives stage.actors.items (flat_map actor_of dones) each.actors_gave ∙ two_actors of.port of.bots (ascending of.guilds) of.lent stage of.stage_is,
+          many_zip ActorGives stage.actors.items (flat_map actor_of dones) each.actors_gave ∙ two_actors of.port of.bots (ascending of.guilds) of.lent stage of.stage_is,
           (
-            length-map (flat_map script_of dones) file_end ∙ as_given (FileGives left faults) stage.scripts.items (flat_map script_of dones) each.scripts_gave
+            length-map (flat_map script_of dones) file_end ∙ many_zip (FileGives left faults) stage.scripts.items (flat_map script_of dones) each.scripts_gave
                 ∙ all_scripts of.port of.bots (ascending of.guilds) of.lent stage of.stage_is
                 ∙ sym (many_files left faults door_tale door_faults clock_tale of.port of.bots of.guilds of.tells.heads of.lent of.tells.alike),
-            length-map (flat_map worker_of dones) worker_end ∙ as_given (DoorPartGives door_tale door_faults clock_tale) stage.workers.items (flat_map worker_of dones) each.workers_gave
+            length-map (flat_map worker_of dones) worker_end ∙ many_zip (DoorPartGives door_tale door_faults clock_tale) stage.workers.items (flat_map worker_of dones) each.workers_gave
                 ∙ all_workers of.port of.bots (ascending of.guilds) of.lent stage of.stage_is
                 ∙ sym (many_doors left faults door_tale door_faults clock_tale of.port of.bots of.guilds of.tells.heads of.lent of.tells.alike),
           ),

@@ -20,7 +20,8 @@ use Rattle.serve_parts.specs.declared.serve_part.ServePart.{ServePart}
 use Rattle.serve_parts.specs.declared.serve_part.ServePart.TheVariants as part
 use Rattle.serve_parts.specs.declared.serve_part.ServeDone.{ServeDone}
 use Rattle.serve_parts.specs.declared.serve_part.ServeDone.TheVariants as done
-use Rattle.serve_parts.proofs.OneKind.{other}
+use Rattle.load_parts.proofs.OneKind.{other}
+use Rattle.gate_ends.proofs.Zips.{many_zip}
 use Rattle.serve_stage.specs.Parts.{IsActor, IsScript, IsWorker}
 use Rattle.serve_stage.specs.Stages.{AreLent, IsStage, senders_of}
 use Rattle.serve_stage.specs.declared.lent.Lent.{Lent}
@@ -202,19 +203,12 @@ module _ {S D C R : Type 0} where
   most_scripts (done.Script d ∷ ds) = let more = most_scripts ds in omega (arith, more)
   most_scripts (done.Worker d ∷ ds) = let more = most_scripts ds in omega (arith, more)
 
--- as many as those that gave them
-pub as_given : {A B : Type 0} (G : A → B → Type 0) (xs : List A) (ys : List B) → AllZip G xs ys → length ys ≡ length xs
-as_given G [] [] z = refl
-as_given G [] (y ∷ ys) z = elim z [ ]
-as_given G (x ∷ xs) [] z = elim z [ ]
-as_given G (x ∷ xs) (y ∷ ys) z = ap suc (as_given G xs ys z.1)
-
 -- as many as there were tasks have ended or come back
 pub all_ended : {T H D : Type 0} (task_of : H → T) (G : T → D → Type 0) (tasks : List T) (started : List H) (back : List T) (dones : List D) → tasks ≡ map task_of started ++ back → AllZip G (map task_of started) dones
     → length dones + length back ≡ length tasks
 all_ended task_of G tasks started back dones parts gave =
     let all = ap length parts ∙ length-append (map task_of started) back in
-    let same = as_given G (map task_of started) dones gave in
+    let same = many_zip G (map task_of started) dones gave in
     omega (arith, all, same)
 
 -- and no more than these were started

@@ -33,8 +33,8 @@ use Rattle.serve_parts.specs.declared.serve_part.ServeDone.{ServeDone}
 use Rattle.serve_parts.specs.declared.serve_part.ServeDone.TheVariants as done
 use Rattle.serve_ends.specs.Faults.{actor_faults, script_faults, worker_faults, first_fault, worker_fault, start_fault}
 use Rattle.serve_ends.specs.Sorted.{file_end, worker_end, source_of, door_of}
-use Rattle.serve_ends.specs.declared.ending.FileEnd.{FileEnd}
-use Rattle.serve_ends.specs.declared.ending.WorkerEnd.{WorkerEnd}
+use Rattle.serve_ends.specs.Files.{FileEnd}
+use Rattle.gate_ends.specs.declared.ending.WorkerEnd.{WorkerEnd}
 use Rattle.serve_ends.specs.declared.fault.ServeFault.{ServeFault}
 use Rattle.serve_ends.specs.declared.fault.ServeFault.TheVariants.{Memory, Spent, Start, Door, Read, Line, Write}
 use Rattle.serve_ends.proofs.Ranks.{AnyIs, ScriptFaultOf, first_is, is_start, of_actor, of_script, of_worker}

@@ -11,7 +11,7 @@ use Rattle.std.proofs.lemmas.Option.{none-some}
 use Rattle.edit_fields.specs.declared.fault.LineFault.{LineFault}
 use Rattle.edit_post.specs.Post.{PostId}
 use Rattle.gate_outside.specs.Causes.{Rose, FaultHasCause}
-use Rattle.gate_outside.specs.Streams.{AppendsFront, CarriesFront}
+use Rattle.gate_outside.specs.Streams.{AppendsFront}
 use Rattle.gate_outside.specs.declared.faults.Fault.{Fault}
 use Rattle.gate_outside.specs.declared.faults.Fault.TheVariants as outside
 use Rattle.gate_parts.specs.declared.actor_part.ActorDone.{ActorDone}
@@ -45,10 +45,6 @@ whole got0 got1 text h = (text, [], append-nil text, h)
 -- after a text that went out whole
 behind : (got0 got1 got2 : Option (List ℕ)) (text more : List ℕ) → Appends got0 got1 text → AppendsFront got1 got2 more → AppendsFront got0 got2 (text ++ more)
 behind got0 got1 got2 text more first h = (text ++ h.0, h.1, append_assoc text h.0 h.1 ∙ ap (λ l. text ++ l) h.2, Appends-trans got0 got1 got2 text h.0 first h.3)
-
--- what went out of a front is a front
-pub front_out : (got0 got1 : Option (List ℕ)) (waits text : List ℕ) → CarriesFront got0 got1 waits text → AppendsFront got0 got1 text
-front_out got0 got1 waits text h = (h.sent, waits ++ h.back, sym (append_assoc h.sent waits h.back) ∙ h.is, h.wrote)
 
 -- ---- texts that are put
 

@@ -23,6 +23,7 @@ use Rattle.gate_parts.specs.declared.worker_part.WorkerDone.{WorkerDone}
 use Rattle.run_ends.specs.Senders.{new_passes}
 use Rattle.run_stage.specs.Dealing.{IsAt, dealt_to}
 use Rattle.run_stage.proofs.Numbered.{all_at}
+use Rattle.gate_ends.proofs.Actors.{made_of}
 use Rattle.serve_heads.specs.declared.script_file.ScriptFile.{ScriptFile}
 use Rattle.serve_parts.specs.Files.{FileGives, SendsOrStops as PartSends}
 use Rattle.serve_parts.specs.Parts.{DoorPartGives}
@@ -34,11 +35,6 @@ use Rattle.serve_stage.specs.declared.lent.Lent.{Lent}
 use Rattle.serve_ends.specs.Ends.{ActorEnds, FileEnds, WorkerEnds, SendsOrStops}
 use Rattle.serve_ends.specs.Services.{Service, FileTale, DoorGiven, HasHead, service, file_tales, ascending, senders}
 use Rattle.serve_ends.specs.Sorted.{file_end, worker_end}
-
--- what is there is what was made of something
-made_of : {A B : Type 0} (f : A → B) (o : Option A) (b : B) → option_map f o ≡ Some b → (a : A) × ((o ≡ Some a) × (f a ≡ b))
-made_of f None b e = absurd (none-some b e)
-made_of f (Some a) b e = (a, (refl, same_Some (f a) b e))
 
 -- what was made of the item at a place
 at_map : {X Y : Type 0} (f : X → Y) (xs : List X) (n : ℕ) (x : X) → IsAt xs n x → IsAt (map f xs) n (f x)

@@ -8,8 +8,8 @@ use Rattle.run_stage.specs.Hubs.{IsNewWriter}
 use Rattle.serve_ends.specs.Ends.{ActorEnds, FileEnds, WorkerEnds}
 use Rattle.serve_ends.specs.Faults.{first_fault}
 use Rattle.serve_ends.specs.Services.{Service, ascending}
-use Rattle.serve_ends.specs.declared.ending.FileEnd.{FileEnd}
-use Rattle.serve_ends.specs.declared.ending.WorkerEnd.{WorkerEnd}
+use Rattle.serve_ends.specs.Files.{FileEnd}
+use Rattle.gate_ends.specs.declared.ending.WorkerEnd.{WorkerEnd}
 use Rattle.serve_ends.specs.declared.fault.ServeFault.{ServeFault}
 use Rattle.serve_ends.specs.declared.fault.ServeFault.TheVariants.{Memory, Spent, Start, Door, Read, Line, Write}
 

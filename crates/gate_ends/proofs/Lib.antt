@@ -1,0 +1,9 @@
+pub mod Zips
+pub mod Popped
+pub mod Added
+pub mod Actors
+pub mod Writers
+pub mod Sealed
+pub mod Acted
+pub mod Settled
+pub mod Readers
