@@ -1,4 +1,4 @@
-//! The parts of the two actors.
+//! The parts of the two actors of a load.
 
 ghost use Rattle.std.specs.Prelude.{◌≡◌, [], IfOk, OnOk};
 ghost use Rattle.std.specs.List.{AllZip};
@@ -20,7 +20,7 @@ use std::alloc::AllocError;
 use std::sync::Wait;
 use stop_flag::StopSeat;
 
-// The part of an actor.
+// An actor's part of a load.
 fn actor_part<R: Wait + Copy + Drop>(
     ground: Ground<R>,
     place: usize,
@@ -50,7 +50,7 @@ fn actor_part<R: Wait + Copy + Drop>(
     }
 }
 
-// The part of an actor, with a share of what all parts share.
+// An actor's part, with its share of what the parts of a load share.
 fn actor<R: Wait + Copy + Drop>(
     ground: &Ground<R>,
     place: usize,
@@ -66,7 +66,7 @@ fn actor<R: Wait + Copy + Drop>(
     Ok(actor_part(ground, place, pass, writers, seat))
 }
 
-/// Adds the parts of both actors, to which the writers are dealt in turn.
+/// Adds the parts of actor 0 and of actor 1, to which the writers of the load's hubs are dealt in turn.
 ///
 /// # Errors
 /// Out of memory.

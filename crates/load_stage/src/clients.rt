@@ -63,7 +63,7 @@ pub(crate) struct ClientDraft<R: Wait + Copy + Drop> {
     pub dial: DoorDial<R>,
 }
 
-// The client with this number and a share of what all parts share.
+// The client with this number, and its share of what the parts of a load share.
 fn begun<R: Wait + Copy + Drop>(
     ground: &Ground<R>,
     number: u8,
@@ -105,7 +105,7 @@ pub(crate) fn add_clients<R: Wait + Copy + Drop>(
     Ok(())
 }
 
-// The part of a client. It does not allocate.
+// The part of a client that gets this clock. It does not allocate.
 fn client_part<C: Drop, R: Wait + Copy + Drop>(draft: ClientDraft<R>, clock: C) -> ClientPart<C, R>
     requires { HasNotFailed draft }
     ensures made { IsClientOf draft result }

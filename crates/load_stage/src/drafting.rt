@@ -38,7 +38,7 @@ pub(crate) struct Draft<R: Wait + Copy + Drop> {
 }
 
 impl<R: Wait + Copy + Drop> Parts<R> {
-    // No parts yet.
+    // No parts of a load yet.
     fn none(alloc: Global) -> Parts<R>
         ensures parts { (result.actors.items ≡ []) × (result.scripts.items ≡ []) }
         ensures drafts { (result.workers.items ≡ []) × (result.clients.items ≡ []) }
@@ -51,7 +51,7 @@ impl<R: Wait + Copy + Drop> Parts<R> {
         }
     }
 
-    // Adds all parts. On an `Err` some may be missing.
+    // Adds all parts of the load. On an `Err` some may be missing.
     fn fill(
         &mut self,
         ground: &Ground<R>,

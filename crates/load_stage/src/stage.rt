@@ -19,15 +19,15 @@ use stop_flag::{StopFlag, StopSeat};
 /// All that a load begins with: what its parts share, and the parts themselves.
 #[derive(Drop)]
 pub struct Stage<C, R: Wait + Copy + Drop> {
-    /// The posts of both actors.
+    /// The posts of the load's two actors.
     pub posts: Posts<R>,
-    /// The word by which all parts begin.
+    /// The word by which the load begins.
     pub word: StartWord,
-    /// The keeper of the stop flag.
+    /// The keeper of the load's stop flag.
     pub keeper: StopFlag,
-    /// The seat of who starts the parts.
+    /// The seat of who starts the load.
     pub seat: StopSeat,
-    /// The parts of both actors.
+    /// The parts of the two actors.
     pub actors: Vec<ActorPart<R>>,
     /// The parts of the four scripts.
     pub scripts: Vec<ScriptPart<R>>,

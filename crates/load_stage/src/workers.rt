@@ -48,7 +48,7 @@ pub(crate) struct Served<R: Wait + Copy + Drop> {
     pub readers: VecDeque<Vec<(Snowflake, HubReader)>>,
 }
 
-// The worker with this number, of all bots and guilds.
+// The worker with this number, of all bots and guilds of a load.
 fn worker(alloc: Global, number: u8) -> Result<Worker, AllocError>
     ensures { IfOk result (λ worker. Represents worker (first_worker load_bots guild_ids number (worker_url number))) }
 {
@@ -58,7 +58,7 @@ fn worker(alloc: Global, number: u8) -> Result<Worker, AllocError>
     Worker::new(alloc, number, url, bots, goal.guilds.as_slice())
 }
 
-// The worker with this number and a share of what all parts share.
+// The worker with this number, and its share of what the parts of a load share.
 fn begun<R: Wait + Copy + Drop>(
     ground: &Ground<R>,
     number: u8,
@@ -112,7 +112,7 @@ pub(crate) fn add_workers<R: Wait + Copy + Drop>(
     Ok(())
 }
 
-// The part of a worker. It does not allocate.
+// The part of a worker that gets this clock. It does not allocate.
 fn worker_part<C: Drop, R: Wait + Copy + Drop>(draft: WorkerDraft<R>, clock: C) -> DoorWorker<C, R>
     requires { CanBegin draft }
     ensures made { IsWorkerOf draft result }
