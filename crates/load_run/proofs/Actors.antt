@@ -9,9 +9,10 @@ use Rattle.gate_parts.specs.declared.actor_part.ActorDone.{ActorDone}
 use Rattle.gate_parts.specs.declared.ending.Ending.TheVariants.{Ran}
 use Rattle.gate_parts.specs.Actors.{Acts, ActsAs}
 use Rattle.load_maker.specs.Edits.{guild_id}
-use Rattle.load_stage.specs.Dealing.{evens, odds, dealt_to}
-use Rattle.load_stage.specs.Hubs.{guild_ids, IsNewWriter}
+use Rattle.load_stage.specs.Guilds.{guild_ids}
 use Rattle.run_ends.specs.Logs.{IsOfActor}
+use Rattle.run_stage.specs.Dealing.{evens, odds, dealt_to}
+use Rattle.run_stage.specs.Hubs.{IsNewWriter}
 use Rattle.load_run.specs.Joined.{ActorEnds}
 use Rattle.load_run.proofs.Writers.{Writer}
 
@@ -19,10 +20,10 @@ use Rattle.load_run.proofs.Writers.{Writer}
 abbrev IsOf : ℕ → Writer → Type 0
 IsOf actor w = IsOfActor guild_ids 2 actor w.0
 
-placed : (actor number place : ℕ) (w : Writer) → IsNewWriter number w → position (λ g. guild_id number == g) guild_ids ≡ Some place → (place % 2 == actor) ≡ true → IsOf actor w
+placed : (actor number place : ℕ) (w : Writer) → IsNewWriter (guild_id number) w → position (λ g. guild_id number == g) guild_ids ≡ Some place → (place % 2 == actor) ≡ true → IsOf actor w
 placed actor number place w new at is = (place, ap (λ (n : ℕ). position (λ g. n == g) guild_ids) new.beside ∙ at, is)
 
-pub of_actors : (ws : List Writer) → AllZip IsNewWriter (range_with_len 1 8) ws → All (IsOf 0) (evens ws) × All (IsOf 1) (odds ws)
+pub of_actors : (ws : List Writer) → AllZip IsNewWriter guild_ids ws → All (IsOf 0) (evens ws) × All (IsOf 1) (odds ws)
 of_actors [] h = elim h [ ]
 of_actors (a ∷ []) h = elim h.1 [ ]
 of_actors (a ∷ b ∷ []) h = elim h.1.1 [ ]

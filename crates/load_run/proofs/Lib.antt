@@ -10,6 +10,7 @@ pub mod Staged
 pub mod Ranks
 pub mod Played
 pub mod Out
+pub mod Answered
 pub mod Popped
 pub mod Added
 pub mod Agreed

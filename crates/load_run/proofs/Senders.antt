@@ -15,8 +15,9 @@ use Rattle.gate_parts.specs.declared.ending.Ending.TheVariants.{Ran}
 use Rattle.gate_parts.specs.declared.script_part.ScriptDone.{ScriptDone}
 use Rattle.gate_parts.specs.Scripts.{Sends}
 use Rattle.gate_parts.specs.Workers.{WorksOrStops}
-use Rattle.load_stage.specs.Hubs.{guild_ids, new_reader}
+use Rattle.load_stage.specs.Guilds.{guild_ids}
 use Rattle.run_ends.specs.Senders.{new_passes, HasSent, HaveSent}
+use Rattle.run_stage.proofs.Written.{guilds_of_readers}
 use Rattle.load_run.specs.declared.sorting.WorkerEnd.{WorkerEnd}
 use Rattle.load_run.specs.Ends.{HasSentAll, HasServed}
 use Rattle.load_run.specs.Joined.{ScriptEnds, WorkerEnds}
@@ -40,10 +41,6 @@ scripts_sent seed posts k (suc n) (d ∷ ds) h all =
     (record { sent = sends.0; are = sends.1; ended = sends.2 }, scripts_sent seed posts (k + 1) n ds h.1 (All-tail HasSentAll d ds all))
 
 -- ---- workers
-
-guilds_read : (ws : List Writer) → guilds_of (map new_reader ws) ≡ guilds_of ws
-guilds_read [] = refl
-guilds_read (w ∷ ws) = ap (λ gs. w.0 ∷ gs) (guilds_read ws)
 
 next_sender : (k : ℕ) → 4 + (k + 1) ≡ 4 + k + 1
 next_sender k = omega (arith)
@@ -70,7 +67,7 @@ module _ {R : Type 0} where
   has_sent posts writers number e ids s = record {
     sent = s.works.sent;
     are = subst (λ (xs : List Sender). AreSent guild_ids (wishes s.history) xs s.works.sent) s.ends.passes_before
-        (subst (λ (gs : List ℕ). AreSent gs (wishes s.history) s.ends.before.passes s.works.sent) (ap guilds_of s.ends.readers_before ∙ guilds_read writers ∙ ids) s.works.wishes);
+        (subst (λ (gs : List ℕ). AreSent gs (wishes s.history) s.ends.before.passes s.works.sent) (ap guilds_of s.ends.readers_before ∙ guilds_of_readers writers ∙ ids) s.works.wishes);
     ended = sym s.ends.passes_after ∙ s.works.passes;
   }
 

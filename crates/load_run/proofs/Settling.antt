@@ -17,18 +17,19 @@ use Rattle.load_maker.specs.Script.{script}
 use Rattle.script_run.specs.Scripts.{edits_in}
 use Rattle.load_settle.specs.Passes.{AreTakers}
 use Rattle.load_settle.specs.Readers.{HasLog}
-use Rattle.load_stage.specs.Dealing.{evens, odds}
-use Rattle.load_stage.specs.Hubs.{guild_ids}
+use Rattle.load_stage.specs.Guilds.{guild_ids}
 use Rattle.run_ends.specs.Lists.{woven}
 use Rattle.run_ends.specs.Senders.{HaveSent, HaveEnded, AreTakenWhole}
 use Rattle.run_ends.specs.Logs.{IsMergedLog, HasPart, IsOfActor}
 use Rattle.run_ends.proofs.Merging.{logs_of_actor, All-woven, all_ended, sent_after}
+use Rattle.run_stage.specs.Dealing.{evens, odds}
+use Rattle.run_stage.proofs.Written.{guilds_are}
 use Rattle.load_run.specs.declared.sorting.WorkerEnd.{WorkerEnd}
 use Rattle.load_run.specs.Ends.{HasSentAll, HasServed}
 use Rattle.load_run.specs.Joined.{Joined, ActorEnds, WorkerEnds}
 use Rattle.load_run.specs.Loads.{AreLogs, WorkerRan, sendings}
 use Rattle.load_run.proofs.Zips.{many_zip}
-use Rattle.load_run.proofs.Writers.{Writer, Log, guild_of, all_logs, all_sealed, guilds_same, guilds_new, ascending, IsSealedOf}
+use Rattle.load_run.proofs.Writers.{Writer, Log, guild_of, all_logs, all_sealed, guilds_same, ascending, IsSealedOf}
 use Rattle.load_run.proofs.Senders.{script_passes, worker_passes, scripts_sent, workers_sent, all_served, many_wished, AllServed}
 use Rattle.load_run.proofs.Workers.{readers, have_logs, all_ran}
 use Rattle.load_run.proofs.Actors.{of_actors, two_of, both_posts, acted}
@@ -64,7 +65,7 @@ module _ {R : Type 0} (seed : ℕ) (posts : List PostId) (actors : List (ActorDo
   logs = woven r0.logs.items r1.logs.items
 
   ids : guilds_of j.writers ≡ guild_ids
-  ids = guilds_new (range_with_len 1 8) j.writers j.writers_are
+  ids = guilds_are guild_ids j.writers j.writers_are
 
   all : (wished : List (List (ℕ × Edit))) × AllServed posts j.writers 0 workers wished
   all = all_served posts j.writers 0 3 workers j.workers_are served

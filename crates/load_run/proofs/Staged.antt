@@ -27,7 +27,7 @@ use Rattle.load_client.specs.declared.load_client.LoadClient.{LoadClient}
 use Rattle.load_parts.specs.Clients.{ClientGives}
 use Rattle.load_parts.specs.declared.client_part.ClientPart.{ClientPart}
 use Rattle.load_parts.specs.declared.client_part.ClientDone.{ClientDone}
-use Rattle.load_stage.specs.Hubs.{guild_ids}
+use Rattle.load_stage.specs.Guilds.{guild_ids}
 use Rattle.load_stage.specs.Parts.{IsActor, IsScript, IsWorker}
 use Rattle.load_stage.specs.Clients.{IsClient}
 use Rattle.load_run.specs.Joined.{ActorEnds, ScriptEnds, WorkerEnds, ClientEnds}

@@ -9,8 +9,8 @@ use Rattle.world_law.specs.Inputs.{Input}
 use Rattle.load_settle.specs.Readers.{HasLog}
 use Rattle.worker_run.specs.Histories.{wishes, inputs}
 use Rattle.worker_run.specs.Hubs.{IsUnread, Reads, HasSeenAll}
-use Rattle.load_stage.specs.Hubs.{new_reader}
 use Rattle.run_ends.specs.Logs.{HasPart}
+use Rattle.run_stage.specs.Hubs.{new_reader}
 use Rattle.load_run.specs.declared.sorting.WorkerEnd.{WorkerEnd}
 use Rattle.load_run.specs.Loads.{WorkerRan}
 use Rattle.load_run.proofs.Writers.{Writer, Log, guild_of, IsSealedOf}

@@ -8,9 +8,9 @@ use Rattle.guild_hub.specs.Writes.{Publishing}
 use Rattle.guild_actor.specs.Acts.{sealed_log}
 use Rattle.guild_places.specs.Places.{guilds_of}
 use Rattle.load_maker.specs.Edits.{guild_id}
-use Rattle.load_stage.specs.Dealing.{evens, odds}
-use Rattle.load_stage.specs.Hubs.{guild_ids, IsNewWriter}
+use Rattle.load_stage.specs.Guilds.{guild_ids}
 use Rattle.run_ends.specs.Lists.{woven}
+use Rattle.run_stage.specs.Dealing.{evens, odds}
 
 abbrev pub Writer : Type 0
 Writer = ℕ × Publishing
@@ -39,13 +39,6 @@ guilds_same [] [] h = refl
 guilds_same [] (l ∷ ls) h = elim h [ ]
 guilds_same (w ∷ ws) [] h = elim h [ ]
 guilds_same (w ∷ ws) (l ∷ ls) h = ap₂ (λ g gs. g ∷ gs) h.0.0 (guilds_same ws ls h.1)
-
--- the guilds of new writers
-pub guilds_new : (ns : List ℕ) (ws : List Writer) → AllZip IsNewWriter ns ws → guilds_of ws ≡ map guild_id ns
-guilds_new [] [] h = refl
-guilds_new [] (w ∷ ws) h = elim h [ ]
-guilds_new (n ∷ ns) [] h = elim h [ ]
-guilds_new (n ∷ ns) (w ∷ ws) h = ap₂ (λ g gs. g ∷ gs) h.0.beside (guilds_new ns ws h.1)
 
 -- ---- the guilds ascend
 

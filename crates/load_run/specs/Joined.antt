@@ -1,5 +1,6 @@
 -- What is known of the ended parts of a load by how they began.
 use Rattle.std.specs.Prelude.{◌≡◌, ℕ, ◌+◌, List, Some, map, length, slice_get}
+use Rattle.std.specs.List.{AllZip}
 use Rattle.atomic_table.specs.Seated.{TableId}
 use Rattle.stop_flag.specs.Flags.{new_seat}
 use Rattle.edit_post.specs.Post.{PostId, new_taker}
@@ -19,11 +20,12 @@ use Rattle.gate_parts.specs.Scripts.{Sends}
 use Rattle.gate_parts.specs.Workers.{WorksOrStops}
 use Rattle.gate_parts.specs.declared.actor_part.ActorDone.{ActorDone}
 use Rattle.gate_parts.specs.declared.script_part.ScriptDone.{ScriptDone}
+use Rattle.run_ends.specs.Senders.{new_passes}
+use Rattle.run_stage.specs.Dealing.{AreFrom, dealt_to}
+use Rattle.run_stage.specs.Hubs.{IsNewWriter, new_reader}
 use Rattle.load_stage.specs.Bots.{load_bots, worker_url}
 use Rattle.load_stage.specs.Clients.{client_with}
-use Rattle.load_stage.specs.Dealing.{AreFrom, dealt_to}
-use Rattle.load_stage.specs.Hubs.{guild_ids, IsNewWriter, new_reader}
-use Rattle.run_ends.specs.Senders.{new_passes}
+use Rattle.load_stage.specs.Guilds.{guild_ids}
 use Rattle.load_run.specs.declared.sorting.WorkerEnd.{WorkerEnd}
 use Rattle.load_run.specs.declared.sorting.Ends.{Ends}
 
@@ -63,7 +65,7 @@ pub record ClientEnds (flag : TableId) (number : ℕ) (ended : EndedClient) : Ty
 pub record Joined {R : Type 0} (seed : ℕ) (posts : List PostId) (actors : List (ActorDone R)) (scripts : List ScriptDone) (workers : List (WorkerEnd R)) : Type 0 where
   pub two : length posts ≡ 2
   pub writers : List (ℕ × Publishing)
-  pub writers_are : AreFrom IsNewWriter 1 8 writers
+  pub writers_are : AllZip IsNewWriter guild_ids writers
   pub actors_are : AreFrom (ActorEnds posts writers) 0 2 actors
   pub scripts_are : AreFrom (ScriptEnds seed posts) 0 4 scripts
   pub workers_are : AreFrom (WorkerEnds posts writers) 0 3 workers

@@ -11,6 +11,7 @@ mod parts;
 mod playing;
 mod rooms;
 mod running;
+mod setting;
 mod sorting;
 mod summing;
 

@@ -1,6 +1,6 @@
 use Rattle.std.proofs.Common.{◌≡◌, ◌++◌, length}
-use Rattle.load_stage.specs.Dealing.{in_turn}
-use Rattle.load_stage.proofs.dealing.in_turn.Given as goal
+use Rattle.load_stage.specs.Turns.{in_turn}
+use Rattle.load_stage.proofs.turns.in_turn.Given as goal
 
 abbrev pub invariant-loop-item : goal.invariant-loop-item
 invariant-loop-item g l = record {
