@@ -42,7 +42,7 @@ guilds_same (w ∷ ws) (l ∷ ls) h = ap₂ (λ g gs. g ∷ gs) h.0.0 (guilds_sa
 
 -- ---- the guilds ascend
 
-abbrev itself : ℕ → ℕ
+abbrev pub itself : ℕ → ℕ
 itself n = n
 
 logs_above : (id : ℕ) (ls : List Log) → AllAbove itself id (guilds_of ls) → AllAbove guild_of id ls

@@ -1,6 +1,6 @@
 -- What is gathered of the parts of a run that have run to their ends.
 use Rattle.std.specs.Prelude.{◌≡◌, ◌++◌, map, flat_map, All}
-use Rattle.gate_ends.specs.Ends.{HasSentAll, HasServed, AreReports}
+use Rattle.gate_ends.specs.Done.{HasSentAll, HasServed, AreReports}
 use Rattle.gate_ends.specs.declared.senders.Senders.{Senders}
 use Rattle.gate_ends.specs.declared.senders.Left.{Left}
 

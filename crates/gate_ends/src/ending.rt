@@ -2,7 +2,7 @@
 
 use crate::results::result_of;
 use edit_post::SendPass;
-use gate_parts::Ending;
+use gate_parts::{Ending, WorkerDone};
 use guild_hub::HubReader;
 use snowflake_id::Snowflake;
 use std::alloc::AllocError;
@@ -51,7 +51,7 @@ impl Drop for WorkerEnd {
 
 impl<E: Drop> ScriptEnd<E> {
     ghost use Rattle.std.specs.Prelude.{◌≡◌, IfOk};
-    ghost use Rattle.gate_ends.specs.Ends.{HasSentAll};
+    ghost use Rattle.gate_ends.specs.Done.{HasSentAll};
 
     /// The passes of a script that has sent all.
     ///
@@ -73,7 +73,30 @@ impl<E: Drop> ScriptEnd<E> {
 
 impl WorkerEnd {
     ghost use Rattle.std.specs.Prelude.{◌≡◌, IfOk};
-    ghost use Rattle.gate_ends.specs.Ends.{HasServed};
+    ghost use Rattle.gate_ends.specs.Done.{HasServed, worker_end};
+
+    /// A worker whose part has ended, and what goes back to the house: its door and its clock.
+    pub fn of<D, C, J: Drop>(done: WorkerDone<D, C, J>) -> (Self, D, C)
+        ensures { (result.0 ≡ worker_end done) × (result.1 ≡ done.door) × (result.2 ≡ done.clock) }
+    {
+        let WorkerDone {
+            ending,
+            door,
+            clock,
+            readers,
+            passes,
+            notes,
+            seat,
+        } = done;
+        drop(notes);
+        drop(seat);
+        let end = WorkerEnd {
+            ending,
+            readers,
+            passes,
+        };
+        (end, door, clock)
+    }
 
     /// The readers and the passes of a worker that has served.
     ///

@@ -2,7 +2,7 @@
 
 ghost use Rattle.std.specs.Prelude.{◌≡◌, Ok, IfOk};
 ghost use Rattle.gate_parts.specs.declared.ending.Ending.TheVariants.{Ran};
-ghost use Rattle.gate_ends.specs.Ends.{AreReports};
+ghost use Rattle.gate_ends.specs.Done.{AreReports};
 
 use crate::results::result_of;
 use gate_parts::ActorDone;

@@ -1,7 +1,7 @@
 //! What the actors, the scripts and the workers of a run have left is gathered for what is settled at its end.
 
 ghost use Rattle.std.specs.Prelude.{◌≡◌, ◌++◌, ◌∷◌, [], map, flat_map, All, OnOk, IfOk};
-ghost use Rattle.gate_ends.specs.Ends.{HasSentAll, HasServed};
+ghost use Rattle.gate_ends.specs.Done.{HasSentAll, HasServed};
 ghost use Rattle.gate_ends.specs.Gathers.{Gathers};
 
 use crate::ending::{ScriptEnd, WorkerEnd};

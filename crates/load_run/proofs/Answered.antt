@@ -6,17 +6,17 @@ use Rattle.load_run.specs.declared.fault.LoadFault.{LoadFault}
 use Rattle.load_run.specs.Causes.{HasLoadCause, LoadCause}
 
 -- the fault of the parts has its cause, or else what comes of the summary
-pub answered : (R : Type 0) (seed team0 team1 sink0 sink1 : ℕ) (fault : Option LoadFault) (r : Result (Unit {0}) LoadFault)
-    → ((f : LoadFault) → fault ≡ Some f → LoadCause R seed team0 team1 sink0 sink0 f)
+pub answered : (seed team0 team1 sink0 sink1 : ℕ) (fault : Option LoadFault) (r : Result (Unit {0}) LoadFault)
+    → ((f : LoadFault) → fault ≡ Some f → LoadCause seed team0 team1 sink0 sink0 f)
     → (fault ≡ None → team1 ≡ team0)
-    → (fault ≡ None → (team : ℕ) → HasLoadCause R seed team team sink0 sink1 r)
+    → (fault ≡ None → (team : ℕ) → HasLoadCause seed team team sink0 sink1 r)
     → ((f : LoadFault) → fault ≡ Some f → (r ≡ Err f) × (sink1 ≡ sink0))
-    → HasLoadCause R seed team0 team1 sink0 sink1 r
-answered R seed team0 team1 sink0 sink1 None r cause team summary kept =
-    subst (λ (t : ℕ). HasLoadCause R seed team0 t sink0 sink1 r) (sym (team refl)) (summary refl team0)
-answered R seed team0 team1 sink0 sink1 (Some f) r cause team summary kept =
+    → HasLoadCause seed team0 team1 sink0 sink1 r
+answered seed team0 team1 sink0 sink1 None r cause team summary kept =
+    subst (λ (t : ℕ). HasLoadCause seed team0 t sink0 sink1 r) (sym (team refl)) (summary refl team0)
+answered seed team0 team1 sink0 sink1 (Some f) r cause team summary kept =
     let is = kept f refl in
-    subst (HasLoadCause R seed team0 team1 sink0 sink1) (sym is.0) (subst (λ (s : ℕ). LoadCause R seed team0 team1 sink0 s f) (sym is.1) (cause f refl))
+    subst (HasLoadCause seed team0 team1 sink0 sink1) (sym is.0) (subst (λ (s : ℕ). LoadCause seed team0 team1 sink0 s f) (sym is.1) (cause f refl))
 
 -- what holds where no part has a fault holds of a load that came to its end
 pub all_asked : (P : Type 0) (fault : Option LoadFault) (r : Result (Unit {0}) LoadFault) → (fault ≡ None → P) → ((f : LoadFault) → fault ≡ Some f → r ≡ Err f) → r ≡ Ok tt → P

@@ -1,9 +1,5 @@
-pub mod Zips
-pub mod Writers
-pub mod Sealed
+pub mod Guilds
 pub mod Senders
-pub mod Workers
-pub mod Actors
 pub mod Settling
 pub mod Clients
 pub mod Staged
@@ -11,7 +7,6 @@ pub mod Ranks
 pub mod Played
 pub mod Out
 pub mod Answered
-pub mod Popped
 pub mod Added
 pub mod Agreed
 pub mod Joining

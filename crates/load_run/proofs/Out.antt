@@ -13,6 +13,6 @@ pub loads_front : (seed : ℕ) (got0 got1 : Known (List ℕ)) (waits : List ℕ)
 loads_front seed got0 got1 waits Failed h = h
 loads_front seed got0 got1 waits Memory h = h
 
-pub sink_cause : {T : Type 0} (R : Type 0) (seed team sink0 sink1 : ℕ) (f : Fault) (r : Result T Fault) → r ≡ Err f → FaultHasCause sink0 sink1 r → HasLoadCause R seed team team sink0 sink1 (Err (by_sink f))
-sink_cause R seed team sink0 sink1 Failed r is h = h.failed (subst (λ q. IsErrOf q Failed) (sym is) refl)
-sink_cause R seed team sink0 sink1 Memory r is h = tt
+pub sink_cause : {T : Type 0} (seed team sink0 sink1 : ℕ) (f : Fault) (r : Result T Fault) → r ≡ Err f → FaultHasCause sink0 sink1 r → HasLoadCause seed team team sink0 sink1 (Err (by_sink f))
+sink_cause seed team sink0 sink1 Failed r is h = h.failed (subst (λ q. IsErrOf q Failed) (sym is) refl)
+sink_cause seed team sink0 sink1 Memory r is h = tt

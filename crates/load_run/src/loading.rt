@@ -10,8 +10,9 @@ use crate::playing::{Played, play};
 use crate::rooms::PARTS;
 use crate::setting::{Ready, set_up};
 use crate::sorting::Ends;
-use crate::summing::{Senders, sum_up};
-use gate_ends::write_out;
+use crate::summing::sum_up;
+use edit_post::SendRefused;
+use gate_ends::{Senders, write_out};
 use gate_outside::clocks::Clock;
 use gate_outside::faults::Fault;
 use gate_outside::spawners::Spawner;
@@ -43,14 +44,14 @@ fn finish<R: Wait + Copy + Drop, K: Sink>(
     alloc: Global,
     seed: u64,
     posts: Posts<R>,
-    senders: Senders<R>,
+    senders: Senders<R, SendRefused>,
     clients: Vec<EndedClient>,
     sink: &mut K,
 ) -> Result<(), LoadFault>
     requires senders { Joined seed posts senders.actors.items senders.scripts.items senders.workers.items }
     requires clients { ClientsJoined clients.items }
     ensures loads { Loads seed (K.got sink.old) (K.got sink.new) (K.waits sink.old) result }
-    ensures cause { (team : ℕ) → HasLoadCause R seed team team (K.faults sink.old) (K.faults sink.new) result }
+    ensures cause { (team : ℕ) → HasLoadCause seed team team (K.faults sink.old) (K.faults sink.new) result }
 {
     let text = sum_up(alloc, seed, posts.as_slice(), senders, clients)?;
     write_out(sink, text.as_str())?;
@@ -68,7 +69,7 @@ fn answer<C: Clock + Drop, R: Wait + Copy + Drop, K: Sink>(
     requires { played.fault ≡ None → HasJoined seed played.posts played.ends }
     ensures clocks { result.0 ≡ played.ends.clocks }
     ensures loads { Loads seed (K.got sink.old) (K.got sink.new) (K.waits sink.old) result.1 }
-    ensures whole { played.fault ≡ None → (team : ℕ) → HasLoadCause R seed team team (K.faults sink.old) (K.faults sink.new) result.1 }
+    ensures whole { played.fault ≡ None → (team : ℕ) → HasLoadCause seed team team (K.faults sink.old) (K.faults sink.new) result.1 }
     ensures fault { (f : AFault) → played.fault ≡ Some f → (result.1 ≡ Err f) × (K.faults sink.new ≡ K.faults sink.old) }
 {
     let Played { posts, ends, fault } = played;
@@ -117,7 +118,7 @@ pub fn load<
     requires { length clocks.items ≡ 15 }
     ensures clocks { length result.0.items ≡ 15 }
     ensures loads { Loads seed (K.got sink.old) (K.got sink.new) (K.waits sink.old) result.1 }
-    ensures causes { HasLoadCause R seed (S.faults team.old) (S.faults team.new) (K.faults sink.old) (K.faults sink.new) result.1 }
+    ensures causes { HasLoadCause seed (S.faults team.old) (S.faults team.new) (K.faults sink.old) (K.faults sink.new) result.1 }
     ensures starts { StartsParts (S.starts team.old) (S.starts team.new) result.1 }
 {
     let Ok(started) = Vec::<S::Held>::with_capacity(alloc, PARTS) else {

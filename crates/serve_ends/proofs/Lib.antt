@@ -1,9 +1,7 @@
 pub mod Added
 pub mod Ranks
-pub mod Places
 pub mod Ascending
 pub mod Sendings
 pub mod Workers
-pub mod Actors
 pub mod SettledLogs
 pub mod Written

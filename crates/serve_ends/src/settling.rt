@@ -26,12 +26,13 @@ fn settle_senders<R: Wait + Drop>(
     ensures settled { IfOk result (λ settled. (s : Service) → Joined s posts.now senders.actors.items senders.scripts.items senders.workers.items → IsSettled s settled.logs.items settled.strays) }
     ensures ascending { IfOk result (λ settled. IsById (λ log. log.0) settled.logs.items) }
 {
+    let left = senders.gather(alloc)?;
     let Left {
         first,
         second,
         passes,
         readers,
-    } = senders.gather(alloc)?;
+    } = left;
     settle(alloc, posts, first, second, passes, readers)
 }
 

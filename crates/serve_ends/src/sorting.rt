@@ -6,7 +6,6 @@ ghost use Rattle.serve_parts.specs.declared.serve_part.ServeDone.TheVariants.{Sc
 
 use crate::ends::{Ends, Returned};
 use gate_ends::{ScriptEnd, WorkerEnd};
-use gate_parts::WorkerDone;
 use serve_parts::{DoorDone, FileDone, ServeDone, ServePart};
 use std::sync::Wait;
 use team_run::add;
@@ -35,24 +34,9 @@ impl<S: Drop, D: Drop, C: Drop, R: Wait + Copy + Drop> Ends<S, D, C, R> {
         ensures sorts { Sorts (Worker done ∷ []) self.old self.new }
         ensures room { (more : ℕ) → HasRoom (more + 1) self.old → HasRoom more self.new }
     {
-        let WorkerDone {
-            ending,
-            door,
-            clock,
-            readers,
-            passes,
-            notes,
-            seat,
-        } = done;
-        drop(notes);
-        drop(seat);
+        let (end, door, clock) = WorkerEnd::of(done);
         add(&mut self.returned.doors, door);
         add(&mut self.returned.clocks, clock);
-        let end = WorkerEnd {
-            ending,
-            readers,
-            passes,
-        };
         add(&mut self.workers, end);
     }
 

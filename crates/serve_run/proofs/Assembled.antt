@@ -20,11 +20,13 @@ use Rattle.serve_stage.specs.Parts.{IsActor, IsScript, IsWorker}
 use Rattle.serve_stage.specs.Stages.{IsStage, senders_of}
 use Rattle.serve_stage.specs.declared.lent.Lent.{Lent}
 use Rattle.serve_stage.specs.declared.stage.Stage.{Stage}
-use Rattle.serve_ends.specs.Ends.{ActorEnds, FileEnds, WorkerEnds, Joined}
+use Rattle.gate_ends.specs.Ends.{ActorEnds}
+use Rattle.serve_ends.specs.Ends.{FileEnds, WorkerEnds, Joined}
 use Rattle.serve_ends.specs.Faults.{first_fault}
-use Rattle.serve_ends.specs.Services.{Service, HasHead, service, ascending}
-use Rattle.serve_ends.specs.Sorted.{IsEmpty, Sorts, file_end, worker_end, source_of, door_of}
+use Rattle.serve_ends.specs.Services.{Service, HasHead, service, ascending, senders}
+use Rattle.serve_ends.specs.Sorted.{IsEmpty, Sorts, file_end, source_of, door_of}
 use Rattle.serve_ends.specs.Files.{FileEnd}
+use Rattle.gate_ends.specs.Done.{worker_end}
 use Rattle.gate_ends.specs.declared.ending.WorkerEnd.{WorkerEnd}
 use Rattle.serve_ends.specs.declared.ends.Ends.{Ends}
 use Rattle.serve_ends.specs.declared.fault.ServeFault.{ServeFault}
@@ -46,7 +48,7 @@ joined s posts started actors scripts workers fault e all =
       two = e.two;
       writers = e.writers;
       writers_are = e.writers_are;
-      actors_are = all_numbered (ActorEnds s posts e.writers) 0 2 actors e.actors_are many.0;
+      actors_are = all_numbered (ActorEnds posts e.writers (senders s)) 0 2 actors e.actors_are many.0;
       scripts_are = all_numbered (FileEnds s posts) 0 (length s.files) scripts e.scripts_are many.1.0;
       workers_are = all_numbered (WorkerEnds s posts e.writers) 0 (length s.doors) workers e.workers_are many.1.1;
     }
@@ -135,7 +137,7 @@ module _ {S D C R : Type 0} (left : S → Known (List ℕ)) (faults : S → ℕ)
           two = is.two_posts;
           writers = is.writers;
           writers_are = is.new_writers;
-          actors_are = numbered (IsActor stage.posts (senders_of of.lent) is.writers) ActorGives (ActorEnds its stage.posts is.writers)
+          actors_are = numbered (IsActor stage.posts (senders_of of.lent) is.writers) ActorGives (ActorEnds stage.posts is.writers (senders its))
               (one_actor left faults door_tale door_faults clock_tale of.port of.bots of.guilds of.tells.heads of.lent of.tells.alike stage.posts is.writers)
               0 2 stage.actors.items (flat_map actor_of dones) is.actors_are by.of_actors;
           scripts_are = numbered_map file_end (FileEnds its stage.posts) 0 (flat_map script_of dones)

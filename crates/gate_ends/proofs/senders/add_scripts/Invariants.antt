@@ -1,5 +1,5 @@
 use Rattle.std.proofs.Common.{[], ◌∷◌, length}
-use Rattle.gate_ends.specs.Ends.{HasSentAll}
+use Rattle.gate_ends.specs.Done.{HasSentAll}
 use Rattle.gate_ends.proofs.Popped.{Passed}
 use Rattle.gate_ends.proofs.senders.add_scripts.Given as goal
 

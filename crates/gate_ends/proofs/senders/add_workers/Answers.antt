@@ -1,6 +1,6 @@
 use Rattle.std.proofs.Common.{rules, ◌∙◌, ◌++◌, ◌∷◌, [], ap}
 use Rattle.std.proofs.lemmas.List.{nil_from_length}
-use Rattle.gate_ends.specs.Ends.{HasServed}
+use Rattle.gate_ends.specs.Done.{HasServed}
 use Rattle.gate_ends.proofs.Popped.{passed_none, passed_one, passed_all, flat_one}
 use Rattle.gate_ends.proofs.senders.add_workers.Goals as goal
 

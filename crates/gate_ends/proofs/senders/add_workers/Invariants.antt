@@ -1,5 +1,5 @@
 use Rattle.std.proofs.Common.{[], ◌∷◌, length}
-use Rattle.gate_ends.specs.Ends.{HasServed}
+use Rattle.gate_ends.specs.Done.{HasServed}
 use Rattle.gate_ends.proofs.Popped.{Passed}
 use Rattle.gate_ends.proofs.senders.add_workers.Given as goal
 

@@ -18,7 +18,7 @@ returns-clause-clocks g c = ap (λ clocks. length clocks.items) c.answer.ensures
 pub returns-clause-causes : goal.returns-clause-causes
 returns-clause-causes g c =
     let played = c.play-played in
-    answered g.row.R.Denot c.args.seed (g.S.Spawner.faults c.args.team.now) (g.S.Spawner.faults played.new.team) (g.K.Sink.faults c.args.sink.now) (g.K.Sink.faults c.answer.new.sink)
+    answered c.args.seed (g.S.Spawner.faults c.args.team.now) (g.S.Spawner.faults played.new.team) (g.K.Sink.faults c.args.sink.now) (g.K.Sink.faults c.answer.new.sink)
     played.result.fault c.answer.result.1 (λ f some. played.ensures.cause c.args.seed c.args.clocks.items c.in-Ok.ensures.stage f some (g.K.Sink.faults c.args.sink.now))
     (λ none. (played.ensures.whole none).0) c.answer.ensures.whole c.answer.ensures.fault
 

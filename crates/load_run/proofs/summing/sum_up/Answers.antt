@@ -7,7 +7,7 @@ use Rattle.load_run.specs.Ends.{HasFinished, AllAgreeSo}
 use Rattle.load_run.specs.Joined.{ClientEnds}
 use Rattle.load_run.specs.Loads.{IsLoad}
 use Rattle.load_run.proofs.Clients.{all_clients}
-use Rattle.load_run.proofs.Zips.{many_zip}
+use Rattle.gate_ends.proofs.Zips.{many_zip}
 use Rattle.load_run.proofs.summing.sum_up.Goals as goal
 
 pub agrees_of-requires : goal.agrees_of-requires
