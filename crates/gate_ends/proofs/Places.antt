@@ -1,6 +1,6 @@
 -- Guilds by their places in a list in which each stands once.
-use Rattle.std.proofs.Common.{◌≡◌, ◌≢◌, ℕ, suc, ◌+◌, ◌==◌, ◌||◌, Bool, true, false, List, [], ◌∷◌, ◌++◌, length, Option, Some, None, option_map, refl, sym, ap, ◌∙◌, subst, arith}
-use Rattle.std.specs.List.{position, list_any}
+use Rattle.std.proofs.Common.{◌≡◌, ◌≢◌, ℕ, ◌+◌, ◌==◌, true, false, List, [], ◌∷◌, Some, refl, arith}
+use Rattle.std.specs.List.{position}
 use Rattle.std.proofs.lemmas.Bool.Decides.{Decides-eqb}
 use Rattle.std.proofs.lemmas.Grind.{common_steps}
 use Rattle.guild_places.specs.Places.{has_guild, AreDistinct}

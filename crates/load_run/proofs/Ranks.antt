@@ -1,5 +1,5 @@
 -- Which fault a load answers, and its cause.
-use Rattle.std.proofs.Common.{◌≡◌, ◌⊎◌, ℕ, Bool, true, false, Option, Some, None, Result, Ok, Err, inl, inr, refl, sym}
+use Rattle.std.proofs.Common.{◌≡◌, ◌⊎◌, ℕ, Bool, true, false, Some, None, Result, Ok, Err, inl, inr, refl, sym}
 use Rattle.std.proofs.lemmas.Option.{same_Some, none-some}
 use Rattle.std.specs.declared.alloc.AllocError.{AllocError}
 use Rattle.edit_post.specs.declared.send_refused.SendRefused.{SendRefused}

@@ -1,8 +1,7 @@
 -- Which fault a run answers, and its cause.
-use Rattle.std.proofs.Common.{◌≡◌, ◌⊎◌, ℕ, Bool, true, false, Option, Some, None, Result, Ok, Err, inl, inr, refl, sym, subst}
+use Rattle.std.proofs.Common.{◌≡◌, ◌⊎◌, ℕ, Bool, true, false, Some, None, Result, Ok, Err, inl, inr, refl, sym, subst}
 use Rattle.std.proofs.lemmas.Option.{same_Some, none-some}
 use Rattle.std.specs.declared.alloc.AllocError.{AllocError}
-use Rattle.edit_fields.specs.declared.fault.LineFault.{LineFault}
 use Rattle.file_script.specs.declared.fault.ScriptFault.{ScriptFault}
 use Rattle.file_script.specs.declared.fault.ScriptFault.TheVariants as script
 use Rattle.worker_run.specs.declared.fault.WorkFault.{WorkFault}

@@ -1,13 +1,11 @@
 -- The lines of a run, line by line.
-use Rattle.std.proofs.Common.{◌≡◌, ℕ, zero, suc, ◌+◌, List, [], ◌∷◌, ◌++◌, flat_map, Option, Some, None, refl, sym, ap, ◌∙◌, arith, append_assoc, append-nil, add-zero, add-one}
+use Rattle.std.proofs.Common.{◌≡◌, ℕ, zero, suc, ◌+◌, List, [], ◌++◌, flat_map, Option, sym, ap, ◌∙◌, arith, append_assoc, append-nil, add-zero, add-one}
 use Rattle.std.specs.Prelude.{option_map, slice_get}
 use Rattle.std.specs.Option.{option_map_or}
 use Rattle.std.specs.List.{range_with_len}
-use Rattle.std.proofs.lemmas.Option.{none-some}
 use Rattle.collections.specs.ById.{IsById, count_below, with_id}
 use Rattle.collections.proofs.Ids.{find_at_place}
 use Rattle.guild_hub.specs.Logs.{Published}
-use Rattle.load_settle.specs.Readers.{log_under}
 use Rattle.log_summary.specs.Summary.{guild_text}
 use Rattle.serve_ends.specs.Lines.{worker_line, worker_lines, line_of}
 use Rattle.gate_ends.proofs.Writers.{Log, guild_of}

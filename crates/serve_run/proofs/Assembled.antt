@@ -1,6 +1,6 @@
 -- How the parts of a run have ended, from what was set up and what they gave.
-use Rattle.std.proofs.Common.{◌≡◌, ℕ, ◌+◌, Bool, true, List, [], ◌++◌, map, flat_map, length, Option, None, refl, sym, ap, ◌∙◌, subst, append-nil}
-use Rattle.std.proofs.lemmas.List.{length-map, nil_from_length}
+use Rattle.std.proofs.Common.{◌≡◌, ℕ, ◌+◌, Bool, true, List, [], ◌++◌, map, flat_map, length, Option, None, sym, ap, ◌∙◌, subst, append-nil}
+use Rattle.std.proofs.lemmas.List.{length-map}
 use Rattle.std.specs.List.{All, AllZip}
 use Rattle.std.specs.declared.option.Option.{Option as Known}
 use Rattle.edit_post.specs.Post.{PostId}
@@ -24,7 +24,7 @@ use Rattle.gate_ends.specs.Ends.{ActorEnds}
 use Rattle.serve_ends.specs.Ends.{FileEnds, WorkerEnds, Joined}
 use Rattle.serve_ends.specs.Faults.{first_fault}
 use Rattle.serve_ends.specs.Services.{Service, HasHead, service, ascending, senders}
-use Rattle.serve_ends.specs.Sorted.{IsEmpty, Sorts, file_end, source_of, door_of}
+use Rattle.serve_ends.specs.Sorted.{IsEmpty, Sorts, file_end}
 use Rattle.serve_ends.specs.Files.{FileEnd}
 use Rattle.gate_ends.specs.Done.{worker_end}
 use Rattle.gate_ends.specs.declared.ending.WorkerEnd.{WorkerEnd}

@@ -1,11 +1,11 @@
 -- Which fault the parts of a run may have had.
-use Rattle.std.proofs.Common.{◌≡◌, ◌⊎◌, ⊎_elim, ℕ, ◌+◌, ◌<◌, ◌≤◌, Bool, true, false, List, [], ◌∷◌, ◌++◌, map, Option, Some, None, inl, inr, refl, sym, ◌∙◌, subst, arith}
+use Rattle.std.proofs.Common.{◌≡◌, ◌⊎◌, ⊎_elim, ℕ, ◌+◌, ◌<◌, ◌≤◌, Bool, true, false, List, [], ◌∷◌, ◌++◌, Option, Some, None, inl, inr, refl, sym, ◌∙◌, subst, arith}
 use Rattle.std.specs.Prelude.{nat_lt, if◌then◌else◌}
 use Rattle.std.specs.List.{fold}
 use Rattle.std.proofs.lemmas.Bool.Decides.{Decides-ltb}
 use Rattle.std.proofs.lemmas.Option.{same_Some, none-some}
 use Rattle.gate_parts.specs.declared.actor_part.ActorDone.{ActorDone}
-use Rattle.serve_ends.specs.Faults.{actor_fault, script_fault, worker_fault, actor_faults, script_faults, worker_faults, first_fault, rank, sooner, start_fault}
+use Rattle.serve_ends.specs.Faults.{actor_faults, script_faults, worker_faults, first_fault, rank, sooner, start_fault}
 use Rattle.serve_ends.specs.Files.{FileEnd}
 use Rattle.gate_ends.specs.declared.ending.WorkerEnd.{WorkerEnd}
 use Rattle.serve_ends.specs.declared.fault.ServeFault.{ServeFault}
