@@ -1,9 +1,9 @@
 -- What parts have left, part by part.
 use Rattle.std.proofs.Common.{List, [], ◌++◌, sym, append-nil}
-use Rattle.gate_ends.specs.Done.{worker_end}
-use Rattle.gate_ends.proofs.Added.{one_more, one_more_of}
 use Rattle.load_parts.specs.declared.load_part.LoadDone.{LoadDone}
 use Rattle.load_parts.specs.Kinds.{actor_of, script_of, worker_of, client_of}
+use Rattle.gate_ends.specs.Done.{worker_end}
+use Rattle.gate_ends.proofs.Added.{one_more, one_more_of}
 use Rattle.load_run.specs.declared.sorting.Ends.{Ends}
 use Rattle.load_run.specs.Ends.{clock_of_done}
 use Rattle.load_run.specs.Sorted.{script_end, ended_of, Sorts}

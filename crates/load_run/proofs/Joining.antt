@@ -13,10 +13,6 @@ use Rattle.gate_parts.specs.Scripts.{ScriptGives}
 use Rattle.gate_parts.specs.declared.actor_part.ActorPart.{ActorPart}
 use Rattle.gate_parts.specs.declared.actor_part.ActorDone.{ActorDone}
 use Rattle.gate_parts.specs.declared.script_part.ScriptPart.{ScriptPart}
-use Rattle.gate_ends.specs.Done.{worker_end}
-use Rattle.gate_ends.specs.Ends.{ActorEnds}
-use Rattle.gate_ends.specs.declared.ending.ScriptEnd.{ScriptEnd}
-use Rattle.gate_ends.specs.declared.ending.WorkerEnd.{WorkerEnd}
 use Rattle.gate_parts.specs.declared.worker_part.WorkerPart.{WorkerPart}
 use Rattle.load_client.specs.declared.ended_client.EndedClient.{EndedClient}
 use Rattle.load_parts.specs.ByKind.{GaveByKind}
@@ -31,6 +27,13 @@ use Rattle.load_stage.specs.Clients.{IsClient}
 use Rattle.load_stage.specs.Parts.{IsActor, IsScript, IsWorker}
 use Rattle.load_stage.specs.Stages.{IsStage}
 use Rattle.load_stage.specs.declared.stage.Stage.{Stage}
+use Rattle.gate_ends.specs.Done.{worker_end}
+use Rattle.gate_ends.specs.Ends.{ActorEnds}
+use Rattle.gate_ends.specs.declared.ending.ScriptEnd.{ScriptEnd}
+use Rattle.gate_ends.specs.declared.ending.WorkerEnd.{WorkerEnd}
+use Rattle.gate_ends.proofs.Counts.{each_one, goes_back}
+use Rattle.gate_ends.proofs.Ranks.{first_is, first_is_none}
+use Rattle.gate_ends.proofs.Zips.{zip_on, many_zip}
 use Rattle.load_run.specs.declared.fault.LoadFault.{LoadFault}
 use Rattle.load_run.specs.declared.sorting.Ends.{Ends}
 use Rattle.load_run.specs.Causes.{LoadCause}
@@ -39,12 +42,9 @@ use Rattle.load_run.specs.Faults.{fault_of, first_fault, rank, start_fault}
 use Rattle.load_run.specs.Joined.{Joined, ClientsJoined, HasJoined, ScriptEnds, WorkerEnds, ClientEnds}
 use Rattle.load_parts.specs.ByKind.{parts_of}
 use Rattle.load_run.specs.Sorted.{Sorts, IsEmpty, HasRoom, script_end, ended_of}
-use Rattle.gate_ends.proofs.Counts.{each_one, goes_back}
-use Rattle.gate_ends.proofs.Zips.{zip_on, many_zip}
 use Rattle.load_parts.proofs.OneKind.{other}
 use Rattle.load_run.proofs.Staged.{one_actor, one_script, one_worker, one_client, zip_map}
 use Rattle.load_run.proofs.Played.{AllKnown, all_known, known_front, any_cause, same_clock}
-use Rattle.gate_ends.proofs.Ranks.{first_is, first_is_none}
 use Rattle.load_run.proofs.Ranks.{all_started, is_start}
 
 module _ {C R : Type 0} (clock_tale : C → ClockTale) (seed : ℕ) (clocks : List C) (stage : Stage C R) (is : IsStage seed clocks stage) (dones : List (LoadDone C R))

@@ -22,15 +22,15 @@ use Rattle.load_parts.specs.declared.load_part.LoadDone.{LoadDone}
 use Rattle.load_parts.specs.declared.load_part.LoadDone.TheVariants as done
 use Rattle.load_stage.specs.Parts.{IsScript, IsWorker}
 use Rattle.load_stage.specs.Clients.{IsClient}
+use Rattle.gate_ends.specs.Done.{worker_end}
+use Rattle.gate_ends.proofs.Ranks.{AnyIs}
 use Rattle.load_run.specs.declared.fault.LoadFault.{LoadFault}
 use Rattle.load_run.specs.declared.fault.LoadFault.TheVariants.{Memory, Spent, Door, Out, BadText}
 use Rattle.load_run.specs.Causes.{LoadCause}
 use Rattle.load_run.specs.Ends.{clock_of_part, clock_of_done}
 use Rattle.load_run.specs.Faults.{fault_of}
 use Rattle.load_parts.specs.ByKind.{parts_of}
-use Rattle.gate_ends.specs.Done.{worker_end}
 use Rattle.load_run.specs.Sorted.{script_end, ended_of}
-use Rattle.gate_ends.proofs.Ranks.{AnyIs}
 use Rattle.load_run.proofs.Ranks.{of_actor, of_script, of_worker, of_client}
 use Rattle.load_run.proofs.Staged.{one_script, one_worker, one_client}
 

@@ -13,6 +13,7 @@ use Rattle.gate_parts.specs.declared.ending.Ending.TheVariants.{Ran}
 use Rattle.gate_parts.specs.Scripts.{Sends}
 use Rattle.run_ends.specs.Logs.{HasPart}
 use Rattle.run_ends.specs.Senders.{new_passes, HaveSent}
+use Rattle.load_stage.specs.Guilds.{guild_ids}
 use Rattle.gate_ends.specs.Done.{HasSentAll}
 use Rattle.gate_ends.specs.Ends.{WorkerServes}
 use Rattle.gate_ends.specs.declared.ending.ScriptEnd.{ScriptEnd}
@@ -20,7 +21,6 @@ use Rattle.gate_ends.specs.declared.ending.WorkerEnd.{WorkerEnd}
 use Rattle.gate_ends.proofs.Served.{Served, readers, knew_none, knows_all}
 use Rattle.gate_ends.proofs.Settled.{script_passes}
 use Rattle.gate_ends.proofs.Writers.{Writer, Log, guild_of, IsSealedOf}
-use Rattle.load_stage.specs.Guilds.{guild_ids}
 use Rattle.load_run.specs.Joined.{ScriptEnds, WorkerEnds}
 use Rattle.load_run.specs.Loads.{WorkerRan}
 

@@ -16,10 +16,10 @@ use Rattle.client_run.specs.declared.fault.DriveFault.TheVariants as drive
 use Rattle.load_client.specs.declared.ended_client.EndedClient.{EndedClient}
 use Rattle.gate_parts.specs.declared.ending.Ending.TheVariants.{Ran}
 use Rattle.team_run.specs.Teams.{many_more}
-use Rattle.load_run.specs.declared.fault.LoadFault.{LoadFault}
-use Rattle.load_run.specs.declared.fault.LoadFault.TheVariants.{Memory, Spent, Start, Door, Write, Out, BadText}
 use Rattle.gate_ends.specs.declared.ending.ScriptEnd.{ScriptEnd}
 use Rattle.gate_ends.specs.declared.ending.WorkerEnd.{WorkerEnd}
+use Rattle.load_run.specs.declared.fault.LoadFault.{LoadFault}
+use Rattle.load_run.specs.declared.fault.LoadFault.TheVariants.{Memory, Spent, Start, Door, Write, Out, BadText}
 use Rattle.load_run.specs.Joined.{WorkerEnds, ScriptEnds, ClientEnds}
 use Rattle.load_run.specs.Loads.{IsLoad}
 

@@ -16,15 +16,15 @@ use Rattle.load_client.specs.Ended.{HasEnded}
 use Rattle.load_client.specs.declared.ended_client.EndedClient.{EndedClient}
 use Rattle.gate_parts.specs.Scripts.{Sends}
 use Rattle.gate_parts.specs.declared.actor_part.ActorDone.{ActorDone}
-use Rattle.gate_ends.specs.Ends.{ActorEnds, WorkerServes}
-use Rattle.gate_ends.specs.declared.ending.ScriptEnd.{ScriptEnd}
-use Rattle.gate_ends.specs.declared.ending.WorkerEnd.{WorkerEnd}
 use Rattle.run_ends.specs.Senders.{new_passes}
 use Rattle.run_stage.specs.Dealing.{AreFrom}
 use Rattle.run_stage.specs.Hubs.{IsNewWriter}
 use Rattle.load_stage.specs.Bots.{load_bots, worker_url}
 use Rattle.load_stage.specs.Clients.{client_with}
 use Rattle.load_stage.specs.Guilds.{guild_ids}
+use Rattle.gate_ends.specs.Ends.{ActorEnds, WorkerServes}
+use Rattle.gate_ends.specs.declared.ending.ScriptEnd.{ScriptEnd}
+use Rattle.gate_ends.specs.declared.ending.WorkerEnd.{WorkerEnd}
 use Rattle.load_run.specs.declared.sorting.Ends.{Ends}
 
 -- a worker has served from all logs, as the sender after the four scripts and the workers before it

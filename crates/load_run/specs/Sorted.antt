@@ -3,12 +3,12 @@ use Rattle.std.specs.Prelude.{◌≡◌, ℕ, ◌+◌, ◌≤◌, List, [], ◌+
 use Rattle.std.specs.Vec.{vec_len, vec_capacity}
 use Rattle.edit_post.specs.declared.send_refused.SendRefused.{SendRefused}
 use Rattle.gate_parts.specs.declared.script_part.ScriptDone.{ScriptDone}
-use Rattle.gate_ends.specs.Done.{worker_end}
-use Rattle.gate_ends.specs.declared.ending.ScriptEnd.{ScriptEnd}
 use Rattle.load_client.specs.declared.ended_client.EndedClient.{EndedClient}
 use Rattle.load_parts.specs.declared.client_part.ClientDone.{ClientDone}
 use Rattle.load_parts.specs.declared.load_part.LoadDone.{LoadDone}
 use Rattle.load_parts.specs.Kinds.{actor_of, script_of, worker_of, client_of}
+use Rattle.gate_ends.specs.Done.{worker_end}
+use Rattle.gate_ends.specs.declared.ending.ScriptEnd.{ScriptEnd}
 use Rattle.load_run.specs.declared.sorting.Ends.{Ends}
 use Rattle.load_run.specs.declared.rooms.Rooms.{Rooms}
 use Rattle.load_run.specs.Ends.{clock_of_done}

@@ -1,9 +1,9 @@
 -- What parts have left, part by part.
 use Rattle.std.proofs.Common.{List, [], ◌++◌, sym, append-nil}
-use Rattle.gate_ends.specs.Done.{worker_end}
-use Rattle.gate_ends.proofs.Added.{one_more, one_more_of}
 use Rattle.serve_parts.specs.declared.serve_part.ServeDone.{ServeDone}
 use Rattle.serve_parts.specs.Kinds.{actor_of, script_of, worker_of}
+use Rattle.gate_ends.specs.Done.{worker_end}
+use Rattle.gate_ends.proofs.Added.{one_more, one_more_of}
 use Rattle.serve_ends.specs.declared.ends.Ends.{Ends}
 use Rattle.serve_ends.specs.Sorted.{file_end, source_of, door_of, clock_of, Sorts}
 

@@ -7,8 +7,8 @@ use Rattle.collections.specs.ById.{IsById, count_below, with_id}
 use Rattle.collections.proofs.Ids.{find_at_place}
 use Rattle.guild_hub.specs.Logs.{Published}
 use Rattle.log_summary.specs.Summary.{guild_text}
-use Rattle.serve_ends.specs.Lines.{worker_line, worker_lines, line_of}
 use Rattle.gate_ends.proofs.Writers.{Log, guild_of}
+use Rattle.serve_ends.specs.Lines.{worker_line, worker_lines, line_of}
 
 one_more_of : {X : Type 0} (f : ℕ → List X) (k n : ℕ) → flat_map f (range_with_len k (suc n)) ≡ flat_map f (range_with_len k n) ++ f (k + n)
 one_more_of f k zero = append-nil (f k) ∙ ap f (sym (add-zero k))

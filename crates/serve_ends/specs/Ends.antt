@@ -16,9 +16,9 @@ use Rattle.gate_parts.specs.declared.actor_part.ActorDone.{ActorDone}
 use Rattle.gate_parts.specs.declared.ending.Ending.{Ending}
 use Rattle.gate_parts.specs.declared.ending.Ending.TheVariants.{Ran, Stopped}
 use Rattle.serve_stage.specs.Urls.{worker_url}
-use Rattle.serve_ends.specs.Files.{FileEnd}
 use Rattle.gate_ends.specs.Ends.{ActorEnds, WorkerServes}
 use Rattle.gate_ends.specs.declared.ending.WorkerEnd.{WorkerEnd}
+use Rattle.serve_ends.specs.Files.{FileEnd}
 use Rattle.serve_ends.specs.Services.{Service, FileTale, DoorGiven, ascending, senders}
 
 -- a script has read on from its head, and its passes have sent the edits of its file, all of them or those before its

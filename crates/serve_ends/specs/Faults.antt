@@ -12,8 +12,8 @@ use Rattle.gate_parts.specs.declared.actor_part.ActorDone.{ActorDone}
 use Rattle.gate_parts.specs.declared.ending.Ending.{Ending}
 use Rattle.gate_parts.specs.declared.ending.Ending.TheVariants.{Ran, Stopped}
 use Rattle.gate_ends.specs.Ranks.{sooner_by}
-use Rattle.serve_ends.specs.Files.{FileEnd}
 use Rattle.gate_ends.specs.declared.ending.WorkerEnd.{WorkerEnd}
+use Rattle.serve_ends.specs.Files.{FileEnd}
 use Rattle.serve_ends.specs.declared.fault.ServeFault.{ServeFault}
 use Rattle.serve_ends.specs.declared.fault.ServeFault.TheVariants.{Memory, Spent, Start, Door, Read, Line, Write}
 

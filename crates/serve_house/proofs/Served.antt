@@ -8,7 +8,6 @@ use Rattle.gate_outside.specs.Clocks.{ClockTale, IsNewClock}
 use Rattle.gate_outside.specs.Doors.{DoorTale, IsNewDoor}
 use Rattle.gate_outside.specs.Houses.{returned_source, returned_door}
 use Rattle.session_core.specs.declared.bot.Bot.{Bot as ABot}
-use Rattle.gate_ends.proofs.Zips.{many_zip}
 use Rattle.house_loans.specs.Sources.{source_counts}
 use Rattle.house_loans.specs.Doors.{door_counts}
 use Rattle.serve_ends.specs.Services.{Service, HasHead, file_tales, door_given, service}
@@ -22,6 +21,7 @@ use Rattle.serve_stage.specs.declared.lent.Lent.{Lent}
 use Rattle.serve_run.specs.Causes.{HasServeCause, StartsParts}
 use Rattle.serve_run.specs.Lent.{TellsLent, ReturnsAll}
 use Rattle.serve_run.specs.Serves.{Serves}
+use Rattle.gate_ends.proofs.Zips.{many_zip}
 use Rattle.serve_house.specs.Begun.{AreBegun}
 use Rattle.serve_house.specs.Parts.{AreAlike, AreNew, ServesOrNot, loans_of}
 use Rattle.serve_house.specs.Serving.{SinkTale, TeamTale}

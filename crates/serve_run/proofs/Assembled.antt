@@ -20,20 +20,20 @@ use Rattle.serve_stage.specs.Parts.{IsActor, IsScript, IsWorker}
 use Rattle.serve_stage.specs.Stages.{IsStage, senders_of}
 use Rattle.serve_stage.specs.declared.lent.Lent.{Lent}
 use Rattle.serve_stage.specs.declared.stage.Stage.{Stage}
-use Rattle.gate_ends.specs.Ends.{ActorEnds}
 use Rattle.serve_ends.specs.Ends.{FileEnds, WorkerEnds, Joined}
 use Rattle.serve_ends.specs.Faults.{first_fault}
 use Rattle.serve_ends.specs.Services.{Service, HasHead, service, ascending, senders}
 use Rattle.serve_ends.specs.Sorted.{IsEmpty, Sorts, file_end}
 use Rattle.serve_ends.specs.Files.{FileEnd}
-use Rattle.gate_ends.specs.Done.{worker_end}
-use Rattle.gate_ends.specs.declared.ending.WorkerEnd.{WorkerEnd}
 use Rattle.serve_ends.specs.declared.ends.Ends.{Ends}
 use Rattle.serve_ends.specs.declared.fault.ServeFault.{ServeFault}
+use Rattle.gate_ends.specs.Done.{worker_end}
+use Rattle.gate_ends.specs.Ends.{ActorEnds}
+use Rattle.gate_ends.specs.declared.ending.WorkerEnd.{WorkerEnd}
+use Rattle.gate_ends.proofs.Zips.{many_zip}
 use Rattle.serve_run.specs.Causes.{ShowsFault}
 use Rattle.serve_run.specs.Ended.{EndsSo, MayHave}
 use Rattle.serve_run.specs.Lent.{IsStageOf, TellsLent}
-use Rattle.gate_ends.proofs.Zips.{many_zip}
 use Rattle.serve_run.proofs.Counting.{two_actors, all_scripts, all_workers}
 use Rattle.serve_run.proofs.Failing.{shows}
 use Rattle.serve_run.proofs.Fronts.{ZipFront, ByKind, front_zip, kinds, numbered, numbered_map, all_numbered}

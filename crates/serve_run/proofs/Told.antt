@@ -21,9 +21,6 @@ use Rattle.gate_parts.specs.declared.worker_part.WorkerDone.{WorkerDone}
 use Rattle.run_ends.specs.Senders.{new_passes}
 use Rattle.run_stage.specs.Dealing.{IsAt}
 use Rattle.run_stage.proofs.Numbered.{all_at}
-use Rattle.gate_ends.specs.Done.{worker_end}
-use Rattle.gate_ends.specs.Ends.{ActorEnds}
-use Rattle.gate_ends.proofs.Began.{actor_ends, worker_serves}
 use Rattle.serve_heads.specs.declared.script_file.ScriptFile.{ScriptFile}
 use Rattle.serve_parts.specs.Files.{FileGives, SendsOrStops as PartSends}
 use Rattle.serve_parts.specs.Parts.{DoorPartGives}
@@ -35,6 +32,9 @@ use Rattle.serve_stage.specs.declared.lent.Lent.{Lent}
 use Rattle.serve_ends.specs.Ends.{FileEnds, WorkerEnds, SendsOrStops}
 use Rattle.serve_ends.specs.Services.{Service, FileTale, DoorGiven, HasHead, service, file_tales, ascending, senders}
 use Rattle.serve_ends.specs.Sorted.{file_end}
+use Rattle.gate_ends.specs.Done.{worker_end}
+use Rattle.gate_ends.specs.Ends.{ActorEnds}
+use Rattle.gate_ends.proofs.Began.{actor_ends, worker_serves}
 
 -- what was made of the item at a place
 at_map : {X Y : Type 0} (f : X → Y) (xs : List X) (n : ℕ) (x : X) → IsAt xs n x → IsAt (map f xs) n (f x)

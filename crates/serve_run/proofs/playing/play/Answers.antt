@@ -9,8 +9,8 @@ use Rattle.serve_parts.specs.Parts.{ServeGives}
 use Rattle.serve_ends.specs.Faults.{first_fault}
 use Rattle.serve_ends.specs.Sorted.{file_end}
 use Rattle.team_run.specs.Teams.{many_more}
-use Rattle.serve_run.proofs.Assembled.{ends_so, shows_so}
 use Rattle.gate_ends.proofs.Counts.{none_there, some_there}
+use Rattle.serve_run.proofs.Assembled.{ends_so, shows_so}
 use Rattle.serve_run.proofs.Counting.{two_actors, all_scripts, all_workers, many_parts, most_parts, returns_all, less_room, most_scripts, all_ended, fewer_started}
 use Rattle.serve_run.proofs.Ranking.{may_have}
 use Rattle.serve_run.proofs.playing.play.Goals as goal

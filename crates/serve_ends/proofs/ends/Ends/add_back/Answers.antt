@@ -1,8 +1,8 @@
 use Rattle.std.proofs.Common.{rules, ◌≡◌, ◌∙◌, ◌+◌, ◌∷◌, [], length, ap, subst, arith, length-append}
 use Rattle.std.proofs.lemmas.List.{nil_from_length}
+use Rattle.gate_ends.proofs.Popped.{one_less}
 use Rattle.serve_ends.specs.Sorted.{HasRoom, source_of_part, door_of_part, clock_of_part}
 use Rattle.serve_ends.specs.declared.ends.Ends.{Ends}
-use Rattle.gate_ends.proofs.Popped.{one_less}
 use Rattle.serve_ends.proofs.ends.Ends.add_back.Goals as goal
 
 pub loop-part-preserved : goal.loop-part-preserved
