@@ -178,7 +178,7 @@ pub record RunsLoad (R : Type 0) (seed : ℕ) (old new : Outside) (told : Option
   pub loaded : Result (Unit {0}) LoadFault
   pub status_is : status ≡ load_status loaded
   pub loads : Loads seed old.sink.got new.sink.got old.sink.waits loaded
-  pub cause : HasLoadCause R seed old.load_team.faults new.load_team.faults old.sink.faults new.sink.faults loaded
+  pub cause : HasLoadCause seed old.load_team.faults new.load_team.faults old.sink.faults new.sink.faults loaded
   pub starts : StartsParts old.load_team.starts new.load_team.starts loaded
   pub clocks : LendsClocks 15 old.house new.house
   pub dial : LeavesDial old new

@@ -28,7 +28,7 @@ pub fn run_load<R: Wait + time::Clock + Copy + Drop, H: House, S: Spawner<LoadPa
 where
     H::Time: Drop,
     ensures loads { Loads seed (H.Out.got sink.old) (H.Out.got sink.new) (H.Out.waits sink.old) result }
-    ensures causes { HasLoadCause R seed (S.faults team.old) (S.faults team.new) (H.Out.faults sink.old) (H.Out.faults sink.new) result }
+    ensures causes { HasLoadCause seed (S.faults team.old) (S.faults team.new) (H.Out.faults sink.old) (H.Out.faults sink.new) result }
     ensures starts { StartsParts (S.starts team.old) (S.starts team.new) result }
     ensures clocks { LendsClocks 15 (H.house_tale house.old) (H.house_tale house.new) }
     ensures dial { H.tale house.new ≡ H.tale house.old }

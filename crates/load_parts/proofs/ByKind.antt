@@ -20,34 +20,11 @@ use Rattle.load_parts.specs.declared.load_part.LoadPart.{LoadPart}
 use Rattle.load_parts.specs.declared.load_part.LoadPart.TheVariants as part
 use Rattle.load_parts.specs.declared.load_part.LoadDone.{LoadDone}
 use Rattle.load_parts.specs.declared.load_part.LoadDone.TheVariants as done
+use Rattle.load_parts.proofs.OneKind.{own, other, in_front}
 use Rattle.load_parts.specs.Clients.{ClientGives}
 use Rattle.load_parts.specs.Parts.{LoadGives, DoorWorkerGives}
 use Rattle.load_parts.specs.Kinds.{actor_of, script_of, worker_of, client_of}
 use Rattle.load_parts.specs.ByKind.{GaveByKind, SplitsByKind}
-
--- the items of one kind, among those of all kinds
-module _ {E D : Type 0} (made : E → D) where
-  -- a list of its own kind
-  own : (of : D → List E) → ((e : E) → of (made e) ≡ e ∷ []) → (es : List E) (later : List D) → flat_map of (map made es ++ later) ≡ es ++ flat_map of later
-  own of one [] later = refl
-  own of one (e ∷ es) later = ap (λ (l : List E). l ++ flat_map of (map made es ++ later)) (one e) ∙ ap (λ (l : List E). e ∷ l) (own of one es later)
-
-  -- a list of another kind
-  other : {X : Type 0} (of : D → List X) → ((e : E) → of (made e) ≡ []) → (es : List E) (later : List D) → flat_map of (map made es ++ later) ≡ flat_map of later
-  other of none [] later = refl
-  other {X} of none (e ∷ es) later = ap (λ (l : List X). l ++ flat_map of (map made es ++ later)) (none e) ∙ other of none es later
-
-  -- if each part of one kind gives only its kind, then what they gave stands in front
-  in_front : {P Q : Type 0} (Gives : Q → D → Type 0) (G : P → E → Type 0) (part : P → Q)
-      → ((p : P) (d : D) → Gives (part p) d → (e : E) × (d ≡ made e) × G p e)
-      → (ps : List P) (rest : List Q) (ds : List D) → AllZip Gives (map part ps ++ rest) ds
-      → (es : List E) × (later : List D) × (ds ≡ map made es ++ later) × AllZip G ps es × AllZip Gives rest later
-  in_front Gives G part fits [] rest ds gave = ([], ds, refl, tt, gave)
-  in_front Gives G part fits (p ∷ ps) rest [] gave = absurd gave
-  in_front Gives G part fits (p ∷ ps) rest (d ∷ ds) gave =
-      let first = fits p d gave.0 in
-      let next = in_front Gives G part fits ps rest ds gave.1 in
-      (first.0 ∷ next.0, next.1, ap (λ (x : D). x ∷ ds) first.1 ∙ ap (λ (l : List D). made first.0 ∷ l) next.2, (first.2, next.3), next.4)
 
 module _ {C R : Type 0} (clock_tale : C → ClockTale) where
   actor_fits : (p : ActorPart R) (d : LoadDone C R) → LoadGives clock_tale (part.Actor p) d → (e : ActorDone R) × (d ≡ done.Actor e) × ActorGives p e

@@ -1,2 +1,3 @@
+pub mod OneKind
 pub mod ByKind
 pub mod Sends

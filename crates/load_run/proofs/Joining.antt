@@ -1,8 +1,8 @@
 -- What the parts of a load have left, kind by kind.
-use Rattle.std.proofs.Common.{◌≡◌, ⊎_elim, ℕ, zero, suc, ◌+◌, ◌<◌, ◌≤◌, ◌==◌, Bool, true, false, List, [], ◌∷◌, ◌++◌, map, flat_map, length, Some, None, refl, sym, ap, ap₂, ◌∙◌, subst, arith}
+use Rattle.std.proofs.Common.{◌≡◌, ⊎_elim, ℕ, ◌+◌, ◌≤◌, Bool, true, false, List, [], ◌++◌, map, flat_map, length, Some, None, refl, sym, ap, ap₂, ◌∙◌, subst, arith, append-nil}
 use Rattle.std.specs.List.{AllZip, range_with_len}
-use Rattle.std.proofs.lemmas.Bool.{eqb-true, true≢false}
 use Rattle.std.proofs.lemmas.List.{length-append, length-map, nil_from_length}
+use Rattle.edit_post.specs.declared.send_refused.SendRefused.{SendRefused}
 use Rattle.gate_outside.specs.Causes.{Rose}
 use Rattle.gate_outside.specs.Clocks.{ClockTale}
 use Rattle.thread_outside.specs.DialledDoors.{DialledState}
@@ -13,7 +13,6 @@ use Rattle.gate_parts.specs.Scripts.{ScriptGives}
 use Rattle.gate_parts.specs.declared.actor_part.ActorPart.{ActorPart}
 use Rattle.gate_parts.specs.declared.actor_part.ActorDone.{ActorDone}
 use Rattle.gate_parts.specs.declared.script_part.ScriptPart.{ScriptPart}
-use Rattle.gate_parts.specs.declared.script_part.ScriptDone.{ScriptDone}
 use Rattle.gate_parts.specs.declared.worker_part.WorkerPart.{WorkerPart}
 use Rattle.load_client.specs.declared.ended_client.EndedClient.{EndedClient}
 use Rattle.load_parts.specs.ByKind.{GaveByKind}
@@ -28,42 +27,49 @@ use Rattle.load_stage.specs.Clients.{IsClient}
 use Rattle.load_stage.specs.Parts.{IsActor, IsScript, IsWorker}
 use Rattle.load_stage.specs.Stages.{IsStage}
 use Rattle.load_stage.specs.declared.stage.Stage.{Stage}
+use Rattle.gate_ends.specs.Done.{worker_end}
+use Rattle.gate_ends.specs.Ends.{ActorEnds}
+use Rattle.gate_ends.specs.declared.ending.ScriptEnd.{ScriptEnd}
+use Rattle.gate_ends.specs.declared.ending.WorkerEnd.{WorkerEnd}
+use Rattle.gate_ends.proofs.Counts.{each_one, goes_back}
+use Rattle.gate_ends.proofs.Ranks.{first_is, first_is_none}
+use Rattle.gate_ends.proofs.Zips.{zip_on, many_zip}
 use Rattle.load_run.specs.declared.fault.LoadFault.{LoadFault}
 use Rattle.load_run.specs.declared.sorting.Ends.{Ends}
-use Rattle.load_run.specs.declared.sorting.WorkerEnd.{WorkerEnd}
 use Rattle.load_run.specs.Causes.{LoadCause}
 use Rattle.load_run.specs.Ends.{clock_of_part, clock_of_done}
-use Rattle.load_run.specs.Faults.{fault_of, first_fault, start_fault}
-use Rattle.load_run.specs.Joined.{Joined, ClientsJoined, HasJoined, ActorEnds, ScriptEnds, WorkerEnds, ClientEnds}
+use Rattle.load_run.specs.Faults.{fault_of, first_fault, rank, start_fault}
+use Rattle.load_run.specs.Joined.{Joined, ClientsJoined, HasJoined, ScriptEnds, WorkerEnds, ClientEnds}
 use Rattle.load_parts.specs.ByKind.{parts_of}
-use Rattle.load_run.specs.Sorted.{Sorts, IsEmpty, HasRoom, end_of, ended_of}
-use Rattle.load_run.proofs.Zips.{zip_on, many_zip}
+use Rattle.load_run.specs.Sorted.{Sorts, IsEmpty, HasRoom, script_end, ended_of}
+use Rattle.load_parts.proofs.OneKind.{other}
 use Rattle.load_run.proofs.Staged.{one_actor, one_script, one_worker, one_client, zip_map}
-use Rattle.load_run.proofs.Played.{AllKnown, all_known, known_front, any_cause, same_clocks}
-use Rattle.load_run.proofs.Ranks.{first_is, first_is_none, all_started, is_start}
+use Rattle.load_run.proofs.Played.{AllKnown, all_known, known_front, any_cause, same_clock}
+use Rattle.load_run.proofs.Ranks.{all_started, is_start}
 
 module _ {C R : Type 0} (clock_tale : C → ClockTale) (seed : ℕ) (clocks : List C) (stage : Stage C R) (is : IsStage seed clocks stage) (dones : List (LoadDone C R))
     (gave : GaveByKind C R clock_tale stage.actors.items stage.scripts.items stage.workers.items stage.clients.items dones) where
   abbrev ended_actors : List (ActorDone R)
   ended_actors = flat_map actor_of dones
 
-  abbrev ended_scripts : List ScriptDone
-  ended_scripts = flat_map script_of dones
+  abbrev ended_scripts : List (ScriptEnd SendRefused)
+  ended_scripts = map script_end (flat_map script_of dones)
 
-  abbrev ended_workers : List (WorkerEnd R)
-  ended_workers = map end_of (flat_map worker_of dones)
+  abbrev ended_workers : List WorkerEnd
+  ended_workers = map worker_end (flat_map worker_of dones)
 
   senders_joined : Joined seed stage.posts ended_actors ended_scripts ended_workers
   senders_joined = record {
     two = is.two_posts;
     writers = is.writers;
     writers_are = is.new_writers;
-    actors_are = zip_on (IsActor stage.posts stage.keeper.flag is.writers) ActorGives (ActorEnds stage.posts is.writers) (one_actor stage.posts stage.keeper.flag is.writers)
+    actors_are = zip_on (IsActor stage.posts stage.keeper.flag is.writers) ActorGives (ActorEnds stage.posts is.writers 7) (one_actor stage.posts stage.keeper.flag is.writers)
         (range_with_len 0 2) stage.actors.items ended_actors is.actors_are gave.actors_gave;
-    scripts_are = zip_on (IsScript stage.posts stage.keeper.flag seed) ScriptGives (ScriptEnds seed stage.posts) (one_script stage.posts stage.keeper.flag is.writers seed)
-        (range_with_len 0 4) stage.scripts.items ended_scripts is.scripts_are gave.scripts_gave;
-    workers_are = zip_map end_of (WorkerEnds stage.posts is.writers) (range_with_len 0 3) (flat_map worker_of dones)
-        (zip_on (IsWorker stage.posts stage.keeper.flag is.writers is.queues clocks) (DoorWorkerGives clock_tale) (λ n d. WorkerEnds stage.posts is.writers n (end_of d))
+    scripts_are = zip_map script_end (ScriptEnds seed stage.posts) (range_with_len 0 4) (flat_map script_of dones)
+        (zip_on (IsScript stage.posts stage.keeper.flag seed) ScriptGives (λ n d. ScriptEnds seed stage.posts n (script_end d)) (one_script stage.posts stage.keeper.flag is.writers seed)
+        (range_with_len 0 4) stage.scripts.items (flat_map script_of dones) is.scripts_are gave.scripts_gave);
+    workers_are = zip_map worker_end (WorkerEnds stage.posts is.writers) (range_with_len 0 3) (flat_map worker_of dones)
+        (zip_on (IsWorker stage.posts stage.keeper.flag is.writers is.queues clocks) (DoorWorkerGives clock_tale) (λ n d. WorkerEnds stage.posts is.writers n (worker_end d))
         (one_worker stage.posts stage.keeper.flag is.writers clock_tale is.queues clocks)
         (range_with_len 0 3) stage.workers.items (flat_map worker_of dones) is.workers_are gave.workers_gave);
   }
@@ -81,58 +87,34 @@ module _ {C R : Type 0} (clock_tale : C → ClockTale) (seed : ℕ) (clocks : Li
   pub has_joined : (none back sorted : Ends C R) → IsEmpty none → back ≡ record none { clocks = back.clocks } → Sorts dones back sorted → HasJoined seed stage.posts sorted
   has_joined none back sorted empty same sorts =
       let actors : sorted.actors.items ≡ ended_actors = sorts.actors ∙ ap (λ (l : List (ActorDone R)). l ++ ended_actors) (ap (λ (e : Ends C R). e.actors.items) same ∙ empty.actors) in
-      let scripts : sorted.scripts.items ≡ ended_scripts = sorts.scripts ∙ ap (λ (l : List ScriptDone). l ++ ended_scripts) (ap (λ (e : Ends C R). e.scripts.items) same ∙ empty.scripts) in
-      let workers : sorted.workers.items ≡ ended_workers = sorts.workers ∙ ap (λ (l : List (WorkerEnd R)). l ++ ended_workers) (ap (λ (e : Ends C R). e.workers.items) same ∙ empty.workers) in
+      let scripts : sorted.scripts.items ≡ ended_scripts = sorts.scripts ∙ ap (λ (l : List (ScriptEnd SendRefused)). l ++ ended_scripts) (ap (λ (e : Ends C R). e.scripts.items) same ∙ empty.scripts) in
+      let workers : sorted.workers.items ≡ ended_workers = sorts.workers ∙ ap (λ (l : List WorkerEnd). l ++ ended_workers) (ap (λ (e : Ends C R). e.workers.items) same ∙ empty.workers) in
       let clients : sorted.clients.items ≡ map ended_of (flat_map client_of dones) = sorts.clients ∙ ap (λ (l : List EndedClient). l ++ map ended_of (flat_map client_of dones)) (ap (λ (e : Ends C R). e.clients.items) same ∙ empty.clients) in (
         subst (λ (l : List (ActorDone R)). Joined seed stage.posts l sorted.scripts.items sorted.workers.items) (sym actors)
-            (subst (λ (l : List ScriptDone). Joined seed stage.posts ended_actors l sorted.workers.items) (sym scripts)
-            (subst (λ (l : List (WorkerEnd R)). Joined seed stage.posts ended_actors ended_scripts l) (sym workers) senders_joined)),
+            (subst (λ (l : List (ScriptEnd SendRefused)). Joined seed stage.posts ended_actors l sorted.workers.items) (sym scripts)
+            (subst (λ (l : List WorkerEnd). Joined seed stage.posts ended_actors ended_scripts l) (sym workers) senders_joined)),
         subst ClientsJoined (sym clients) clients_joined,
       )
 
 -- ---- clocks
 
 module _ {C R : Type 0} where
-  of_clients : (cs : List (ClientPart C R)) → length (flat_map clock_of_part (map part.Client cs)) ≡ length cs
-  of_clients [] = refl
-  of_clients (c ∷ cs) = ap suc (of_clients cs)
-
-  of_workers : (ws : List (WorkerPart DialledState C (KeptNotes Input) R)) (rest : List (LoadPart C R)) → length (flat_map clock_of_part (map part.Worker ws ++ rest)) ≡ length ws + length (flat_map clock_of_part rest)
-  of_workers [] rest = omega (arith)
-  of_workers (w ∷ ws) rest =
-      let more = of_workers ws rest in
-      omega (arith, more)
-
-  of_scripts : (ss : List (ScriptPart R)) (rest : List (LoadPart C R)) → flat_map clock_of_part (map part.Script ss ++ rest) ≡ flat_map clock_of_part rest
-  of_scripts [] rest = refl
-  of_scripts (s ∷ ss) rest = of_scripts ss rest
-
-  of_actors : (az : List (ActorPart R)) (rest : List (LoadPart C R)) → flat_map clock_of_part (map part.Actor az ++ rest) ≡ flat_map clock_of_part rest
-  of_actors [] rest = refl
-  of_actors (a ∷ az) rest = of_actors az rest
-
-  pub clocks_of_all : (az : List (ActorPart R)) (ss : List (ScriptPart R)) (ws : List (WorkerPart DialledState C (KeptNotes Input) R)) (cs : List (ClientPart C R)) → length (flat_map clock_of_part (parts_of az ss ws cs)) ≡ length ws + length cs
+  clocks_of_all : (az : List (ActorPart R)) (ss : List (ScriptPart R)) (ws : List (WorkerPart DialledState C (KeptNotes Input) R)) (cs : List (ClientPart C R)) → length (flat_map clock_of_part (parts_of az ss ws cs)) ≡ length ws + length cs
   clocks_of_all az ss ws cs =
-      let rest = map part.Worker ws ++ map part.Client cs in
-      ap length (of_actors az (map part.Script ss ++ rest)) ∙ ap length (of_scripts ss rest) ∙ of_workers ws (map part.Client cs) ∙ ap (λ (n : ℕ). length ws + n) (of_clients cs)
-
-  clocks_parted : (front back : List (LoadPart C R)) → length (flat_map clock_of_part (front ++ back)) ≡ length (flat_map clock_of_part front) + length (flat_map clock_of_part back)
-  clocks_parted [] back = omega (arith)
-  clocks_parted (p ∷ ps) back =
-      let here = length-append (clock_of_part p) (flat_map clock_of_part (ps ++ back)) in
-      let there = length-append (clock_of_part p) (flat_map clock_of_part ps) in
-      let more = clocks_parted ps back in
-      omega (arith, here, there, more)
+      let clients : List (LoadPart C R) = map part.Client cs in
+      let rest : List (LoadPart C R) = map part.Worker ws ++ clients in
+      let actors = ap length (other part.Actor clock_of_part (λ e. refl) az (map part.Script ss ++ rest)) in
+      let scripts = ap length (other part.Script clock_of_part (λ e. refl) ss rest) in
+      let workers = each_one part.Worker clock_of_part (λ e. refl) ws clients in
+      let own : length (flat_map clock_of_part (clients ++ [])) ≡ length cs + 0 = each_one part.Client clock_of_part (λ e. refl) cs [] in
+      let behind = ap (λ l. length (flat_map clock_of_part l)) (append-nil clients) in
+      omega (arith, actors, scripts, workers, own, behind)
 
   -- the clocks of those that were started and of the others
   pub clocks_back : (clock_tale : C → ClockTale) (front back : List (LoadPart C R)) (dones : List (LoadDone C R)) (none kept sorted : Ends C R) → AllZip (LoadGives clock_tale) front dones → IsEmpty none
       → length kept.clocks.items ≡ length none.clocks.items + length (flat_map clock_of_part back) → Sorts dones kept sorted → length sorted.clocks.items ≡ length (flat_map clock_of_part (front ++ back))
   clocks_back clock_tale front back dones none kept sorted gave empty added sorts =
-      let all = ap length sorts.clocks ∙ length-append kept.clocks.items (flat_map clock_of_done dones) in
-      let zero_clocks : length none.clocks.items ≡ 0 = ap length empty.clocks in
-      let same = same_clocks clock_tale front dones gave in
-      let parted = clocks_parted front back in
-      omega (arith, all, zero_clocks, added, same, parted)
+      goes_back (LoadGives clock_tale) clock_of_part clock_of_done (same_clock clock_tale) front back dones none.clocks.items kept.clocks.items sorted.clocks.items gave empty.clocks added sorts.clocks
 
 -- ---- faults
 
@@ -140,16 +122,16 @@ module _ {C R : Type 0} (clock_tale : C → ClockTale) (seed : ℕ) (clocks : Li
   -- the cause of the fault that is answered: a part did not start, or one that was started has ended by it
   pub fault_cause : (front back : List (LoadPart C R)) (dones : List (LoadDone C R)) (started : Bool) (f : LoadFault) (team0 team1 sink : ℕ)
       → parts_of stage.actors.items stage.scripts.items stage.workers.items stage.clients.items ≡ front ++ back → AllZip (LoadGives clock_tale) front dones
-      → first_fault started dones ≡ Some f → (started ≡ false → Rose team0 team1) → LoadCause R seed team0 team1 sink sink f
+      → first_fault started dones ≡ Some f → (started ≡ false → Rose team0 team1) → LoadCause seed team0 team1 sink sink f
   fault_cause front back dones started f team0 team1 sink parts gave first rose =
       ⊎_elim
-      (λ s. let b = is_start started f s in subst (LoadCause R seed team0 team1 sink sink) (sym b.1) (rose b.0))
+      (λ s. let b = is_start started f s in subst (LoadCause seed team0 team1 sink sink) (sym b.1) (rose b.0))
       (λ any. any_cause C R clock_tale seed stage.posts stage.keeper.flag is.writers is.queues clocks team0 team1 sink sink front dones f
       (known_front C R clock_tale seed stage.posts stage.keeper.flag is.writers is.queues clocks front back
       (subst (AllKnown C R clock_tale seed stage.posts stage.keeper.flag is.writers is.queues clocks) parts
       (all_known C R clock_tale seed stage.posts stage.keeper.flag is.writers is.queues clocks stage.actors.items stage.scripts.items stage.workers.items stage.clients.items
       is.scripts_are is.workers_are is.clients_are))) gave any)
-      (first_is (start_fault started) (map fault_of dones) f first)
+      (first_is rank (start_fault started) (map fault_of dones) f first)
 
 -- ---- counts
 
@@ -200,14 +182,4 @@ module _ {C R : Type 0} where
 
   -- all were started where there is no fault
   pub none_back : (back : List (LoadPart C R)) (dones : List (LoadDone C R)) (started : Bool) → first_fault started dones ≡ None → (started ≡ true → length back ≡ 0) → back ≡ []
-  none_back back dones started none all = nil_from_length back (all (all_started started (first_is_none (start_fault started) (map fault_of dones) none)))
-
--- what is empty has no item
-pub none_there : (n : ℕ) → (n == 0) ≡ true → n ≡ 0
-none_there zero h = refl
-none_there (suc n) h = eqb-true (suc n) 0 h
-
--- what is not empty has an item
-pub some_there : (n : ℕ) → (n == 0) ≡ false → 0 < n
-some_there zero h = absurd (true≢false h)
-some_there (suc n) h = omega (arith)
+  none_back back dones started none all = nil_from_length back (all (all_started started (first_is_none rank (start_fault started) (map fault_of dones) none)))

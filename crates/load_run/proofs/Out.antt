@@ -1,23 +1,18 @@
 -- What went out of a text.
-use Rattle.std.proofs.Common.{◌≡◌, ℕ, List, ◌++◌, Result, Err, refl, sym, subst, ◌∙◌, append_assoc}
+use Rattle.std.proofs.Common.{◌≡◌, ℕ, List, Result, Err, refl, sym, subst}
 use Rattle.std.specs.Prelude.{IsErrOf}
 use Rattle.std.specs.declared.option.Option.{Option as Known}
 use Rattle.gate_outside.specs.Causes.{FaultHasCause}
-use Rattle.gate_outside.specs.Streams.{AppendsFront, CarriesFront}
 use Rattle.gate_outside.specs.declared.faults.Fault.{Fault}
 use Rattle.gate_outside.specs.declared.faults.Fault.TheVariants.{Failed, Memory}
 use Rattle.load_run.specs.Causes.{Loads, WritesFront, HasLoadCause}
 use Rattle.load_run.specs.Faults.{by_sink}
-
--- what went out of a front is a front
-pub front_out : (got0 got1 : Known (List ℕ)) (waits text : List ℕ) → CarriesFront got0 got1 waits text → AppendsFront got0 got1 text
-front_out got0 got1 waits text h = (h.sent, waits ++ h.back, sym (append_assoc h.sent waits h.back) ∙ h.is, h.wrote)
 
 -- a fault of the sink, as a fault of a load
 pub loads_front : (seed : ℕ) (got0 got1 : Known (List ℕ)) (waits : List ℕ) (f : Fault) → WritesFront seed got0 got1 waits → Loads seed got0 got1 waits (Err (by_sink f))
 loads_front seed got0 got1 waits Failed h = h
 loads_front seed got0 got1 waits Memory h = h
 
-pub sink_cause : {T : Type 0} (R : Type 0) (seed team sink0 sink1 : ℕ) (f : Fault) (r : Result T Fault) → r ≡ Err f → FaultHasCause sink0 sink1 r → HasLoadCause R seed team team sink0 sink1 (Err (by_sink f))
-sink_cause R seed team sink0 sink1 Failed r is h = h.failed (subst (λ q. IsErrOf q Failed) (sym is) refl)
-sink_cause R seed team sink0 sink1 Memory r is h = tt
+pub sink_cause : {T : Type 0} (seed team sink0 sink1 : ℕ) (f : Fault) (r : Result T Fault) → r ≡ Err f → FaultHasCause sink0 sink1 r → HasLoadCause seed team team sink0 sink1 (Err (by_sink f))
+sink_cause seed team sink0 sink1 Failed r is h = h.failed (subst (λ q. IsErrOf q Failed) (sym is) refl)
+sink_cause seed team sink0 sink1 Memory r is h = tt

@@ -1,7 +1,6 @@
 -- What is known of the parts of a load when they have run.
-use Rattle.std.proofs.Common.{◌≡◌, ℕ, zero, suc, ◌+◌, List, [], ◌∷◌, ◌++◌, map, flat_map, length, Some, Err, inl, inr, refl, sym, ap₂, ◌∙◌, subst, ⊎_elim}
+use Rattle.std.proofs.Common.{◌≡◌, ℕ, zero, suc, ◌+◌, List, [], ◌∷◌, ◌++◌, map, length, Some, Err, inl, inr, refl, sym, subst, ⊎_elim}
 use Rattle.std.specs.List.{AllZip, range_with_len}
-use Rattle.std.proofs.lemmas.List.{length-append}
 use Rattle.atomic_table.specs.Seated.{TableId}
 use Rattle.std.specs.Global.{Global}
 use Rattle.crossbeam_queue.specs.SegTies.{SegId}
@@ -23,14 +22,16 @@ use Rattle.load_parts.specs.declared.load_part.LoadDone.{LoadDone}
 use Rattle.load_parts.specs.declared.load_part.LoadDone.TheVariants as done
 use Rattle.load_stage.specs.Parts.{IsScript, IsWorker}
 use Rattle.load_stage.specs.Clients.{IsClient}
+use Rattle.gate_ends.specs.Done.{worker_end}
+use Rattle.gate_ends.proofs.Ranks.{AnyIs}
 use Rattle.load_run.specs.declared.fault.LoadFault.{LoadFault}
 use Rattle.load_run.specs.declared.fault.LoadFault.TheVariants.{Memory, Spent, Door, Out, BadText}
 use Rattle.load_run.specs.Causes.{LoadCause}
 use Rattle.load_run.specs.Ends.{clock_of_part, clock_of_done}
 use Rattle.load_run.specs.Faults.{fault_of}
 use Rattle.load_parts.specs.ByKind.{parts_of}
-use Rattle.load_run.specs.Sorted.{end_of, ended_of}
-use Rattle.load_run.proofs.Ranks.{AnyIs, of_actor, of_script, of_worker, of_client}
+use Rattle.load_run.specs.Sorted.{script_end, ended_of}
+use Rattle.load_run.proofs.Ranks.{of_actor, of_script, of_worker, of_client}
 use Rattle.load_run.proofs.Staged.{one_script, one_worker, one_client}
 
 module _ (C R : Type 0) (clock_tale : C → ClockTale) (seed : ℕ) (posts : List PostId) (flag : TableId) (writers : List (ℕ × Publishing)) (queues : List (SegId Global)) (clocks : List C) where
@@ -77,7 +78,7 @@ module _ (C R : Type 0) (clock_tale : C → ClockTale) (seed : ℕ) (posts : Lis
   -- the cause of a part's fault
   module _ (team0 team1 sink0 sink1 : ℕ) where
     abbrev Cause : LoadFault → Type 0
-    Cause f = LoadCause R seed team0 team1 sink0 sink1 f
+    Cause f = LoadCause seed team0 team1 sink0 sink1 f
 
     by_memory : (f : LoadFault) → f ≡ Memory → Cause f
     by_memory f e = subst Cause (sym e) tt
@@ -85,12 +86,12 @@ module _ (C R : Type 0) (clock_tale : C → ClockTale) (seed : ℕ) (posts : Lis
     cause_of : (p : LoadPart C R) (d : LoadDone C R) (f : LoadFault) → Knows p → LoadGives clock_tale p d → fault_of d ≡ Some f → Cause f
     cause_of (part.Actor p) (done.Actor d) f knows gives e = by_memory f (of_actor d.ending f e)
     cause_of (part.Script p) (done.Script d) f knows gives e =
-        ⊎_elim (by_memory f) (λ (h : (f ≡ Spent) × (d.ending ≡ _)). subst Cause (sym h.0) (inl (posts, (knows.0, (d, (one_script posts flag writers seed knows.0 p d knows.1 gives, h.1)))))) (of_script d.ending f e)
+        ⊎_elim (by_memory f) (λ (h : (f ≡ Spent) × (d.ending ≡ _)). subst Cause (sym h.0) (inl (posts, (knows.0, (script_end d, (one_script posts flag writers seed knows.0 p d knows.1 gives, h.1)))))) (of_script d.ending f e)
     cause_of (part.Worker p) (done.Worker d) f knows gives e =
         let ends = one_worker posts flag writers clock_tale queues clocks knows.0 p d knows.1 gives in
         ⊎_elim (by_memory f) (λ h. ⊎_elim
-        (λ (s : (f ≡ Spent) × (d.ending ≡ _)). subst Cause (sym s.0) (inr (posts, (writers, (knows.0, (end_of d, (ends, s.1)))))))
-        (λ (s : (f ≡ Door) × (d.ending ≡ _)). subst Cause (sym s.0) (posts, (writers, (knows.0, (end_of d, (ends, s.1))))))
+        (λ (s : (f ≡ Spent) × (d.ending ≡ _)). subst Cause (sym s.0) (inr (posts, (writers, (knows.0, (worker_end d, (ends, s.1)))))))
+        (λ (s : (f ≡ Door) × (d.ending ≡ _)). subst Cause (sym s.0) (posts, (writers, (knows.0, (worker_end d, (ends, s.1))))))
         h) (of_worker d.ending f e)
     cause_of (part.Client p) (done.Client d) f knows gives e =
         let ends = one_client clock_tale flag queues clocks knows.0 p d knows.1 gives in
@@ -117,10 +118,10 @@ module _ (C R : Type 0) (clock_tale : C → ClockTale) (seed : ℕ) (posts : Lis
     any_cause (p ∷ ps) [] f known z any = elim z [ ]
     any_cause (p ∷ ps) (d ∷ ds) f known z any = ⊎_elim (cause_of p d f known.0 z.0) (any_cause ps ds f known.1 z.1) any
 
--- ---- clocks
+-- ---- a clock for a clock
 
 module _ {C R : Type 0} (clock_tale : C → ClockTale) where
-  same_clock : (p : LoadPart C R) (d : LoadDone C R) → LoadGives clock_tale p d → length (clock_of_done d) ≡ length (clock_of_part p)
+  pub same_clock : (p : LoadPart C R) (d : LoadDone C R) → LoadGives clock_tale p d → length (clock_of_done d) ≡ length (clock_of_part p)
   same_clock (part.Actor p) (done.Actor d) g = refl
   same_clock (part.Script p) (done.Script d) g = refl
   same_clock (part.Worker p) (done.Worker d) g = refl
@@ -137,10 +138,3 @@ module _ {C R : Type 0} (clock_tale : C → ClockTale) where
   same_clock (part.Client p) (done.Actor d) g = elim g [ ]
   same_clock (part.Client p) (done.Script d) g = elim g [ ]
   same_clock (part.Client p) (done.Worker d) g = elim g [ ]
-
-  pub same_clocks : (ps : List (LoadPart C R)) (ds : List (LoadDone C R)) → AllZip (LoadGives clock_tale) ps ds → length (flat_map clock_of_done ds) ≡ length (flat_map clock_of_part ps)
-  same_clocks [] [] z = refl
-  same_clocks [] (d ∷ ds) z = elim z [ ]
-  same_clocks (p ∷ ps) [] z = elim z [ ]
-  same_clocks (p ∷ ps) (d ∷ ds) z =
-      length-append (clock_of_done d) (flat_map clock_of_done ds) ∙ ap₂ (λ (a b : ℕ). a + b) (same_clock p d z.0) (same_clocks ps ds z.1) ∙ sym (length-append (clock_of_part p) (flat_map clock_of_part ps))

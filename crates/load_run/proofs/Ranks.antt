@@ -1,7 +1,5 @@
 -- Which fault a load answers, and its cause.
-use Rattle.std.proofs.Common.{◌≡◌, ◌⊎◌, ℕ, Bool, true, false, List, [], ◌∷◌, Option, Some, None, Result, Ok, Err, inl, inr, refl, sym}
-use Rattle.std.specs.Prelude.{nat_lt, if◌then◌else◌}
-use Rattle.std.specs.List.{fold}
+use Rattle.std.proofs.Common.{◌≡◌, ◌⊎◌, ℕ, Bool, true, false, Some, None, Result, Ok, Err, inl, inr, refl, sym}
 use Rattle.std.proofs.lemmas.Option.{same_Some, none-some}
 use Rattle.std.specs.declared.alloc.AllocError.{AllocError}
 use Rattle.edit_post.specs.declared.send_refused.SendRefused.{SendRefused}
@@ -15,48 +13,7 @@ use Rattle.gate_parts.specs.declared.ending.Ending.{Ending}
 use Rattle.gate_parts.specs.declared.ending.Ending.TheVariants.{Ran, Stopped}
 use Rattle.load_run.specs.declared.fault.LoadFault.{LoadFault}
 use Rattle.load_run.specs.declared.fault.LoadFault.TheVariants.{Memory, Spent, Start, Door, Out, BadText}
-use Rattle.load_run.specs.Faults.{actor_fault, script_fault, worker_fault, client_fault, rank, sooner, start_fault}
-
--- one of these is the fault
-abbrev pub AnyIs : LoadFault → List (Option LoadFault) → Type 0
-AnyIs f [] = ⊥
-AnyIs f (o ∷ os) = (o ≡ Some f) ⊎ AnyIs f os
-
--- which of two it is
-either : (a o : Option LoadFault) (f : LoadFault) → sooner a o ≡ Some f → (a ≡ Some f) ⊎ (o ≡ Some f)
-either None o f e = inr e
-either (Some x) None f e = inl e
-either (Some x) (Some y) f e = by_test (nat_lt (rank y) (rank x)) e
-  where
-    by_test : (b : Bool) → (if b then Some y else Some x) ≡ Some f → (Some x ≡ Some f) ⊎ (Some y ≡ Some f)
-    by_test true e = inr e
-    by_test false e = inl e
-
-pub first_is : (a : Option LoadFault) (os : List (Option LoadFault)) (f : LoadFault) → fold sooner a os ≡ Some f → (a ≡ Some f) ⊎ AnyIs f os
-first_is a [] f e = inl e
-first_is a (o ∷ os) f e = or_later (first_is (sooner a o) os f e)
-  where
-    or_this : (a ≡ Some f) ⊎ (o ≡ Some f) → (a ≡ Some f) ⊎ AnyIs f (o ∷ os)
-    or_this (inl h) = inl h
-    or_this (inr h) = inr (inl h)
-
-    or_later : (sooner a o ≡ Some f) ⊎ AnyIs f os → (a ≡ Some f) ⊎ AnyIs f (o ∷ os)
-    or_later (inl h) = or_this (either a o f h)
-    or_later (inr h) = inr (inr h)
-
--- none of two
-neither : (a o : Option LoadFault) → sooner a o ≡ None → a ≡ None
-neither None o e = refl
-neither (Some x) None e = absurd (none-some x (sym e))
-neither (Some x) (Some y) e = by_test (nat_lt (rank y) (rank x)) e
-  where
-    by_test : (b : Bool) → (if b then Some y else Some x) ≡ None → Some x ≡ None
-    by_test true e = absurd (none-some y (sym e))
-    by_test false e = absurd (none-some x (sym e))
-
-pub first_is_none : (a : Option LoadFault) (os : List (Option LoadFault)) → fold sooner a os ≡ None → a ≡ None
-first_is_none a [] e = e
-first_is_none a (o ∷ os) e = neither a o (first_is_none (sooner a o) os e)
+use Rattle.load_run.specs.Faults.{actor_fault, script_fault, worker_fault, client_fault, start_fault}
 
 pub all_started : (b : Bool) → start_fault b ≡ None → b ≡ true
 all_started true e = refl

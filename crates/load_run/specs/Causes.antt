@@ -3,6 +3,7 @@ use Rattle.std.specs.Prelude.{◌≡◌, ◌⊎◌, ℕ, List, ◌++◌, Option,
 use Rattle.std.specs.Io.KnownBytes.{Appends}
 use Rattle.atomic_table.specs.Seated.{TableId}
 use Rattle.edit_post.specs.Post.{PostId}
+use Rattle.edit_post.specs.declared.send_refused.SendRefused.{SendRefused}
 use Rattle.edit_post.specs.declared.send_refused.SendRefused.TheVariants as post
 use Rattle.gate_outside.specs.Causes.{Rose}
 use Rattle.gate_outside.specs.Spawners.{Starts}
@@ -14,39 +15,39 @@ use Rattle.client_run.specs.declared.fault.DriveFault.{DriveFault}
 use Rattle.client_run.specs.declared.fault.DriveFault.TheVariants as drive
 use Rattle.load_client.specs.declared.ended_client.EndedClient.{EndedClient}
 use Rattle.gate_parts.specs.declared.ending.Ending.TheVariants.{Ran}
-use Rattle.gate_parts.specs.declared.script_part.ScriptDone.{ScriptDone}
 use Rattle.team_run.specs.Teams.{many_more}
+use Rattle.gate_ends.specs.declared.ending.ScriptEnd.{ScriptEnd}
+use Rattle.gate_ends.specs.declared.ending.WorkerEnd.{WorkerEnd}
 use Rattle.load_run.specs.declared.fault.LoadFault.{LoadFault}
 use Rattle.load_run.specs.declared.fault.LoadFault.TheVariants.{Memory, Spent, Start, Door, Write, Out, BadText}
-use Rattle.load_run.specs.declared.sorting.WorkerEnd.{WorkerEnd}
 use Rattle.load_run.specs.Joined.{WorkerEnds, ScriptEnds, ClientEnds}
 use Rattle.load_run.specs.Loads.{IsLoad}
 
 -- a script of the load ended since a pass had sent as many requests as it can number
 abbrev pub ScriptSpent : ℕ → Type 0
-ScriptSpent seed = (posts : List PostId) × ((number : ℕ) × ((d : ScriptDone) × (ScriptEnds seed posts number d × (d.ending ≡ Ran (Err post.Spent)))))
+ScriptSpent seed = (posts : List PostId) × ((number : ℕ) × ((e : ScriptEnd SendRefused) × (ScriptEnds seed posts number e × (e.ending ≡ Ran (Err post.Spent)))))
 
 -- a worker of a load ended by this fault
-abbrev pub WorkerEnded : (R : Type 0) → WorkFault → Type 0
-WorkerEnded R fault = (posts : List PostId) × ((writers : List (ℕ × Publishing)) × ((number : ℕ) × ((e : WorkerEnd R) × (WorkerEnds posts writers number e × (e.ending ≡ Ran (Err fault))))))
+abbrev pub WorkerEnded : WorkFault → Type 0
+WorkerEnded fault = (posts : List PostId) × ((writers : List (ℕ × Publishing)) × ((number : ℕ) × ((e : WorkerEnd) × (WorkerEnds posts writers number e × (e.ending ≡ Ran (Err fault))))))
 
 -- a client of a load ended by this fault
 abbrev pub ClientEnded : DriveFault → Type 0
 ClientEnded fault = (flag : TableId) × ((number : ℕ) × ((e : EndedClient) × (ClientEnds flag number e × (e.driven ≡ Err fault))))
 
 -- why a load with this seed ends by a fault; memory may run out at any time
-abbrev pub LoadCause : (R : Type 0) (seed : ℕ) (team0 team1 sink0 sink1 : ℕ) → LoadFault → Type 0
-LoadCause R seed team0 team1 sink0 sink1 Memory = Unit {0}
-LoadCause R seed team0 team1 sink0 sink1 Spent = ScriptSpent seed ⊎ WorkerEnded R work.Spent
-LoadCause R seed team0 team1 sink0 sink1 Start = Rose team0 team1
-LoadCause R seed team0 team1 sink0 sink1 Door = WorkerEnded R work.Door
-LoadCause R seed team0 team1 sink0 sink1 Write = Rose sink0 sink1
-LoadCause R seed team0 team1 sink0 sink1 (Out code) = ClientEnded (drive.Out code)
-LoadCause R seed team0 team1 sink0 sink1 BadText = ClientEnded drive.BadText
+abbrev pub LoadCause : (seed : ℕ) (team0 team1 sink0 sink1 : ℕ) → LoadFault → Type 0
+LoadCause seed team0 team1 sink0 sink1 Memory = Unit {0}
+LoadCause seed team0 team1 sink0 sink1 Spent = ScriptSpent seed ⊎ WorkerEnded work.Spent
+LoadCause seed team0 team1 sink0 sink1 Start = Rose team0 team1
+LoadCause seed team0 team1 sink0 sink1 Door = WorkerEnded work.Door
+LoadCause seed team0 team1 sink0 sink1 Write = Rose sink0 sink1
+LoadCause seed team0 team1 sink0 sink1 (Out code) = ClientEnded (drive.Out code)
+LoadCause seed team0 team1 sink0 sink1 BadText = ClientEnded drive.BadText
 
-abbrev pub HasLoadCause : (R : Type 0) (seed : ℕ) (team0 team1 sink0 sink1 : ℕ) → Result (Unit {0}) LoadFault → Type 0
-HasLoadCause R seed team0 team1 sink0 sink1 (Ok u) = (team1 ≡ team0) × (sink1 ≡ sink0)
-HasLoadCause R seed team0 team1 sink0 sink1 (Err fault) = LoadCause R seed team0 team1 sink0 sink1 fault
+abbrev pub HasLoadCause : (seed : ℕ) (team0 team1 sink0 sink1 : ℕ) → Result (Unit {0}) LoadFault → Type 0
+HasLoadCause seed team0 team1 sink0 sink1 (Ok u) = (team1 ≡ team0) × (sink1 ≡ sink0)
+HasLoadCause seed team0 team1 sink0 sink1 (Err fault) = LoadCause seed team0 team1 sink0 sink1 fault
 
 -- nothing went out, or a front of what waited and of the summary
 abbrev pub WritesFront : (seed : ℕ) (got0 got1 : Option (List ℕ)) (waits : List ℕ) → Type 0

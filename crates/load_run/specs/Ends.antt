@@ -4,15 +4,11 @@ use Rattle.guild_model.specs.Record.{Record}
 use Rattle.client_run.specs.declared.driven.Driven.TheVariants.{Finished}
 use Rattle.load_client.specs.Agreement.{AgreeSo}
 use Rattle.load_client.specs.declared.ended_client.EndedClient.{EndedClient}
-use Rattle.worker_run.specs.declared.report.WorkReport.{WorkReport}
-use Rattle.gate_parts.specs.declared.ending.Ending.TheVariants.{Ran}
-use Rattle.gate_parts.specs.declared.script_part.ScriptDone.{ScriptDone}
 use Rattle.load_parts.specs.declared.load_part.LoadPart.{LoadPart}
 use Rattle.load_parts.specs.declared.load_part.LoadPart.TheVariants as part
 use Rattle.load_parts.specs.declared.load_part.LoadDone.{LoadDone}
 use Rattle.load_parts.specs.declared.load_part.LoadDone.TheVariants as done
 use Rattle.load_run.specs.Loads.{viewer_of}
-use Rattle.load_run.specs.declared.sorting.WorkerEnd.{WorkerEnd}
 
 module _ {C R : Type 0} where
   -- the clock of a part
@@ -28,10 +24,6 @@ module _ {C R : Type 0} where
   clock_of_done (done.Worker d) = d.clock ∷ []
   clock_of_done (done.Client d) = d.clock ∷ []
 
--- the script has sent all that it has
-abbrev pub HasSentAll : ScriptDone → Type 0
-HasSentAll d = d.ending ≡ Ran (Ok tt)
-
 abbrev pub HasFinished : EndedClient → Type 0
 HasFinished c = c.driven ≡ Ok Finished
 
@@ -41,7 +33,3 @@ AllAgreeSo records number [] [] = Unit {0}
 AllAgreeSo records number [] (n ∷ ns) = ⊥
 AllAgreeSo records number (c ∷ cs) [] = ⊥
 AllAgreeSo records number (c ∷ cs) (n ∷ ns) = AgreeSo (viewer_of number) c.client.kept records n × AllAgreeSo records (number + 1) cs ns
-
--- the worker has served until its door had ended and each log had its seal
-abbrev pub HasServed : {R : Type 0} → WorkerEnd R → Type 0
-HasServed e = (report : WorkReport) × (e.ending ≡ Ran (Ok report))

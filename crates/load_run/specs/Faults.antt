@@ -1,5 +1,5 @@
 -- By which fault a part of a load has ended, and which of several faults a load answers.
-use Rattle.std.specs.Prelude.{ℕ, Bool, true, false, List, map, nat_lt, if◌then◌else◌, Option, Some, None, Result, Ok, Err}
+use Rattle.std.specs.Prelude.{ℕ, Bool, true, false, List, map, Option, Some, None, Result, Ok, Err}
 use Rattle.std.specs.List.{fold}
 use Rattle.std.specs.declared.alloc.AllocError.{AllocError}
 use Rattle.gate_outside.specs.declared.faults.Fault.{Fault}
@@ -15,6 +15,7 @@ use Rattle.gate_parts.specs.declared.ending.Ending.{Ending}
 use Rattle.gate_parts.specs.declared.ending.Ending.TheVariants.{Ran, Stopped}
 use Rattle.load_parts.specs.declared.load_part.LoadDone.{LoadDone}
 use Rattle.load_parts.specs.declared.load_part.LoadDone.TheVariants.{Actor, Script, Worker, Client}
+use Rattle.gate_ends.specs.Ranks.{sooner_by}
 use Rattle.load_run.specs.declared.fault.LoadFault.{LoadFault}
 use Rattle.load_run.specs.declared.fault.LoadFault.TheVariants.{Memory, Spent, Start, Door, Write, Out, BadText}
 
@@ -57,9 +58,7 @@ rank (Out code) = 5
 rank BadText = 6
 
 abbrev pub sooner : Option LoadFault → Option LoadFault → Option LoadFault
-sooner None other = other
-sooner (Some one) None = Some one
-sooner (Some one) (Some other) = if nat_lt (rank other) (rank one) then Some other else Some one
+sooner = sooner_by rank
 
 -- without a start of all parts
 abbrev pub start_fault : Bool → Option LoadFault

@@ -26,7 +26,7 @@ use Rattle.load_client.specs.Ended.{HasEnded}
 use Rattle.load_client.specs.declared.ended_client.EndedClient.{EndedClient}
 use Rattle.load_stage.specs.Bots.{load_bots, worker_url}
 use Rattle.load_stage.specs.Clients.{client_with, intents_of}
-use Rattle.load_stage.specs.Hubs.{guild_ids}
+use Rattle.load_stage.specs.Guilds.{guild_ids}
 use Rattle.log_summary.specs.Summary.{summary_text}
 use Rattle.run_ends.specs.Logs.{IsMergedLog}
 

@@ -1,27 +1,26 @@
 -- The ended parts of a load, by their kinds.
 use Rattle.std.specs.Prelude.{◌≡◌, ℕ, ◌+◌, ◌≤◌, List, [], ◌++◌, map, flat_map}
 use Rattle.std.specs.Vec.{vec_len, vec_capacity}
-use Rattle.thread_outside.specs.DialledDoors.{DialledState}
-use Rattle.thread_outside.specs.declared.kept_notes.KeptNotes.{KeptNotes}
-use Rattle.worker_core.specs.declared.io.Input.{Input}
-use Rattle.gate_parts.specs.declared.worker_part.WorkerDone.{WorkerDone}
+use Rattle.edit_post.specs.declared.send_refused.SendRefused.{SendRefused}
+use Rattle.gate_parts.specs.declared.script_part.ScriptDone.{ScriptDone}
 use Rattle.load_client.specs.declared.ended_client.EndedClient.{EndedClient}
 use Rattle.load_parts.specs.declared.client_part.ClientDone.{ClientDone}
 use Rattle.load_parts.specs.declared.load_part.LoadDone.{LoadDone}
 use Rattle.load_parts.specs.Kinds.{actor_of, script_of, worker_of, client_of}
-use Rattle.load_run.specs.declared.sorting.WorkerEnd.{WorkerEnd}
+use Rattle.gate_ends.specs.Done.{worker_end}
+use Rattle.gate_ends.specs.declared.ending.ScriptEnd.{ScriptEnd}
 use Rattle.load_run.specs.declared.sorting.Ends.{Ends}
 use Rattle.load_run.specs.declared.rooms.Rooms.{Rooms}
 use Rattle.load_run.specs.Ends.{clock_of_done}
+
+-- a script without its seat
+abbrev pub script_end : ScriptDone → ScriptEnd SendRefused
+script_end d = record { ending = d.ending; passes = d.passes }
 
 abbrev pub ended_of : {C : Type 0} → ClientDone C → EndedClient
 ended_of d = d.ended
 
 module _ {C R : Type 0} where
-  -- a worker without its clock
-  abbrev pub end_of : WorkerDone DialledState C (KeptNotes Input) → WorkerEnd R
-  end_of d = record { ending = d.ending; door = d.door; readers = d.readers; passes = d.passes; notes = d.notes }
-
   -- so many items more find room in each of the lists
   pub record HasRoom (more : ℕ) (e : Ends C R) : Type 0 where
     pub actors : vec_len e.actors + more ≤ vec_capacity e.actors
@@ -33,8 +32,8 @@ module _ {C R : Type 0} where
   -- what these parts have left was added, kind by kind
   pub record Sorts (dones : List (LoadDone C R)) (old new : Ends C R) : Type 0 where
     pub actors : new.actors.items ≡ old.actors.items ++ flat_map actor_of dones
-    pub scripts : new.scripts.items ≡ old.scripts.items ++ flat_map script_of dones
-    pub workers : new.workers.items ≡ old.workers.items ++ map end_of (flat_map worker_of dones)
+    pub scripts : new.scripts.items ≡ old.scripts.items ++ map script_end (flat_map script_of dones)
+    pub workers : new.workers.items ≡ old.workers.items ++ map worker_end (flat_map worker_of dones)
     pub clients : new.clients.items ≡ old.clients.items ++ map ended_of (flat_map client_of dones)
     pub clocks : new.clocks.items ≡ old.clocks.items ++ flat_map clock_of_done dones
 

@@ -11,9 +11,9 @@ mod parts;
 mod playing;
 mod rooms;
 mod running;
+mod setting;
 mod sorting;
 mod summing;
-mod writing;
 
 pub use fault::LoadFault;
 pub use loading::load;

@@ -44,7 +44,7 @@ pub fn play<C: Clock + Drop, R: Wait + time::Clock + Copy + Drop, S: Spawner<Loa
     ensures posts { result.posts ≡ stage.posts }
     ensures clocks { length result.ends.clocks.items ≡ 15 }
     ensures ended { (seed : ℕ) (clocks : List C) → IsStage seed clocks stage → result.fault ≡ None → HasJoined seed stage.posts result.ends }
-    ensures cause { (seed : ℕ) (clocks : List C) → IsStage seed clocks stage → (f : AFault) → result.fault ≡ Some f → (sink : ℕ) → LoadCause R seed (S.faults team.old) (S.faults team.new) sink sink f }
+    ensures cause { (seed : ℕ) (clocks : List C) → IsStage seed clocks stage → (f : AFault) → result.fault ≡ Some f → (sink : ℕ) → LoadCause seed (S.faults team.old) (S.faults team.new) sink sink f }
     ensures whole { result.fault ≡ None → (S.faults team.new ≡ S.faults team.old) × ((S.starts team.new).asked ≡ many_more 21 (S.starts team.old).asked) }
     ensures late { (S.starts team.old).finished ≡ 0 → (S.starts team.new).late ≡ (S.starts team.old).late }
 {

@@ -3,69 +3,52 @@
 ghost use Rattle.std.specs.Prelude.{◌≡◌, ◌+◌, ◌≤◌, ◌++◌, ◌∷◌, [], ℕ, flat_map, length};
 ghost use Rattle.load_run.specs.Sorted.{HasRoom, Sorts};
 ghost use Rattle.load_run.specs.Ends.{clock_of_part};
-ghost use Rattle.load_parts.specs.declared.load_part.LoadDone.TheVariants.{Worker, Client};
+ghost use Rattle.load_parts.specs.declared.load_part.LoadDone.TheVariants.{Script, Worker, Client};
 
-use edit_post::SendPass;
-use gate_parts::{ActorDone, Ending, ScriptDone, WorkerDone};
-use guild_hub::HubReader;
+use edit_post::SendRefused;
+use gate_ends::{ScriptEnd, WorkerEnd};
+use gate_parts::{ActorDone, ScriptDone};
 use load_client::EndedClient;
 use load_parts::{ClientDone, DoorWorkerDone, LoadDone, LoadPart};
-use snowflake_id::Snowflake;
 use std::sync::Wait;
 use team_run::add;
-use thread_outside::dialled_door::DialledDoor;
-use thread_outside::kept_notes::KeptNotes;
-use worker_core::Input;
-use worker_run::{WorkFault, WorkReport};
-
-/// A worker that has ended, without its clock.
-#[derive(Drop)]
-pub struct WorkerEnd<R: Wait + Copy + Drop> {
-    pub ending: Ending<Result<WorkReport, WorkFault>>,
-    pub door: DialledDoor<R>,
-    pub readers: Vec<(Snowflake, HubReader)>,
-    pub passes: Vec<SendPass>,
-    pub notes: KeptNotes<Input>,
-}
 
 /// What the parts of each kind have left, in their order, and the clocks of all.
 #[derive(Drop)]
 pub struct Ends<C: Drop, R: Wait + Copy + Drop> {
     pub actors: Vec<ActorDone<R>>,
-    pub scripts: Vec<ScriptDone>,
-    pub workers: Vec<WorkerEnd<R>>,
+    pub scripts: Vec<ScriptEnd<SendRefused>>,
+    pub workers: Vec<WorkerEnd>,
     pub clients: Vec<EndedClient>,
     pub clocks: Vec<C>,
 }
 
 impl<C: Drop, R: Wait + Copy + Drop> Ends<C, R> {
+    // Adds what a script has left.
+    fn add_script(&mut self, done: ScriptDone)
+        requires { HasRoom 1 self.old }
+        ensures sorts { Sorts (Script done ∷ []) self.old self.new }
+        ensures room { (more : ℕ) → HasRoom (more + 1) self.old → HasRoom more self.new }
+    {
+        let ScriptDone {
+            ending,
+            passes,
+            seat,
+        } = done;
+        drop(seat);
+        add(&mut self.scripts, ScriptEnd { ending, passes });
+    }
+
     // Adds what a worker has left.
     fn add_worker(&mut self, done: DoorWorkerDone<C, R>)
         requires { HasRoom 1 self.old }
         ensures sorts { Sorts (Worker done ∷ []) self.old self.new }
         ensures room { (more : ℕ) → HasRoom (more + 1) self.old → HasRoom more self.new }
     {
-        let WorkerDone {
-            ending,
-            door,
-            clock,
-            readers,
-            passes,
-            notes,
-            seat,
-        } = done;
-        drop(seat);
+        let (end, door, clock) = WorkerEnd::of(done);
+        drop(door);
         add(&mut self.clocks, clock);
-        add(
-            &mut self.workers,
-            WorkerEnd {
-                ending,
-                door,
-                readers,
-                passes,
-                notes,
-            },
-        );
+        add(&mut self.workers, end);
     }
 
     // Adds what a client has left.
@@ -87,7 +70,7 @@ impl<C: Drop, R: Wait + Copy + Drop> Ends<C, R> {
     {
         match done {
             LoadDone::Actor(done) => add(&mut self.actors, done),
-            LoadDone::Script(done) => add(&mut self.scripts, done),
+            LoadDone::Script(done) => self.add_script(done),
             LoadDone::Worker(done) => self.add_worker(done),
             LoadDone::Client(done) => self.add_client(done),
         }

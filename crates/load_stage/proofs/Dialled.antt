@@ -4,8 +4,9 @@ use Rattle.std.specs.List.{range_with_len}
 use Rattle.std.specs.Global.{Global}
 use Rattle.crossbeam_queue.specs.SegTies.{SegId}
 use Rattle.thread_outside.specs.DialledDoors.{DialledState, DoorDialState, new_dialled, new_door_dial}
-use Rattle.load_stage.specs.Dealing.{AreFrom, in_turn}
+use Rattle.run_stage.specs.Dealing.{AreFrom}
 use Rattle.load_stage.specs.Doors.{IsDoorOf, IsDialOf, HasDoors}
+use Rattle.load_stage.specs.Turns.{in_turn}
 
 -- three items, one after another
 pub three_pushed : {X : Type 0} (none one two three : List X) (a b c : X) → none ≡ [] → one ≡ none ++ a ∷ [] → two ≡ one ++ b ∷ [] → three ≡ two ++ c ∷ []

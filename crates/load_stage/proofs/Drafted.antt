@@ -1,41 +1,20 @@
 -- The parts that have no clocks yet, and that they are ready.
-use Rattle.std.proofs.Common.{◌≡◌, ℕ, ◌+◌, ◌/◌, ◌%◌, ◌<◌, List, [], ◌∷◌, map, length, refl, sym, subst, ◌∙◌}
+use Rattle.std.proofs.Common.{◌≡◌, ℕ, ◌+◌, ◌/◌, ◌%◌, ◌<◌, List, map, length, refl, sym, subst}
 use Rattle.std.specs.Prelude.{Option, Some, None, All, option_map, slice_get}
 use Rattle.std.specs.Global.{Global}
-use Rattle.std.proofs.lemmas.List.Elements.{All-nil, All-cons, All-same}
 use Rattle.atomic_table.specs.Seated.{TableId}
 use Rattle.crossbeam_queue.specs.SegTies.{SegId}
 use Rattle.edit_post.specs.Post.{PostId}
-use Rattle.guild_hub.specs.Writes.{Publishing}
-use Rattle.guild_places.specs.Places.{guilds_of}
 use Rattle.thread_outside.specs.DialledDoors.{DoorDialState, new_door_dial}
 use Rattle.gate_parts.specs.Ready.{CanWork}
+use Rattle.run_stage.specs.Hubs.{Has, new_reader}
+use Rattle.run_stage.proofs.Numbered.{all_at, as_many, of_each, placed}
 use Rattle.load_stage.specs.declared.clients.ClientDraft.{ClientDraft}
 use Rattle.load_stage.specs.declared.drafting.Parts.{Parts}
-use Rattle.load_stage.specs.declared.hubs.Readers.{Readers as ReaderLists}
 use Rattle.load_stage.specs.declared.workers.WorkerDraft.{WorkerDraft}
-use Rattle.load_stage.specs.Dealing.{IsAt}
 use Rattle.load_stage.specs.Doors.{IsDialOf}
-use Rattle.load_stage.specs.Drafts.{Readers, AreParts, CanBegin, HasNotFailed, IsClientDraft, IsWorkerDraft}
-use Rattle.load_stage.specs.Hubs.{guild_ids, new_reader, HasHubs, HasReaders}
-use Rattle.load_stage.proofs.Numbered.{all_at, as_many, of_each, placed}
-use Rattle.load_stage.proofs.Written.{can_work, guilds_are, guilds_of_readers}
-
--- each of three workers reads the hub of each writer
-pub each_reads : (ws : List (ℕ × Publishing)) (lists : ReaderLists) (readers : List Readers) → HasReaders ws lists → readers ≡ lists.first ∷ lists.second ∷ lists.third ∷ []
-    → (number : ℕ) (its : Readers) → IsAt readers number its → its.items ≡ map new_reader ws
-each_reads ws lists readers has e number its at =
-    let Reads : Readers → Type 0 = λ its. its.items ≡ map new_reader ws in
-    all_at Reads readers number its
-    (All-same Reads readers (lists.first ∷ lists.second ∷ lists.third ∷ []) e
-    (All-cons Reads lists.first (lists.second ∷ lists.third ∷ []) has.first
-    (All-cons Reads lists.second (lists.third ∷ []) has.second
-    (All-cons Reads lists.third [] has.third (All-nil Reads))))) at
-
--- the guilds that a worker reads are all guilds
-pub guilds_read : (ws : List (ℕ × Publishing)) (lists : ReaderLists) → HasHubs ws lists → guilds_of lists.first.items ≡ guild_ids
-guilds_read ws lists has =
-    subst (λ l. guilds_of l ≡ guild_ids) (sym has.readers_are.first) (guilds_of_readers ws ∙ guilds_are ws has.writers_are)
+use Rattle.load_stage.specs.Drafts.{AreParts, CanBegin, HasNotFailed, IsClientDraft, IsWorkerDraft}
+use Rattle.load_stage.proofs.Ready.{can_work}
 
 dry : (queue : Option (SegId Global)) (number : ℕ) (dial : DoorDialState) → option_map (λ q. new_door_dial q number) queue ≡ Some dial → dial.dry_run ≡ 0
 dry None number dial e = absurd (cc)
@@ -44,10 +23,14 @@ dry (Some q) number dial e =
     subst (λ (d : DoorDialState). d.dry_run ≡ 0) same refl
 
 module _ {R : Type 0} (posts : List PostId) (flag : TableId) (seed : ℕ) (parts : Parts R) (are : AreParts posts flag seed parts) where
+  -- the readers of a worker
+  pub worker_readers : (n : ℕ) (draft : WorkerDraft R) → IsWorkerDraft posts flag are.doors are.readers n draft → draft.readers.items ≡ map new_reader are.writers
+  worker_readers n draft is = all_at (Has (map new_reader are.writers)) are.readers n draft.readers are.hubs_are.readers_are.each_has is.readers_are
+
   can_begin : 0 < length posts → (n : ℕ) (draft : WorkerDraft R) → IsWorkerDraft posts flag are.doors are.readers n draft → CanBegin draft
   can_begin some n draft is =
       subst (λ l. CanWork l draft.passes.items draft.readers.items) (sym is.posts_are)
-      (can_work posts (4 + n) draft.passes.items are.writers draft.readers.items some is.passes_are are.hubs (are.readers_are n draft.readers is.readers_are))
+      (can_work are.writers are.hubs_are.writers_are posts (4 + n) draft.passes.items draft.readers.items some is.passes_are (worker_readers n draft is))
 
   pub all_can_begin : 0 < length posts → All CanBegin parts.workers.items
   all_can_begin some = of_each (IsWorkerDraft posts flag are.doors are.readers) CanBegin (can_begin some) 0 3 parts.workers.items are.workers_are

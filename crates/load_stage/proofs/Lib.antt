@@ -1,9 +1,4 @@
-pub mod Dealt
-pub mod Numbered
-pub mod Posted
-pub mod Passes
-pub mod Seated
-pub mod Written
+pub mod Ready
 pub mod Dialled
 pub mod Drafted
 pub mod Staged

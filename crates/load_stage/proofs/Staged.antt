@@ -1,6 +1,6 @@
 -- What follows of the parts of a load.
-use Rattle.std.proofs.Common.{◌≡◌, ℕ, ◌+◌, List, [], ◌∷◌, ◌++◌, map, drop, length, sym, ap, ap₂, subst, ◌∙◌, arith}
-use Rattle.std.specs.Prelude.{Some, All}
+use Rattle.std.proofs.Common.{◌≡◌, ℕ, ◌+◌, List, [], ◌∷◌, ◌++◌, map, drop, length, sym, ap, ap₂, subst, ◌∙◌}
+use Rattle.std.specs.Prelude.{All}
 use Rattle.std.specs.List.{range_with_len, AllZip}
 use Rattle.std.specs.Global.{Global, Vec}
 use Rattle.std.proofs.lemmas.List.Elements.{All-append, All-map}
@@ -19,20 +19,24 @@ use Rattle.gate_parts.specs.declared.actor_part.ActorPart.{ActorPart}
 use Rattle.gate_parts.specs.declared.script_part.ScriptPart.{ScriptPart}
 use Rattle.gate_parts.specs.declared.worker_part.WorkerPart.{WorkerPart}
 use Rattle.load_parts.specs.declared.client_part.ClientPart.{ClientPart}
+use Rattle.run_stage.specs.Dealing.{AreFrom}
+use Rattle.run_stage.specs.Hubs.{IsReaderOf}
+use Rattle.run_stage.proofs.Dealt.{woven_back}
+use Rattle.run_stage.proofs.Numbered.{weaker, to_map, placed, at_dropped, of_each}
+use Rattle.run_stage.proofs.Passes.{are_passes}
+use Rattle.run_stage.proofs.Posted.{taker_posts}
+use Rattle.run_stage.proofs.Written.{guilds_are, readers_of}
 use Rattle.load_stage.specs.declared.drafting.Draft.{Draft}
 use Rattle.load_stage.specs.declared.drafting.Parts.{Parts}
 use Rattle.load_stage.specs.Bots.{load_bots, worker_url}
 use Rattle.load_stage.specs.Clients.{IsClient}
-use Rattle.load_stage.specs.Dealing.{AreFrom}
 use Rattle.load_stage.specs.Doors.{IsDoorOf, IsDialOf}
 use Rattle.load_stage.specs.Drafts.{AreParts, IsDraft, IsWorkerDraft, IsClientDraft, IsClockedWorker, IsClockedClient}
-use Rattle.load_stage.specs.Hubs.{guild_ids, IsReaderOf}
+use Rattle.load_stage.specs.Guilds.{guild_ids}
 use Rattle.load_stage.specs.Parts.{IsActor, IsScript, IsWorker}
 use Rattle.load_stage.specs.Stages.{IsStage}
-use Rattle.load_stage.proofs.Dealt.{woven_back}
-use Rattle.load_stage.proofs.Numbered.{weaker, to_map, placed, at_dropped, of_each}
-use Rattle.load_stage.proofs.Passes.{are_passes}
-use Rattle.load_stage.proofs.Written.{readers_of, taker_at, guilds_are, distinct_guilds}
+use Rattle.load_stage.proofs.Drafted.{worker_readers}
+use Rattle.load_stage.proofs.Ready.{distinct}
 
 abbrev AWorker : Type 0 → Type 0 → Type 0
 AWorker C R = WorkerPart DialledState C (KeptNotes Input) R
@@ -41,18 +45,10 @@ module _ {R : Type 0} where
   -- the posts of the actors' passes
   pub takers_follow : (flag : TableId) (writers : List (ℕ × Publishing)) (posts : List PostId) (actors : List (ActorPart R)) → length posts ≡ 2
       → AreFrom (IsActor posts flag writers) 0 2 actors → map (λ (part : ActorPart R). part.pass.post) actors ≡ posts
-  takers_follow flag writers [] actors two all = absurd (omega arith)
-  takers_follow flag writers (p ∷ []) actors two all = absurd (omega arith)
-  takers_follow flag writers (p ∷ q ∷ r ∷ rs) actors two all = absurd (omega arith)
-  takers_follow flag writers (p ∷ q ∷ []) [] two all = absurd all
-  takers_follow flag writers (p ∷ q ∷ []) (a ∷ []) two all = absurd all.1
-  takers_follow flag writers (p ∷ q ∷ []) (a ∷ b ∷ c ∷ cs) two all = absurd all.1.1
-  takers_follow flag writers (p ∷ q ∷ []) (a ∷ b ∷ []) two all =
-      let first = taker_at (Some p) a.pass all.0.pass_is in
-      let second = taker_at (Some q) b.pass all.1.0.pass_is in
-      let p_is : a.pass.post ≡ p = cc (first.0) in
-      let q_is : b.pass.post ≡ q = cc (second.0) in
-      ap₂ (λ x y. x ∷ y ∷ []) p_is q_is
+  takers_follow flag writers posts [] two all = absurd all
+  takers_follow flag writers posts (a ∷ []) two all = absurd all.1
+  takers_follow flag writers posts (a ∷ b ∷ c ∷ cs) two all = absurd all.1.1
+  takers_follow flag writers posts (a ∷ b ∷ []) two all = taker_posts 7 posts a.pass b.pass two all.0.pass_is all.1.0.pass_is
 
   module _ (posts : List PostId) (flag : TableId) where
     script_passes : (seed : ℕ) (scripts : List (ScriptPart R)) → AreFrom (IsScript posts flag seed) 0 4 scripts
@@ -83,7 +79,7 @@ module _ {C R : Type 0} where
         record {
           posts_are = of.posts_are ∙ d.posts_are;
           passes_are = ap (λ v. v.items) of.passes_are ∙ d.passes_are;
-          readers_are = ap (λ v. v.items) of.readers_are ∙ are.readers_are n is.draft.readers d.readers_are;
+          readers_are = ap (λ v. v.items) of.readers_are ∙ worker_readers posts flag seed parts are n is.draft d;
           worker_is = subst (λ k. Represents k (first_worker load_bots guild_ids n (worker_url n))) (sym of.worker_is) d.worker_is;
           door_is = subst (IsDoorOf queues n) (sym of.door_is) (placed (IsDoorOf queues) 3 are.doors n is.draft.door are.doors_are.doors_are d.door_is);
           clock_is = is.is_clock;
@@ -196,7 +192,7 @@ module _ {C R : Type 0} where
         writers = writers;
         queues = queues;
         two_posts = is.two;
-        new_writers = are.hubs;
+        new_writers = are.hubs_are.writers_are;
         three_doors = are.doors_are.three;
         keeper_is = is.seats_are.keeper_is;
         seat_is = seat_is;
@@ -208,7 +204,7 @@ module _ {C R : Type 0} where
         senders_are = senders_follow posts flag writers queues clocks seed scripts workers.items are.scripts_are with_clocks;
         readers_are = readers_follow posts flag writers queues clocks workers.items with_clocks;
         woven_are = woven_back writers;
-        guilds_are = guilds_are writers are.hubs;
-        distinct = distinct_guilds writers are.hubs;
+        guilds_are = guilds_are guild_ids writers are.hubs_are.writers_are;
+        distinct = distinct writers are.hubs_are.writers_are;
         seats_are = seats_follow posts flag writers queues clocks seed actors scripts workers.items clients.items seat are.actors_are are.scripts_are with_clocks clients_too seat_is;
       })

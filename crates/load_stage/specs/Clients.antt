@@ -8,8 +8,8 @@ use Rattle.load_maker.specs.Edits.{bot_name}
 use Rattle.load_client.specs.declared.load_client.LoadClient.{LoadClient}
 use Rattle.load_client.specs.Names.{load_goal}
 use Rattle.load_parts.specs.declared.client_part.ClientPart.{ClientPart}
+use Rattle.run_stage.specs.Dealing.{IsAt}
 use Rattle.load_stage.specs.Bots.{worker_url}
-use Rattle.load_stage.specs.Dealing.{IsAt}
 use Rattle.load_stage.specs.Doors.{IsDialOf}
 
 -- an even client asks for guilds, members and messages, an odd one for guilds alone

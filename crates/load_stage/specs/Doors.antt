@@ -3,7 +3,7 @@ use Rattle.std.specs.Prelude.{◌≡◌, ℕ, ◌/◌, ◌%◌, List, [], Some, 
 use Rattle.std.specs.Global.{Global}
 use Rattle.crossbeam_queue.specs.SegTies.{SegId}
 use Rattle.thread_outside.specs.DialledDoors.{DialledState, DoorDialState, new_dialled, new_door_dial}
-use Rattle.load_stage.specs.Dealing.{AreFrom}
+use Rattle.run_stage.specs.Dealing.{AreFrom}
 
 -- the door of the worker with this number, which has four dials and takes their calls from its queue
 abbrev pub IsDoorOf : List (SegId Global) → ℕ → DialledState → Type 0

@@ -1,5 +1,5 @@
 -- internal: cited by private functions only. The parts of a load that have no clocks yet.
-use Rattle.std.specs.Prelude.{◌≡◌, ℕ, ◌+◌, List, [], map, length}
+use Rattle.std.specs.Prelude.{◌≡◌, ℕ, ◌+◌, List, [], length}
 use Rattle.std.specs.Global.{Vec}
 use Rattle.atomic_table.specs.Seated.{TableId}
 use Rattle.edit_post.specs.Post.{PostId}
@@ -14,20 +14,21 @@ use Rattle.worker_core.specs.declared.io.Input.{Input}
 use Rattle.gate_parts.specs.declared.worker_part.WorkerPart.{WorkerPart}
 use Rattle.gate_parts.specs.Ready.{CanWork}
 use Rattle.load_parts.specs.declared.client_part.ClientPart.{ClientPart}
-use Rattle.load_stage.specs.declared.workers.WorkerDraft.{WorkerDraft}
+use Rattle.run_ends.specs.Senders.{new_passes}
+use Rattle.run_stage.specs.Dealing.{AreFrom, IsAt}
+use Rattle.run_stage.specs.Hubs.{HasHubs}
+use Rattle.run_stage.specs.Posts.{HasPosts}
+use Rattle.run_stage.specs.Seats.{HasSeats}
 use Rattle.load_stage.specs.declared.clients.ClientDraft.{ClientDraft}
 use Rattle.load_stage.specs.declared.drafting.Draft.{Draft}
 use Rattle.load_stage.specs.declared.drafting.Parts.{Parts}
-use Rattle.load_stage.specs.declared.drafting.Supply.{Supply}
+use Rattle.load_stage.specs.declared.supply.Supply.{Supply}
+use Rattle.load_stage.specs.declared.workers.WorkerDraft.{WorkerDraft}
 use Rattle.load_stage.specs.Bots.{load_bots, worker_url}
 use Rattle.load_stage.specs.Clients.{client_with}
-use Rattle.load_stage.specs.Dealing.{AreFrom, IsAt}
 use Rattle.load_stage.specs.Doors.{HasDoors}
-use Rattle.load_stage.specs.Hubs.{guild_ids, new_reader, IsNewWriter, HasHubs}
+use Rattle.load_stage.specs.Guilds.{guild_ids}
 use Rattle.load_stage.specs.Parts.{IsActor, IsScript}
-use Rattle.run_ends.specs.Senders.{new_passes}
-use Rattle.load_stage.specs.Posts.{HasPosts}
-use Rattle.load_stage.specs.Seats.{HasSeats}
 
 abbrev pub Readers : Type 0
 Readers = Vec (ℕ × Seeing)
@@ -87,9 +88,9 @@ module _ {R : Type 0} where
 
   -- what the parts of a load are made from
   pub record IsSupply (posts : List PostId) (supply : Supply R) : Type 0 where
-    pub posts_are : HasPosts posts supply.takers supply.passes.items
-    pub hubs_are : HasHubs supply.hubs.writers.items supply.hubs.readers
-    pub doors_are : HasDoors supply.doors.doors.items supply.doors.dials.items
+    pub posts_are : HasPosts 7 posts supply.takers supply.passes.items
+    pub hubs_are : HasHubs guild_ids 3 supply.writers.items supply.served.readers.items
+    pub doors_are : HasDoors supply.served.doors.items supply.dials.items
 
   -- all parts of a load, and what they were made from
   pub record AreParts (posts : List PostId) (flag : TableId) (seed : ℕ) (parts : Parts R) : Type 0 where
@@ -97,8 +98,7 @@ module _ {R : Type 0} where
     pub readers : List Readers
     pub doors : List DialledState
     pub dials : List DoorDialState
-    pub hubs : AreFrom IsNewWriter 1 8 writers
-    pub readers_are : (number : ℕ) (its : Readers) → IsAt readers number its → its.items ≡ map new_reader writers
+    pub hubs_are : HasHubs guild_ids 3 writers readers
     pub doors_are : HasDoors doors dials
     pub actors_are : AreFrom (IsActor posts flag writers) 0 2 parts.actors.items
     pub scripts_are : AreFrom (IsScript posts flag seed) 0 4 parts.scripts.items
@@ -108,5 +108,5 @@ module _ {R : Type 0} where
   -- the same with what they share
   pub record IsDraft (seed : ℕ) (draft : Draft R) : Type 0 where
     pub two : length draft.ground.posts ≡ 2
-    pub seats_are : HasSeats 21 1 draft.seats
+    pub seats_are : HasSeats 22 21 1 draft.seats
     pub parts_are : AreParts draft.ground.posts draft.seats.keeper.flag seed draft.parts

@@ -1,10 +1,8 @@
-pub mod Dealing
-pub mod Posts
-pub mod Hubs
+pub mod Turns
+pub mod Guilds
 pub mod Doors
 pub mod Bots
 pub mod Clients
-pub mod Seats
 pub mod Parts
 pub mod Stages
 pub mod Drafts

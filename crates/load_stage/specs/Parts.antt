@@ -15,19 +15,20 @@ use Rattle.gate_parts.specs.declared.actor_part.ActorPart.{ActorPart}
 use Rattle.gate_parts.specs.declared.script_part.ScriptPart.{ScriptPart}
 use Rattle.gate_parts.specs.declared.worker_part.WorkerPart.{WorkerPart}
 use Rattle.load_maker.specs.Script.{script}
-use Rattle.load_stage.specs.Bots.{load_bots, worker_url}
-use Rattle.load_stage.specs.Dealing.{dealt_to, IsAt}
-use Rattle.load_stage.specs.Doors.{IsDoorOf}
-use Rattle.load_stage.specs.Hubs.{guild_ids, new_reader}
 use Rattle.run_ends.specs.Senders.{new_passes}
-use Rattle.load_stage.specs.Posts.{IsTakerOf}
+use Rattle.run_stage.specs.Dealing.{dealt_to, IsAt}
+use Rattle.run_stage.specs.Hubs.{new_reader}
+use Rattle.run_stage.specs.Posts.{IsTakerOf}
+use Rattle.load_stage.specs.Bots.{load_bots, worker_url}
+use Rattle.load_stage.specs.Doors.{IsDoorOf}
+use Rattle.load_stage.specs.Guilds.{guild_ids}
 
 module _ {R : Type 0} (posts : List PostId) (flag : TableId) where
-  -- the actor with this number has the post at that place, and the writers that are dealt to it
+  -- the actor with this number has the post at that place, which has seven senders, and the writers that are dealt to it
   pub record IsActor (writers : List (ℕ × Publishing)) (actor : ℕ) (part : ActorPart R) : Type 0 where
     pub posts_are : part.posts ≡ posts
     pub place_is : part.place ≡ actor
-    pub pass_is : IsTakerOf posts actor part.pass
+    pub pass_is : IsTakerOf 7 posts actor part.pass
     pub writers_are : part.writers.items ≡ dealt_to actor writers
     pub seat_is : part.seat ≡ new_seat flag actor
 

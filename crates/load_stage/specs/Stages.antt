@@ -8,11 +8,12 @@ use Rattle.guild_hub.specs.Writes.{Publishing}
 use Rattle.guild_places.specs.Places.{AreDistinct, guilds_of}
 use Rattle.guild_posts.specs.Posts.{ArePasses}
 use Rattle.stop_flag.specs.Flags.{SeatState, new_seat, new_keeper}
+use Rattle.run_ends.specs.Lists.{woven}
+use Rattle.run_stage.specs.Dealing.{AreFrom, dealt_to}
+use Rattle.run_stage.specs.Hubs.{IsNewWriter, IsReaderOf}
 use Rattle.load_stage.specs.declared.stage.Stage.{Stage}
 use Rattle.load_stage.specs.Clients.{IsClient}
-use Rattle.run_ends.specs.Lists.{woven}
-use Rattle.load_stage.specs.Dealing.{AreFrom, dealt_to}
-use Rattle.load_stage.specs.Hubs.{IsNewWriter, IsReaderOf, guild_ids}
+use Rattle.load_stage.specs.Guilds.{guild_ids}
 use Rattle.load_stage.specs.Parts.{IsActor, IsScript, IsWorker}
 
 module _ {C R : Type 0} where
@@ -33,11 +34,11 @@ module _ {C R : Type 0} where
       ++ (map (λ part. part.client.seat) stage.clients.items ++ stage.seat ∷ [])))
 
   pub record IsStage (seed : ℕ) (clocks : List C) (stage : Stage C R) : Type 0 where
-    -- the writers of the hubs, by their guilds, and the queues of the doors, by their workers
+    -- the writers of the hubs, in the order of the guilds, and the queues of the doors, by their workers
     pub writers : List (ℕ × Publishing)
     pub queues : List (SegId Global)
     pub two_posts : length stage.posts ≡ 2
-    pub new_writers : AreFrom IsNewWriter 1 8 writers
+    pub new_writers : AllZip IsNewWriter guild_ids writers
     pub three_doors : length queues ≡ 3
     pub keeper_is : stage.keeper ≡ new_keeper stage.keeper.flag 22
     pub seat_is : stage.seat ≡ new_seat stage.keeper.flag 21

@@ -1,25 +1,26 @@
-//! The parts of the two actors.
+//! The parts of the two actors of a load.
 
 ghost use Rattle.std.specs.Prelude.{◌≡◌, [], IfOk, OnOk};
+ghost use Rattle.std.specs.List.{AllZip};
 ghost use Rattle.gate_parts.specs.Ready.{CanAct};
-ghost use Rattle.load_stage.specs.Dealing.{AreFrom};
-ghost use Rattle.load_stage.specs.Hubs.{IsNewWriter};
+ghost use Rattle.run_stage.specs.Dealing.{AreFrom};
+ghost use Rattle.run_stage.specs.Hubs.{IsNewWriter};
+ghost use Rattle.run_stage.specs.Posts.{IsTakerOf};
+ghost use Rattle.run_stage.specs.Seats.{HasSeats};
+ghost use Rattle.load_stage.specs.Guilds.{guild_ids};
 ghost use Rattle.load_stage.specs.Parts.{IsActor};
-ghost use Rattle.load_stage.specs.Posts.{IsTakerOf};
-ghost use Rattle.load_stage.specs.Seats.{HasSeats};
 
-use crate::dealing::deal_in_two;
 use crate::ground::Ground;
-use crate::seats::Seats;
 use edit_post::TakePass;
 use gate_parts::ActorPart;
 use guild_hub::HubWriter;
+use run_stage::{Seats, deal_in_two};
 use snowflake_id::Snowflake;
 use std::alloc::AllocError;
 use std::sync::Wait;
 use stop_flag::StopSeat;
 
-// The part of an actor.
+// An actor's part of a load.
 fn actor_part<R: Wait + Copy + Drop>(
     ground: Ground<R>,
     place: usize,
@@ -49,7 +50,7 @@ fn actor_part<R: Wait + Copy + Drop>(
     }
 }
 
-// The part of an actor, with a share of what all parts share.
+// An actor's part, with its share of what the parts of a load share.
 fn actor<R: Wait + Copy + Drop>(
     ground: &Ground<R>,
     place: usize,
@@ -65,7 +66,7 @@ fn actor<R: Wait + Copy + Drop>(
     Ok(actor_part(ground, place, pass, writers, seat))
 }
 
-/// Adds the parts of both actors, to which the writers are dealt in turn.
+/// Adds the parts of actor 0 and of actor 1, to which the writers of the load's hubs are dealt in turn.
 ///
 /// # Errors
 /// Out of memory.
@@ -76,11 +77,11 @@ pub(crate) fn add_actors<R: Wait + Copy + Drop>(
     seats: &mut Seats,
     parts: &mut Vec<ActorPart<R>>,
 ) -> Result<(), AllocError>
-    requires takers { IsTakerOf ground.now.posts 0 takers.0 × IsTakerOf ground.now.posts 1 takers.1 }
-    requires writers { AreFrom IsNewWriter 1 8 writers.items }
-    requires seats { HasSeats 0 22 seats.old }
+    requires takers { IsTakerOf 7 ground.now.posts 0 takers.0 × IsTakerOf 7 ground.now.posts 1 takers.1 }
+    requires writers { AllZip IsNewWriter guild_ids writers.items }
+    requires seats { HasSeats 22 0 22 seats.old }
     requires none { parts.old.items ≡ [] }
-    ensures seats { OnOk result (HasSeats 2 20 seats.new × (seats.new.keeper ≡ seats.old.keeper)) }
+    ensures seats { OnOk result (HasSeats 22 2 20 seats.new × (seats.new.keeper ≡ seats.old.keeper)) }
     ensures parts { OnOk result (AreFrom (IsActor ground.now.posts seats.old.keeper.flag writers.items) 0 2 parts.new.items) }
 {
     let (even, odd) = deal_in_two(ground.alloc, writers)?;

@@ -1,18 +1,17 @@
 //! The parts of the twelve clients.
 
 ghost use Rattle.std.specs.Prelude.{◌≡◌, ◌≤◌, [], length, vec_capacity, All, IfOk, OnOk};
+ghost use Rattle.run_stage.specs.Dealing.{AreFrom};
+ghost use Rattle.run_stage.specs.Seats.{HasSeats};
 ghost use Rattle.load_stage.specs.Clients.{client_with, intents_of};
-ghost use Rattle.load_stage.specs.Dealing.{AreFrom};
 ghost use Rattle.load_stage.specs.Drafts.{HasNotFailed, IsClientDraft, IsClientOf, IsClockedClient};
-ghost use Rattle.load_stage.specs.Seats.{HasSeats};
 
 use crate::bots::{bot_name, worker_url};
-use crate::dealing::take_next;
 use crate::ground::Ground;
-use crate::seats::Seats;
 use intent_set::Intents;
 use load_client::{LoadClient, NameGoal};
 use load_parts::ClientPart;
+use run_stage::{Seats, take_next};
 use std::alloc::{AllocError, Global};
 use std::collections::VecDeque;
 use std::sync::Wait;
@@ -64,7 +63,7 @@ pub(crate) struct ClientDraft<R: Wait + Copy + Drop> {
     pub dial: DoorDial<R>,
 }
 
-// The client with this number and a share of what all parts share.
+// The client with this number, and its share of what the parts of a load share.
 fn begun<R: Wait + Copy + Drop>(
     ground: &Ground<R>,
     number: u8,
@@ -88,9 +87,9 @@ pub(crate) fn add_clients<R: Wait + Copy + Drop>(
     drafts: &mut VecDeque<ClientDraft<R>>,
 ) -> Result<(), AllocError>
     requires dials { length dials.old.items ≡ 12 }
-    requires seats { HasSeats 9 13 seats.old }
+    requires seats { HasSeats 22 9 13 seats.old }
     requires none { drafts.old.items ≡ [] }
-    ensures seats { OnOk result (HasSeats 21 1 seats.new × (seats.new.keeper ≡ seats.old.keeper)) }
+    ensures seats { OnOk result (HasSeats 22 21 1 seats.new × (seats.new.keeper ≡ seats.old.keeper)) }
     ensures drafts { OnOk result (AreFrom (IsClientDraft seats.old.keeper.flag dials.old.items) 0 12 drafts.new.items) }
 {
     for number in 0..CLIENTS {
@@ -106,7 +105,7 @@ pub(crate) fn add_clients<R: Wait + Copy + Drop>(
     Ok(())
 }
 
-// The part of a client. It does not allocate.
+// The part of a client that gets this clock. It does not allocate.
 fn client_part<C: Drop, R: Wait + Copy + Drop>(draft: ClientDraft<R>, clock: C) -> ClientPart<C, R>
     requires { HasNotFailed draft }
     ensures made { IsClientOf draft result }

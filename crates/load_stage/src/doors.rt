@@ -7,7 +7,7 @@ ghost use Rattle.crossbeam_queue.specs.SegTies.{SegId};
 ghost use Rattle.thread_outside.specs.DialledDoors.{new_dialled, new_door_dial};
 ghost use Rattle.load_stage.specs.Doors.{HasDoors};
 
-use crate::dealing::in_turn;
+use crate::turns::in_turn;
 use std::alloc::{AllocError, Global};
 use std::collections::VecDeque;
 use std::sync::Wait;
@@ -71,7 +71,10 @@ fn add_doors<R: Wait + Copy + Drop>(
 ///
 /// # Errors
 /// Out of memory.
-pub(crate) fn open<R: Wait + Copy + Drop>(rt: R, alloc: Global) -> Result<Doors<R>, AllocError>
+pub(crate) fn open_doors<R: Wait + Copy + Drop>(
+    rt: R,
+    alloc: Global,
+) -> Result<Doors<R>, AllocError>
     ensures { IfOk result (λ d. HasDoors d.doors.items d.dials.items) }
 {
     let mut doors = VecDeque::new(alloc);

@@ -7,7 +7,7 @@ use gate_parts::{Posts, StartWord};
 use std::alloc::{AllocError, Global};
 use std::sync::Wait;
 
-/// What all parts of a load share: the handle, the posts, and the word by which they begin.
+/// What each part of a load has a share of: the handle, the posts, and the word by which the load begins.
 #[derive(Drop)]
 pub(crate) struct Ground<R: Drop> {
     pub rt: R,
@@ -17,7 +17,7 @@ pub(crate) struct Ground<R: Drop> {
 }
 
 impl<R: Wait + Copy + Drop> Ground<R> {
-    /// What the parts share that send to these posts.
+    /// The first share, with the posts of a load and a word that nobody has given.
     ///
     /// # Errors
     /// Out of memory.
@@ -34,7 +34,7 @@ impl<R: Wait + Copy + Drop> Ground<R> {
         })
     }
 
-    /// Another share of it.
+    /// A share for one part of the load.
     ///
     /// # Errors
     /// Out of memory.
@@ -49,5 +49,18 @@ impl<R: Wait + Copy + Drop> Ground<R> {
             posts,
             word,
         })
+    }
+
+    /// The posts and the word, which stay with who starts the load. It does not allocate.
+    pub(crate) fn into_shared(self) -> (Posts<R>, StartWord)
+        ensures { (result.0 ≡ self.posts) × (result.1 ≡ self.word) }
+    {
+        let Ground {
+            rt: _,
+            alloc: _,
+            posts,
+            word,
+        } = self;
+        (posts, word)
     }
 }

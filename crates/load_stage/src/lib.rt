@@ -4,15 +4,13 @@
 mod actors;
 mod bots;
 mod clients;
-mod dealing;
 mod doors;
 mod drafting;
 mod ground;
-mod hubs;
-mod posts;
 mod scripts;
-mod seats;
 mod stage;
+mod supply;
+mod turns;
 mod workers;
 
 pub use clients::intents_of;

@@ -4,15 +4,13 @@ ghost use Rattle.std.specs.Prelude.{◌≡◌, ◌<◌, ◌≤◌, [], length, I
 ghost use Rattle.gate_parts.specs.Ready.{CanSend};
 ghost use Rattle.guild_places.specs.Places.{guilds_of};
 ghost use Rattle.load_maker.specs.Script.{script as lines_of};
-ghost use Rattle.load_stage.specs.Dealing.{AreFrom};
-ghost use Rattle.load_stage.specs.Hubs.{guild_ids};
+ghost use Rattle.run_stage.specs.Dealing.{AreFrom};
+ghost use Rattle.run_stage.specs.Posts.{ArePassesOf};
+ghost use Rattle.run_stage.specs.Seats.{HasSeats};
+ghost use Rattle.load_stage.specs.Guilds.{guild_ids};
 ghost use Rattle.load_stage.specs.Parts.{IsScript};
-ghost use Rattle.load_stage.specs.Posts.{ArePassesOf};
-ghost use Rattle.load_stage.specs.Seats.{HasSeats};
 
-use crate::dealing::take_next;
 use crate::ground::Ground;
-use crate::seats::Seats;
 use edit_post::SendPass;
 use edit_text::Line;
 use gate_parts::ScriptPart;
@@ -20,6 +18,7 @@ use guild_hub::HubReader;
 use guild_places::index_of;
 use indexmap::IndexSet;
 use load_maker::script as lines_of;
+use run_stage::{Seats, take_next};
 use snowflake_id::Snowflake;
 use std::alloc::AllocError;
 use std::collections::VecDeque;
@@ -97,10 +96,10 @@ pub(crate) fn add_scripts<R: Wait + Copy + Drop>(
     requires some { 0 < length ground.now.posts }
     requires guilds { guilds_of readers.now ≡ guild_ids }
     requires passes { AreFrom (ArePassesOf ground.now.posts) 0 7 passes.old.items }
-    requires seats { HasSeats 2 20 seats.old }
+    requires seats { HasSeats 22 2 20 seats.old }
     requires none { parts.old.items ≡ [] }
     ensures passes { OnOk result (AreFrom (ArePassesOf ground.now.posts) 4 3 passes.new.items) }
-    ensures seats { OnOk result (HasSeats 6 16 seats.new × (seats.new.keeper ≡ seats.old.keeper)) }
+    ensures seats { OnOk result (HasSeats 22 6 16 seats.new × (seats.new.keeper ≡ seats.old.keeper)) }
     ensures parts { OnOk result (AreFrom (IsScript ground.now.posts seats.old.keeper.flag seed) 0 4 parts.new.items) }
 {
     for number in 0..SCRIPTS {

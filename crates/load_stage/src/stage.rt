@@ -1,14 +1,13 @@
 //! All that a load begins with.
 
-ghost use Rattle.std.specs.Prelude.{◌≡◌, ℕ, ◌≤◌, [], length, vec_capacity, IfOk, IfErr};
-ghost use Rattle.load_stage.specs.Drafts.{IsDraft};
+ghost use Rattle.std.specs.Prelude.{◌≡◌, ℕ, ◌≤◌, [], length, drop, vec_capacity, All, IfOk, IfErr};
+ghost use Rattle.run_stage.specs.Dealing.{AreFrom};
+ghost use Rattle.load_stage.specs.Drafts.{CanBegin, HasNotFailed, IsClockedClient, IsClockedWorker, IsDraft};
 ghost use Rattle.load_stage.specs.Stages.{IsStage};
 
-use crate::clients::clocked_clients;
+use crate::clients::{ClientDraft, clocked_clients};
 use crate::drafting::{Draft, Parts, drafted};
-use crate::ground::Ground;
-use crate::seats::Seats;
-use crate::workers::clocked_workers;
+use crate::workers::{WorkerDraft, clocked_workers};
 use gate_outside::clocks::Clock;
 use gate_parts::{ActorPart, Posts, ScriptPart, StartWord};
 use load_parts::{ClientPart, DoorWorker};
@@ -20,15 +19,15 @@ use stop_flag::{StopFlag, StopSeat};
 /// All that a load begins with: what its parts share, and the parts themselves.
 #[derive(Drop)]
 pub struct Stage<C, R: Wait + Copy + Drop> {
-    /// The posts of both actors.
+    /// The posts of the load's two actors.
     pub posts: Posts<R>,
-    /// The word by which all parts begin.
+    /// The word by which the load begins.
     pub word: StartWord,
-    /// The keeper of the stop flag.
+    /// The keeper of the load's stop flag.
     pub keeper: StopFlag,
-    /// The seat of who starts the parts.
+    /// The seat of who starts the load.
     pub seat: StopSeat,
-    /// The parts of both actors.
+    /// The parts of the two actors.
     pub actors: Vec<ActorPart<R>>,
     /// The parts of the four scripts.
     pub scripts: Vec<ScriptPart<R>>,
@@ -55,10 +54,32 @@ fn make_room<C: Drop, R: Wait + Copy + Drop>(alloc: Global) -> Result<Room<C, R>
     Ok(Room { workers, clients })
 }
 
+impl<C: Drop, R: Wait + Copy + Drop> Room<C, R> {
+    // Adds the parts of all workers and clients, with the clocks. It does not allocate.
+    fn add_clocked(
+        &mut self,
+        workers: VecDeque<WorkerDraft<R>>,
+        clients: VecDeque<ClientDraft<R>>,
+        clocks: Vec<C>,
+    )
+        requires workers { (length workers.items ≡ 3) × All CanBegin workers.items }
+        requires clients { (length clients.items ≡ 12) × All HasNotFailed clients.items }
+        requires clocks { length clocks.items ≡ 15 }
+        requires empty { (self.old.workers.items ≡ []) × (self.old.clients.items ≡ []) }
+        requires room { (3 ≤ vec_capacity self.old.workers) × (12 ≤ vec_capacity self.old.clients) }
+        ensures workers { AreFrom (IsClockedWorker workers.items clocks.items) 0 3 self.new.workers.items }
+        ensures clients { AreFrom (IsClockedClient clients.items (drop 3 clocks.items)) 0 12 self.new.clients.items }
+    {
+        let mut left = VecDeque::from(clocks);
+        clocked_workers(workers, &mut left, &mut self.workers);
+        clocked_clients(clients, &mut left, &mut self.clients);
+    }
+}
+
 // Gives the workers and clients their clocks. It does not allocate.
 fn begin<C: Drop, R: Wait + Copy + Drop>(
     draft: Draft<R>,
-    room: Room<C, R>,
+    mut room: Room<C, R>,
     clocks: Vec<C>,
 ) -> Stage<C, R>
     requires draft { (seed : ℕ) × IsDraft seed draft }
@@ -72,27 +93,17 @@ fn begin<C: Drop, R: Wait + Copy + Drop>(
         mut seats,
         parts,
     } = draft;
-    let Ground {
-        rt: _,
-        alloc: _,
-        posts,
-        word,
-    } = ground;
     let Parts {
         actors,
         scripts,
-        workers: worker_drafts,
-        clients: client_drafts,
+        workers,
+        clients,
     } = parts;
-    let Room {
-        mut workers,
-        mut clients,
-    } = room;
-    let mut left = VecDeque::from(clocks);
-    clocked_workers(worker_drafts, &mut left, &mut workers);
-    clocked_clients(client_drafts, &mut left, &mut clients);
+    room.add_clocked(workers, clients, clocks);
+    let Room { workers, clients } = room;
+    let (posts, word) = ground.into_shared();
     let seat = seats.take_next();
-    let Seats { keeper, left: _ } = seats;
+    let keeper = seats.into_keeper();
     Stage {
         posts,
         word,

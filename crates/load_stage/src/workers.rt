@@ -3,22 +3,21 @@
 ghost use Rattle.std.specs.Prelude.{◌≡◌, ◌≤◌, [], length, drop, vec_capacity, All, IfOk, OnOk};
 ghost use Rattle.world_law.specs.Model.{first_worker};
 ghost use Rattle.worker_core.specs.Represents.{Represents};
+ghost use Rattle.run_stage.specs.Dealing.{AreFrom};
+ghost use Rattle.run_stage.specs.Posts.{ArePassesOf};
+ghost use Rattle.run_stage.specs.Seats.{HasSeats};
 ghost use Rattle.load_stage.specs.Bots.{load_bots, worker_url};
-ghost use Rattle.load_stage.specs.Dealing.{AreFrom};
 ghost use Rattle.load_stage.specs.Drafts.{CanBegin, IsWorkerDraft, IsWorkerOf, IsClockedWorker};
-ghost use Rattle.load_stage.specs.Hubs.{guild_ids};
-ghost use Rattle.load_stage.specs.Posts.{ArePassesOf};
-ghost use Rattle.load_stage.specs.Seats.{HasSeats};
+ghost use Rattle.load_stage.specs.Guilds.{guild_ids};
 
 use crate::bots::{bots, worker_url};
-use crate::dealing::take_next;
 use crate::ground::Ground;
-use crate::seats::Seats;
 use edit_post::SendPass;
 use gate_parts::WorkerPart;
 use guild_hub::HubReader;
 use load_client::NameGoal;
 use load_parts::DoorWorker;
+use run_stage::{Seats, take_next};
 use snowflake_id::Snowflake;
 use std::alloc::{AllocError, Global};
 use std::collections::VecDeque;
@@ -49,7 +48,7 @@ pub(crate) struct Served<R: Wait + Copy + Drop> {
     pub readers: VecDeque<Vec<(Snowflake, HubReader)>>,
 }
 
-// The worker with this number, of all bots and guilds.
+// The worker with this number, of all bots and guilds of a load.
 fn worker(alloc: Global, number: u8) -> Result<Worker, AllocError>
     ensures { IfOk result (λ worker. Represents worker (first_worker load_bots guild_ids number (worker_url number))) }
 {
@@ -59,7 +58,7 @@ fn worker(alloc: Global, number: u8) -> Result<Worker, AllocError>
     Worker::new(alloc, number, url, bots, goal.guilds.as_slice())
 }
 
-// The worker with this number and a share of what all parts share.
+// The worker with this number, and its share of what the parts of a load share.
 fn begun<R: Wait + Copy + Drop>(
     ground: &Ground<R>,
     number: u8,
@@ -90,9 +89,9 @@ pub(crate) fn add_workers<R: Wait + Copy + Drop>(
 ) -> Result<(), AllocError>
     requires served { (length served.old.doors.items ≡ 3) × (length served.old.readers.items ≡ 3) }
     requires passes { AreFrom (ArePassesOf ground.now.posts) 4 3 passes.old.items }
-    requires seats { HasSeats 6 16 seats.old }
+    requires seats { HasSeats 22 6 16 seats.old }
     requires none { drafts.old.items ≡ [] }
-    ensures seats { OnOk result (HasSeats 9 13 seats.new × (seats.new.keeper ≡ seats.old.keeper)) }
+    ensures seats { OnOk result (HasSeats 22 9 13 seats.new × (seats.new.keeper ≡ seats.old.keeper)) }
     ensures drafts { OnOk result (AreFrom (IsWorkerDraft ground.now.posts seats.old.keeper.flag served.old.doors.items served.old.readers.items) 0 3 drafts.new.items) }
 {
     for number in 0..WORKERS {
@@ -113,7 +112,7 @@ pub(crate) fn add_workers<R: Wait + Copy + Drop>(
     Ok(())
 }
 
-// The part of a worker. It does not allocate.
+// The part of a worker that gets this clock. It does not allocate.
 fn worker_part<C: Drop, R: Wait + Copy + Drop>(draft: WorkerDraft<R>, clock: C) -> DoorWorker<C, R>
     requires { CanBegin draft }
     ensures made { IsWorkerOf draft result }

@@ -1,20 +1,11 @@
 -- What parts have left, part by part.
-use Rattle.std.proofs.Common.{◌≡◌, ℕ, zero, suc, ◌≤◌, List, [], ◌∷◌, ◌++◌, map, flat_map, drop, length, refl, sym, ap, ◌∙◌, arith, append_assoc, append-nil}
-use Rattle.std.proofs.lemmas.List.{map-append}
-use Rattle.std.proofs.lemmas.List.Concat.{flat_map-append}
+use Rattle.std.proofs.Common.{List, [], ◌++◌, sym, append-nil}
 use Rattle.serve_parts.specs.declared.serve_part.ServeDone.{ServeDone}
 use Rattle.serve_parts.specs.Kinds.{actor_of, script_of, worker_of}
-use Rattle.serve_ends.specs.declared.ends.Returned.{Returned}
+use Rattle.gate_ends.specs.Done.{worker_end}
+use Rattle.gate_ends.proofs.Added.{one_more, one_more_of}
 use Rattle.serve_ends.specs.declared.ends.Ends.{Ends}
-use Rattle.serve_ends.specs.Sorted.{file_end, worker_end, source_of, door_of, clock_of, GivesBack, Sorts}
-
-one_more : {T X : Type 0} (g : T → List X) (xs ys : List T) (old mid new : List X) → mid ≡ old ++ flat_map g xs → new ≡ mid ++ flat_map g ys → new ≡ old ++ flat_map g (xs ++ ys)
-one_more g xs ys old mid new a b = b ∙ ap (λ l. l ++ flat_map g ys) a ∙ append_assoc old (flat_map g xs) (flat_map g ys) ∙ ap (λ l. old ++ l) (sym (flat_map-append g xs ys))
-
-one_more_of : {T X Y : Type 0} (f : X → Y) (g : T → List X) (xs ys : List T) (old mid new : List Y) → mid ≡ old ++ map f (flat_map g xs) → new ≡ mid ++ map f (flat_map g ys) → new ≡ old ++ map f (flat_map g (xs ++ ys))
-one_more_of f g xs ys old mid new a b =
-    b ∙ ap (λ l. l ++ map f (flat_map g ys)) a ∙ append_assoc old (map f (flat_map g xs)) (map f (flat_map g ys))
-    ∙ ap (λ l. old ++ l) (sym (ap (map f) (flat_map-append g xs ys) ∙ map-append f (flat_map g xs) (flat_map g ys)))
+use Rattle.serve_ends.specs.Sorted.{file_end, source_of, door_of, clock_of, Sorts}
 
 module _ {S D C R : Type 0} where
   pub sorts_none : (e : Ends S D C R) → Sorts [] e e
@@ -40,10 +31,3 @@ module _ {S D C R : Type 0} where
       clocks_are = one_more clock_of xs ys old.returned.clocks.items mid.returned.clocks.items new.returned.clocks.items a.back.clocks_are b.back.clocks_are;
     };
   }
-
--- nothing is left past the end
-pub drop_end : {T : Type 0} (xs : List T) (i : ℕ) → length xs ≤ i → drop i xs ≡ []
-drop_end [] zero le = refl
-drop_end [] (suc i) le = refl
-drop_end (x ∷ xs) zero le = absurd (omega (arith, le))
-drop_end (x ∷ xs) (suc i) le = drop_end xs i (omega (arith, le))

@@ -1,13 +1,7 @@
-pub mod Zips
-pub mod Popped
 pub mod Added
 pub mod Ranks
-pub mod Places
 pub mod Ascending
-pub mod Writers
-pub mod Sealed
 pub mod Sendings
 pub mod Workers
-pub mod Actors
 pub mod SettledLogs
 pub mod Written

@@ -1,16 +1,14 @@
 -- The lines of a run, line by line.
-use Rattle.std.proofs.Common.{◌≡◌, ℕ, zero, suc, ◌+◌, List, [], ◌∷◌, ◌++◌, flat_map, Option, Some, None, refl, sym, ap, ◌∙◌, arith, append_assoc, append-nil, add-zero, add-one}
+use Rattle.std.proofs.Common.{◌≡◌, ℕ, zero, suc, ◌+◌, List, [], ◌++◌, flat_map, Option, sym, ap, ◌∙◌, arith, append_assoc, append-nil, add-zero, add-one}
 use Rattle.std.specs.Prelude.{option_map, slice_get}
 use Rattle.std.specs.Option.{option_map_or}
 use Rattle.std.specs.List.{range_with_len}
-use Rattle.std.proofs.lemmas.Option.{none-some}
 use Rattle.collections.specs.ById.{IsById, count_below, with_id}
 use Rattle.collections.proofs.Ids.{find_at_place}
 use Rattle.guild_hub.specs.Logs.{Published}
-use Rattle.load_settle.specs.Readers.{log_under}
 use Rattle.log_summary.specs.Summary.{guild_text}
+use Rattle.gate_ends.proofs.Writers.{Log, guild_of}
 use Rattle.serve_ends.specs.Lines.{worker_line, worker_lines, line_of}
-use Rattle.serve_ends.proofs.Writers.{Log, guild_of}
 
 one_more_of : {X : Type 0} (f : ℕ → List X) (k n : ℕ) → flat_map f (range_with_len k (suc n)) ≡ flat_map f (range_with_len k n) ++ f (k + n)
 one_more_of f k zero = append-nil (f k) ∙ ap f (sym (add-zero k))

@@ -1,5 +1,5 @@
 -- By which fault a part of `serve` has ended, and which of several faults a run answers.
-use Rattle.std.specs.Prelude.{ℕ, ◌+◌, Bool, true, false, List, [], ◌∷◌, ◌++◌, map, nat_lt, if◌then◌else◌, Option, Some, None, Result, Ok, Err}
+use Rattle.std.specs.Prelude.{ℕ, ◌+◌, Bool, true, false, List, [], ◌∷◌, ◌++◌, map, Option, Some, None, Result, Ok, Err}
 use Rattle.std.specs.List.{fold}
 use Rattle.std.specs.declared.alloc.AllocError.{AllocError}
 use Rattle.gate_outside.specs.declared.faults.Fault.{Fault}
@@ -11,8 +11,9 @@ use Rattle.worker_run.specs.declared.fault.WorkFault.TheVariants as work
 use Rattle.gate_parts.specs.declared.actor_part.ActorDone.{ActorDone}
 use Rattle.gate_parts.specs.declared.ending.Ending.{Ending}
 use Rattle.gate_parts.specs.declared.ending.Ending.TheVariants.{Ran, Stopped}
-use Rattle.serve_ends.specs.declared.ending.FileEnd.{FileEnd}
-use Rattle.serve_ends.specs.declared.ending.WorkerEnd.{WorkerEnd}
+use Rattle.gate_ends.specs.Ranks.{sooner_by}
+use Rattle.gate_ends.specs.declared.ending.WorkerEnd.{WorkerEnd}
+use Rattle.serve_ends.specs.Files.{FileEnd}
 use Rattle.serve_ends.specs.declared.fault.ServeFault.{ServeFault}
 use Rattle.serve_ends.specs.declared.fault.ServeFault.TheVariants.{Memory, Spent, Start, Door, Read, Line, Write}
 
@@ -50,9 +51,7 @@ rank (Line file line fault) = 5
 rank Write = 6
 
 abbrev pub sooner : Option ServeFault → Option ServeFault → Option ServeFault
-sooner None other = other
-sooner (Some one) None = Some one
-sooner (Some one) (Some other) = if nat_lt (rank other) (rank one) then Some other else Some one
+sooner = sooner_by rank
 
 -- without a start of all parts
 abbrev pub start_fault : Bool → Option ServeFault

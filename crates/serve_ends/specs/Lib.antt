@@ -1,7 +1,7 @@
+pub mod Files
 pub mod Faults
 pub mod Sorted
 pub mod Services
 pub mod Ends
-pub mod Done
 pub mod Lines
 pub mod Served

@@ -1,16 +1,14 @@
 -- The ended parts of a run of `serve`, by their kinds.
 use Rattle.std.specs.Prelude.{◌≡◌, ℕ, ◌+◌, ◌≤◌, List, [], ◌∷◌, ◌++◌, map, flat_map}
 use Rattle.std.specs.Vec.{vec_len, vec_capacity}
-use Rattle.thread_outside.specs.declared.quiet_notes.QuietNotes.{QuietNotes}
-use Rattle.gate_parts.specs.declared.worker_part.WorkerDone.{WorkerDone}
 use Rattle.serve_parts.specs.declared.file_part.FileDone.{FileDone}
 use Rattle.serve_parts.specs.declared.serve_part.ServePart.{ServePart}
 use Rattle.serve_parts.specs.declared.serve_part.ServePart.TheVariants as part
 use Rattle.serve_parts.specs.declared.serve_part.ServeDone.{ServeDone}
 use Rattle.serve_parts.specs.declared.serve_part.ServeDone.TheVariants as done
 use Rattle.serve_parts.specs.Kinds.{actor_of, script_of, worker_of}
-use Rattle.serve_ends.specs.declared.ending.FileEnd.{FileEnd}
-use Rattle.serve_ends.specs.declared.ending.WorkerEnd.{WorkerEnd}
+use Rattle.gate_ends.specs.Done.{worker_end}
+use Rattle.serve_ends.specs.Files.{FileEnd}
 use Rattle.serve_ends.specs.declared.ends.Returned.{Returned}
 use Rattle.serve_ends.specs.declared.ends.Ends.{Ends}
 
@@ -18,11 +16,6 @@ module _ {S : Type 0} where
   -- a script without its source
   abbrev pub file_end : FileDone S → FileEnd
   file_end d = record { ending = d.ending; passes = d.passes }
-
-module _ {D C : Type 0} where
-  -- a worker without its door and its clock
-  abbrev pub worker_end : WorkerDone D C QuietNotes → WorkerEnd
-  worker_end d = record { ending = d.ending; readers = d.readers; passes = d.passes }
 
 module _ {S D C R : Type 0} where
   -- what goes back of a part that has ended

@@ -3,10 +3,14 @@
 ghost use Rattle.std.specs.Prelude.{◌≡◌, ◌≤◌, [], IfOk};
 ghost use Rattle.serve_ends.specs.Sorted.{HasRoom, IsEmpty, IsBare, HasSpace};
 
-use crate::ending::{FileEnd, WorkerEnd};
+use file_script::ScriptFault;
+use gate_ends::{ScriptEnd, WorkerEnd};
 use gate_parts::ActorDone;
 use std::alloc::{AllocError, Global};
 use std::sync::Wait;
+
+/// A script that has ended, without its source.
+pub type FileEnd = ScriptEnd<ScriptFault>;
 
 /// What goes back to the house.
 #[derive(Drop)]

@@ -4,9 +4,10 @@ ghost use Rattle.std.specs.Prelude.{◌≡◌, ◌≤◌, length, map};
 ghost use Rattle.std.specs.List.{fold};
 ghost use Rattle.serve_ends.specs.Faults.{actor_fault, script_fault, worker_fault, actor_faults, script_faults, worker_faults, sooner, rank, start_fault, first_fault};
 
-use crate::ending::{FileEnd, WorkerEnd};
+use crate::ends::FileEnd;
 use crate::fault::ServeFault;
 use file_script::ScriptFault;
+use gate_ends::WorkerEnd;
 use gate_parts::{ActorDone, Ending};
 use guild_actor::ActReport;
 use std::alloc::AllocError;

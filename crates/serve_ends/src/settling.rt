@@ -7,50 +7,32 @@ ghost use Rattle.serve_ends.specs.Served.{IsSettled, IsServed};
 ghost use Rattle.serve_ends.specs.Lines.{guild_lines, strays_line};
 ghost use Rattle.collections.specs.ById.{IsById};
 
-use crate::ending::{FileEnd, WorkerEnd};
 use crate::lines::{add_guilds, add_strays};
-use crate::passes::{Left, reports_of};
 use edit_post::Post;
-use gate_parts::ActorDone;
+use file_script::ScriptFault;
+use gate_ends::{Left, Senders};
 use run_ends::{Settled, settle};
 use snowflake_id::Snowflake;
 use std::alloc::{AllocError, Global};
 use std::sync::Wait;
 
-/// What the parts of a run have left.
-#[derive(Drop)]
-pub struct Senders<R: Wait + Drop> {
-    /// The actors.
-    pub actors: Vec<ActorDone<R>>,
-    /// The scripts.
-    pub scripts: Vec<FileEnd>,
-    /// The workers.
-    pub workers: Vec<WorkerEnd>,
-}
-
 // Settles what the actors, the scripts and the workers have left.
 fn settle_senders<R: Wait + Drop>(
     alloc: Global,
     posts: &[Post<R>],
-    senders: Senders<R>,
+    senders: Senders<R, ScriptFault>,
 ) -> Result<Settled<R>, AllocError>
     requires { (s : Service) × Joined s posts.now senders.actors.items senders.scripts.items senders.workers.items }
     ensures settled { IfOk result (λ settled. (s : Service) → Joined s posts.now senders.actors.items senders.scripts.items senders.workers.items → IsSettled s settled.logs.items settled.strays) }
     ensures ascending { IfOk result (λ settled. IsById (λ log. log.0) settled.logs.items) }
 {
-    let Senders {
-        actors,
-        scripts,
-        workers,
-    } = senders;
-    let (first, second) = reports_of(actors)?;
-    let mut left = Left {
-        passes: Vec::new(alloc),
-        readers: Vec::new(alloc),
-    };
-    left.add_scripts(scripts)?;
-    left.add_workers(workers)?;
-    let Left { passes, readers } = left;
+    let left = senders.gather(alloc)?;
+    let Left {
+        first,
+        second,
+        passes,
+        readers,
+    } = left;
     settle(alloc, posts, first, second, passes, readers)
 }
 
@@ -78,7 +60,7 @@ pub fn sum_up<R: Wait + Drop>(
     alloc: Global,
     guilds: &[Snowflake],
     posts: &[Post<R>],
-    senders: Senders<R>,
+    senders: Senders<R, ScriptFault>,
 ) -> Result<String, AllocError>
     requires { (s : Service) × Joined s posts.now senders.actors.items senders.scripts.items senders.workers.items }
     ensures { IfOk result (λ text. (s : Service) → s.guilds ≡ guilds.now → Joined s posts.now senders.actors.items senders.scripts.items senders.workers.items → IsServed s (string_bytes text)) }

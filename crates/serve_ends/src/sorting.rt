@@ -4,9 +4,8 @@ ghost use Rattle.std.specs.Prelude.{◌≡◌, ◌+◌, ◌≤◌, ◌++◌, ◌
 ghost use Rattle.serve_ends.specs.Sorted.{HasRoom, HasSpace, Sorts, GivesBack, source_of_part, door_of_part, clock_of_part};
 ghost use Rattle.serve_parts.specs.declared.serve_part.ServeDone.TheVariants.{Script, Worker};
 
-use crate::ending::{FileEnd, WorkerEnd};
 use crate::ends::{Ends, Returned};
-use gate_parts::WorkerDone;
+use gate_ends::{ScriptEnd, WorkerEnd};
 use serve_parts::{DoorDone, FileDone, ServeDone, ServePart};
 use std::sync::Wait;
 use team_run::add;
@@ -26,7 +25,7 @@ impl<S: Drop, D: Drop, C: Drop, R: Wait + Copy + Drop> Ends<S, D, C, R> {
         } = done;
         drop(seat);
         add(&mut self.returned.sources, source);
-        add(&mut self.scripts, FileEnd { ending, passes });
+        add(&mut self.scripts, ScriptEnd { ending, passes });
     }
 
     // Adds what a worker has left.
@@ -35,24 +34,9 @@ impl<S: Drop, D: Drop, C: Drop, R: Wait + Copy + Drop> Ends<S, D, C, R> {
         ensures sorts { Sorts (Worker done ∷ []) self.old self.new }
         ensures room { (more : ℕ) → HasRoom (more + 1) self.old → HasRoom more self.new }
     {
-        let WorkerDone {
-            ending,
-            door,
-            clock,
-            readers,
-            passes,
-            notes,
-            seat,
-        } = done;
-        drop(notes);
-        drop(seat);
+        let (end, door, clock) = WorkerEnd::of(done);
         add(&mut self.returned.doors, door);
         add(&mut self.returned.clocks, clock);
-        let end = WorkerEnd {
-            ending,
-            readers,
-            passes,
-        };
         add(&mut self.workers, end);
     }
 

@@ -21,16 +21,11 @@ use Rattle.serve_stage.specs.declared.lent.Lent.{Lent}
 use Rattle.serve_run.specs.Causes.{HasServeCause, StartsParts}
 use Rattle.serve_run.specs.Lent.{TellsLent, ReturnsAll}
 use Rattle.serve_run.specs.Serves.{Serves}
+use Rattle.gate_ends.proofs.Zips.{many_zip}
 use Rattle.serve_house.specs.Begun.{AreBegun}
 use Rattle.serve_house.specs.Parts.{AreAlike, AreNew, ServesOrNot, loans_of}
 use Rattle.serve_house.specs.Serving.{SinkTale, TeamTale}
 use Rattle.serve_house.proofs.Told.{failed_reads, told_all, tales_by}
-
-many_zip : {A B : Type 0} (R : A → B → Type 0) (xs : List A) (ys : List B) → AllZip R xs ys → length ys ≡ length xs
-many_zip R [] [] h = refl
-many_zip R [] (y ∷ ys) h = absurd h
-many_zip R (x ∷ xs) [] h = absurd h
-many_zip R (x ∷ xs) (y ∷ ys) h = ap suc (many_zip R xs ys h.1)
 
 -- as many files as sources whose heads were read
 pub many_read : {S : Type 0} (left : S → Known (List ℕ)) (faults : S → ℕ) (sources : List S) (files : List (ScriptFile S)) (bots : List ABot) (guilds : List ℕ)

@@ -1,6 +1,6 @@
 -- How the parts of a run have ended, from what was set up and what they gave.
-use Rattle.std.proofs.Common.{◌≡◌, ℕ, ◌+◌, Bool, true, List, [], ◌++◌, map, flat_map, length, Option, None, refl, sym, ap, ◌∙◌, subst, append-nil}
-use Rattle.std.proofs.lemmas.List.{length-map, nil_from_length}
+use Rattle.std.proofs.Common.{◌≡◌, ℕ, ◌+◌, Bool, true, List, [], ◌++◌, map, flat_map, length, Option, None, sym, ap, ◌∙◌, subst, append-nil}
+use Rattle.std.proofs.lemmas.List.{length-map}
 use Rattle.std.specs.List.{All, AllZip}
 use Rattle.std.specs.declared.option.Option.{Option as Known}
 use Rattle.edit_post.specs.Post.{PostId}
@@ -20,18 +20,21 @@ use Rattle.serve_stage.specs.Parts.{IsActor, IsScript, IsWorker}
 use Rattle.serve_stage.specs.Stages.{IsStage, senders_of}
 use Rattle.serve_stage.specs.declared.lent.Lent.{Lent}
 use Rattle.serve_stage.specs.declared.stage.Stage.{Stage}
-use Rattle.serve_ends.specs.Ends.{ActorEnds, FileEnds, WorkerEnds, Joined}
+use Rattle.serve_ends.specs.Ends.{FileEnds, WorkerEnds, Joined}
 use Rattle.serve_ends.specs.Faults.{first_fault}
-use Rattle.serve_ends.specs.Services.{Service, HasHead, service, ascending}
-use Rattle.serve_ends.specs.Sorted.{IsEmpty, Sorts, file_end, worker_end, source_of, door_of}
-use Rattle.serve_ends.specs.declared.ending.FileEnd.{FileEnd}
-use Rattle.serve_ends.specs.declared.ending.WorkerEnd.{WorkerEnd}
+use Rattle.serve_ends.specs.Services.{Service, HasHead, service, ascending, senders}
+use Rattle.serve_ends.specs.Sorted.{IsEmpty, Sorts, file_end}
+use Rattle.serve_ends.specs.Files.{FileEnd}
 use Rattle.serve_ends.specs.declared.ends.Ends.{Ends}
 use Rattle.serve_ends.specs.declared.fault.ServeFault.{ServeFault}
+use Rattle.gate_ends.specs.Done.{worker_end}
+use Rattle.gate_ends.specs.Ends.{ActorEnds}
+use Rattle.gate_ends.specs.declared.ending.WorkerEnd.{WorkerEnd}
+use Rattle.gate_ends.proofs.Zips.{many_zip}
 use Rattle.serve_run.specs.Causes.{ShowsFault}
 use Rattle.serve_run.specs.Ended.{EndsSo, MayHave}
 use Rattle.serve_run.specs.Lent.{IsStageOf, TellsLent}
-use Rattle.serve_run.proofs.Counting.{two_actors, all_scripts, all_workers, as_given}
+use Rattle.serve_run.proofs.Counting.{two_actors, all_scripts, all_workers}
 use Rattle.serve_run.proofs.Failing.{shows}
 use Rattle.serve_run.proofs.Fronts.{ZipFront, ByKind, front_zip, kinds, numbered, numbered_map, all_numbered}
 use Rattle.serve_run.proofs.Told.{many_files, many_doors, one_actor, one_script, one_worker, head_of}
@@ -45,7 +48,7 @@ joined s posts started actors scripts workers fault e all =
       two = e.two;
       writers = e.writers;
       writers_are = e.writers_are;
-      actors_are = all_numbered (ActorEnds s posts e.writers) 0 2 actors e.actors_are many.0;
+      actors_are = all_numbered (ActorEnds posts e.writers (senders s)) 0 2 actors e.actors_are many.0;
       scripts_are = all_numbered (FileEnds s posts) 0 (length s.files) scripts e.scripts_are many.1.0;
       workers_are = all_numbered (WorkerEnds s posts e.writers) 0 (length s.doors) workers e.workers_are many.1.1;
     }
@@ -115,12 +118,12 @@ module _ {S D C R : Type 0} (left : S → Known (List ℕ)) (faults : S → ℕ)
         let every = parts ∙ ap (λ l. front ++ l) (all every_one) ∙ append-nil front in
         let each = by_kind left faults door_tale door_faults clock_tale stage.actors.items stage.scripts.items stage.workers.items dones
         (subst (λ l. AllZip (ServeGives left faults door_tale door_faults clock_tale) l dones) (sym every) gave) in (
-          as_given ActorGives stage.actors.items (flat_map actor_of dones) each.actors_gave ∙ two_actors of.port of.bots (ascending of.guilds) of.lent stage of.stage_is,
+          many_zip ActorGives stage.actors.items (flat_map actor_of dones) each.actors_gave ∙ two_actors of.port of.bots (ascending of.guilds) of.lent stage of.stage_is,
           (
-            length-map (flat_map script_of dones) file_end ∙ as_given (FileGives left faults) stage.scripts.items (flat_map script_of dones) each.scripts_gave
+            length-map (flat_map script_of dones) file_end ∙ many_zip (FileGives left faults) stage.scripts.items (flat_map script_of dones) each.scripts_gave
                 ∙ all_scripts of.port of.bots (ascending of.guilds) of.lent stage of.stage_is
                 ∙ sym (many_files left faults door_tale door_faults clock_tale of.port of.bots of.guilds of.tells.heads of.lent of.tells.alike),
-            length-map (flat_map worker_of dones) worker_end ∙ as_given (DoorPartGives door_tale door_faults clock_tale) stage.workers.items (flat_map worker_of dones) each.workers_gave
+            length-map (flat_map worker_of dones) worker_end ∙ many_zip (DoorPartGives door_tale door_faults clock_tale) stage.workers.items (flat_map worker_of dones) each.workers_gave
                 ∙ all_workers of.port of.bots (ascending of.guilds) of.lent stage of.stage_is
                 ∙ sym (many_doors left faults door_tale door_faults clock_tale of.port of.bots of.guilds of.tells.heads of.lent of.tells.alike),
           ),
@@ -134,7 +137,7 @@ module _ {S D C R : Type 0} (left : S → Known (List ℕ)) (faults : S → ℕ)
           two = is.two_posts;
           writers = is.writers;
           writers_are = is.new_writers;
-          actors_are = numbered (IsActor stage.posts (senders_of of.lent) is.writers) ActorGives (ActorEnds its stage.posts is.writers)
+          actors_are = numbered (IsActor stage.posts (senders_of of.lent) is.writers) ActorGives (ActorEnds stage.posts is.writers (senders its))
               (one_actor left faults door_tale door_faults clock_tale of.port of.bots of.guilds of.tells.heads of.lent of.tells.alike stage.posts is.writers)
               0 2 stage.actors.items (flat_map actor_of dones) is.actors_are by.of_actors;
           scripts_are = numbered_map file_end (FileEnds its stage.posts) 0 (flat_map script_of dones)

@@ -1,10 +1,8 @@
 -- How many parts a run has, and what goes back of them.
-use Rattle.std.proofs.Common.{◌≡◌, ℕ, zero, suc, ◌+◌, ◌<◌, ◌≤◌, ◌==◌, Bool, true, false, List, [], ◌∷◌, ◌++◌, map, flat_map, length, refl, sym, ap, ap₂, ◌∙◌, subst, arith, append-nil}
+use Rattle.std.proofs.Common.{◌≡◌, ℕ, ◌+◌, ◌≤◌, List, [], ◌∷◌, ◌++◌, map, flat_map, length, refl, sym, ap, ap₂, ◌∙◌, arith, append-nil}
 use Rattle.std.specs.List.{AllZip}
 use Rattle.std.specs.declared.option.Option.{Option}
-use Rattle.std.proofs.lemmas.Bool.{eqb-true, true≢false}
-use Rattle.std.proofs.lemmas.List.{length-append, length-map, nil_from_length}
-use Rattle.std.proofs.lemmas.List.Concat.{flat_map-append}
+use Rattle.std.proofs.lemmas.List.{length-append, length-map}
 use Rattle.gate_outside.specs.Clocks.{ClockTale}
 use Rattle.gate_outside.specs.Doors.{DoorTale}
 use Rattle.thread_outside.specs.declared.quiet_notes.QuietNotes.{QuietNotes}
@@ -20,42 +18,16 @@ use Rattle.serve_parts.specs.declared.serve_part.ServePart.{ServePart}
 use Rattle.serve_parts.specs.declared.serve_part.ServePart.TheVariants as part
 use Rattle.serve_parts.specs.declared.serve_part.ServeDone.{ServeDone}
 use Rattle.serve_parts.specs.declared.serve_part.ServeDone.TheVariants as done
-use Rattle.serve_parts.proofs.OneKind.{other}
+use Rattle.load_parts.proofs.OneKind.{other}
 use Rattle.serve_stage.specs.Parts.{IsActor, IsScript, IsWorker}
 use Rattle.serve_stage.specs.Stages.{AreLent, IsStage, senders_of}
 use Rattle.serve_stage.specs.declared.lent.Lent.{Lent}
 use Rattle.serve_stage.specs.declared.stage.Stage.{Stage}
 use Rattle.serve_ends.specs.Sorted.{HasRoom, IsEmpty, Sorts, source_of, door_of, clock_of, source_of_part, door_of_part, clock_of_part}
 use Rattle.serve_ends.specs.declared.ends.Ends.{Ends}
+use Rattle.gate_ends.proofs.Counts.{each_one, goes_back}
+use Rattle.gate_ends.proofs.Zips.{many_zip}
 use Rattle.serve_run.specs.Lent.{ReturnsAll}
-
--- one item for each of a kind
-each_one : {E T X : Type 0} (made : E → T) (of : T → List X) → ((e : E) → length (of (made e)) ≡ 1) → (es : List E) (later : List T)
-    → length (flat_map of (map made es ++ later)) ≡ length es + length (flat_map of later)
-each_one made of one [] later = omega (arith)
-each_one made of one (e ∷ es) later =
-    let here = length-append (of (made e)) (flat_map of (map made es ++ later)) in
-    let first = one e in
-    let more = each_one made of one es later in
-    omega (arith, here, first, more)
-
--- what parts had goes back, whether they were started or not
-module _ {T D X : Type 0} (G : T → D → Type 0) (g : T → List X) (h : D → List X) (same : (p : T) (d : D) → G p d → length (h d) ≡ length (g p)) where
-  same_many : (ps : List T) (ds : List D) → AllZip G ps ds → length (flat_map h ds) ≡ length (flat_map g ps)
-  same_many [] [] z = refl
-  same_many [] (d ∷ ds) z = elim z [ ]
-  same_many (p ∷ ps) [] z = elim z [ ]
-  same_many (p ∷ ps) (d ∷ ds) z =
-      length-append (h d) (flat_map h ds) ∙ ap₂ (λ (a b : ℕ). a + b) (same p d z.0) (same_many ps ds z.1) ∙ sym (length-append (g p) (flat_map g ps))
-
-  pub goes_back : (front back : List T) (ds : List D) (none kept all : List X) → AllZip G front ds → none ≡ [] → length kept ≡ length none + length (flat_map g back) → all ≡ kept ++ flat_map h ds
-      → length all ≡ length (flat_map g (front ++ back))
-  goes_back front back ds none kept all z empty added is =
-      let whole = ap length is ∙ length-append kept (flat_map h ds) in
-      let zero_items : length none ≡ 0 = ap length empty in
-      let given = same_many front ds z in
-      let parted = ap length (flat_map-append g front back) ∙ length-append (flat_map g front) (flat_map g back) in
-      omega (arith, whole, zero_items, added, given, parted)
 
 module _ {S D C R : Type 0} (left : S → Option (List ℕ)) (faults : S → ℕ) (door_tale : D → DoorTale) (door_faults : D → ℕ) (clock_tale : C → ClockTale) where
   abbrev Gives : ServePart S D C R → ServeDone S D C R → Type 0
@@ -202,19 +174,12 @@ module _ {S D C R : Type 0} where
   most_scripts (done.Script d ∷ ds) = let more = most_scripts ds in omega (arith, more)
   most_scripts (done.Worker d ∷ ds) = let more = most_scripts ds in omega (arith, more)
 
--- as many as those that gave them
-pub as_given : {A B : Type 0} (G : A → B → Type 0) (xs : List A) (ys : List B) → AllZip G xs ys → length ys ≡ length xs
-as_given G [] [] z = refl
-as_given G [] (y ∷ ys) z = elim z [ ]
-as_given G (x ∷ xs) [] z = elim z [ ]
-as_given G (x ∷ xs) (y ∷ ys) z = ap suc (as_given G xs ys z.1)
-
 -- as many as there were tasks have ended or come back
 pub all_ended : {T H D : Type 0} (task_of : H → T) (G : T → D → Type 0) (tasks : List T) (started : List H) (back : List T) (dones : List D) → tasks ≡ map task_of started ++ back → AllZip G (map task_of started) dones
     → length dones + length back ≡ length tasks
 all_ended task_of G tasks started back dones parts gave =
     let all = ap length parts ∙ length-append (map task_of started) back in
-    let same = as_given G (map task_of started) dones gave in
+    let same = many_zip G (map task_of started) dones gave in
     omega (arith, all, same)
 
 -- and no more than these were started
@@ -223,12 +188,3 @@ fewer_started task_of tasks started back parts =
     let all = ap length parts ∙ length-append (map task_of started) back in
     let same = length-map started task_of in
     omega (arith, all, same)
-
--- ---- whether all were started
-
-pub none_back : (n : ℕ) → (n == 0) ≡ true → n ≡ 0
-none_back n e = eqb-true n 0 e
-
-pub some_back : (n : ℕ) → (n == 0) ≡ false → 0 < n
-some_back zero e = absurd (true≢false e)
-some_back (suc n) e = omega (arith)

@@ -1,26 +1,21 @@
 -- A door or a source that failed goes back with its count of faults.
-use Rattle.std.proofs.Common.{◌≡◌, ◌⊎◌, ⊎_elim, ℕ, zero, suc, ◌+◌, ◌<◌, Bool, List, [], ◌∷◌, ◌++◌, map, flat_map, Option, Some, None, Result, Ok, Err, inl, inr, refl, sym, ap, ◌∙◌, subst, arith}
+use Rattle.std.proofs.Common.{◌≡◌, ◌⊎◌, ⊎_elim, ℕ, zero, suc, ◌+◌, ◌<◌, Bool, List, [], ◌∷◌, ◌++◌, map, flat_map, Option, Some, None, Result, Ok, Err, inl, inr, refl, sym, ap, subst, arith}
 use Rattle.std.proofs.lemmas.List.{map-append}
-use Rattle.std.proofs.lemmas.Option.{none-some}
-use Rattle.std.specs.List.{fold}
 use Rattle.gate_outside.specs.Causes.{Rose}
 use Rattle.gate_outside.specs.Clocks.{ClockTale}
 use Rattle.gate_outside.specs.Doors.{DoorTale}
 use Rattle.thread_outside.specs.declared.quiet_notes.QuietNotes.{QuietNotes}
 use Rattle.edit_text.specs.declared.line.Line.{Line as ALine}
-use Rattle.file_script.specs.Reads.{ReadCause}
 use Rattle.file_script.specs.Sends.{SendCause}
 use Rattle.file_script.specs.declared.fault.ScriptFault.{ScriptFault}
 use Rattle.file_script.specs.declared.fault.ScriptFault.TheVariants as script
-use Rattle.worker_core.specs.InCode.{KeptWorker}
-use Rattle.worker_run.specs.Works.{Outside}
 use Rattle.worker_run.specs.declared.fault.WorkFault.{WorkFault}
 use Rattle.worker_run.specs.declared.fault.WorkFault.TheVariants as work
 use Rattle.worker_run.specs.declared.report.WorkReport.{WorkReport}
 use Rattle.gate_parts.specs.Workers.{WorksOrStops, outside_before, outside_after}
 use Rattle.gate_parts.specs.declared.actor_part.ActorDone.{ActorDone}
 use Rattle.gate_parts.specs.declared.ending.Ending.{Ending}
-use Rattle.gate_parts.specs.declared.ending.Ending.TheVariants.{Ran, Stopped}
+use Rattle.gate_parts.specs.declared.ending.Ending.TheVariants.{Ran}
 use Rattle.gate_parts.specs.declared.worker_part.WorkerPart.{WorkerPart}
 use Rattle.gate_parts.specs.declared.worker_part.WorkerDone.{WorkerDone}
 use Rattle.run_stage.specs.Dealing.{AreFrom}
@@ -31,13 +26,15 @@ use Rattle.serve_parts.specs.declared.file_part.FilePart.{FilePart}
 use Rattle.serve_parts.specs.declared.file_part.FileDone.{FileDone}
 use Rattle.serve_parts.specs.declared.serve_part.ServeDone.{ServeDone}
 use Rattle.serve_parts.specs.declared.serve_part.ServeDone.TheVariants as done
-use Rattle.serve_ends.specs.Faults.{actor_faults, script_faults, worker_faults, first_fault, worker_fault, start_fault}
-use Rattle.serve_ends.specs.Sorted.{file_end, worker_end, source_of, door_of}
-use Rattle.serve_ends.specs.declared.ending.FileEnd.{FileEnd}
-use Rattle.serve_ends.specs.declared.ending.WorkerEnd.{WorkerEnd}
+use Rattle.serve_ends.specs.Faults.{actor_faults, script_faults, worker_faults, first_fault, rank, start_fault}
+use Rattle.serve_ends.specs.Sorted.{file_end, source_of, door_of}
+use Rattle.serve_ends.specs.Files.{FileEnd}
 use Rattle.serve_ends.specs.declared.fault.ServeFault.{ServeFault}
 use Rattle.serve_ends.specs.declared.fault.ServeFault.TheVariants.{Memory, Spent, Start, Door, Read, Line, Write}
-use Rattle.serve_ends.proofs.Ranks.{AnyIs, ScriptFaultOf, first_is, is_start, of_actor, of_script, of_worker}
+use Rattle.serve_ends.proofs.Ranks.{ScriptFaultOf, is_start, of_actor, of_script, of_worker}
+use Rattle.gate_ends.specs.Done.{worker_end}
+use Rattle.gate_ends.specs.declared.ending.WorkerEnd.{WorkerEnd}
+use Rattle.gate_ends.proofs.Ranks.{AnyIs, first_is}
 use Rattle.serve_run.specs.Causes.{HasFailed, ShowsFault}
 use Rattle.serve_run.proofs.Fronts.{ZipFront}
 use Rattle.serve_run.proofs.Ranking.{any_of}
@@ -113,7 +110,7 @@ no_worker (e ∷ es) (inr h) = no_worker es h
 
 module _ {R : Type 0} (started : Bool) (actors : List (ActorDone R)) (scripts : List FileEnd) (workers : List WorkerEnd) where
   parts_any : (f : ServeFault) → (f ≡ Start → ⊥) → first_fault started actors scripts workers ≡ Some f → AnyIs f (actor_faults actors ++ (script_faults 1 scripts ++ worker_faults workers))
-  parts_any f other e = ⊎_elim (λ s. absurd (other (is_start started f s).1)) (λ any. any) (first_is (start_fault started) (actor_faults actors ++ (script_faults 1 scripts ++ worker_faults workers)) f e)
+  parts_any f other e = ⊎_elim (λ s. absurd (other (is_start started f s).1)) (λ any. any) (first_is rank (start_fault started) (actor_faults actors ++ (script_faults 1 scripts ++ worker_faults workers)) f e)
 
   pub of_doors : first_fault started actors scripts workers ≡ Some Door → AnyIs Door (worker_faults workers)
   of_doors e =

@@ -1,5 +1,5 @@
 -- What went out of the texts of a run, and which fault it answers.
-use Rattle.std.proofs.Common.{◌≡◌, ◌⊎◌, ⊎_elim, ℕ, Bool, true, false, List, [], ◌++◌, length, map, String, string_bytes, Some, None, Result, Ok, Err, IfOk, OnOk, OnErr, inl, inr, refl, sym, ap, ◌∙◌, subst, append_assoc, append-nil}
+use Rattle.std.proofs.Common.{◌≡◌, ◌⊎◌, ⊎_elim, ℕ, Bool, true, false, List, [], ◌++◌, String, string_bytes, Some, None, Result, Ok, Err, IfOk, inl, inr, refl, sym, ap, ◌∙◌, subst, append_assoc, append-nil}
 use Rattle.std.specs.Prelude.{IsErrOf}
 use Rattle.std.specs.Global.{Global}
 use Rattle.std.specs.Option.{unwrap_or}
@@ -9,14 +9,12 @@ use Rattle.std.specs.Io.KnownBytes.{Appends}
 use Rattle.std.proofs.KnownBytes.{Appends-trans, Appends-nil}
 use Rattle.std.proofs.lemmas.Option.{none-some}
 use Rattle.edit_fields.specs.declared.fault.LineFault.{LineFault}
-use Rattle.edit_post.specs.Post.{PostId}
 use Rattle.gate_outside.specs.Causes.{Rose, FaultHasCause}
-use Rattle.gate_outside.specs.Streams.{AppendsFront, CarriesFront}
+use Rattle.gate_outside.specs.Streams.{AppendsFront}
 use Rattle.gate_outside.specs.declared.faults.Fault.{Fault}
 use Rattle.gate_outside.specs.declared.faults.Fault.TheVariants as outside
-use Rattle.gate_parts.specs.declared.actor_part.ActorDone.{ActorDone}
 use Rattle.serve_ends.specs.Faults.{by_sink, sooner}
-use Rattle.serve_ends.specs.Lines.{worker_lines, stop_line}
+use Rattle.serve_ends.specs.Lines.{stop_line}
 use Rattle.serve_ends.specs.Served.{IsServed}
 use Rattle.serve_ends.specs.Services.{Service}
 use Rattle.serve_ends.specs.declared.fault.ServeFault.{ServeFault}
@@ -24,7 +22,7 @@ use Rattle.serve_ends.specs.declared.fault.ServeFault.TheVariants.{Memory, Spent
 use Rattle.serve_run.specs.Causes.{AnswersBy, HasServeCause, ShowsFault}
 use Rattle.serve_run.specs.Ended.{HasEndedBy, MayHave}
 use Rattle.serve_run.specs.Serves.{Serves, told}
-use Rattle.serve_run.specs.Writes.{GoesOut, IsText, Puts, Refuses, Tells}
+use Rattle.serve_run.specs.Writes.{IsText, Puts, Refuses, Tells}
 
 -- ---- fronts
 
@@ -45,10 +43,6 @@ whole got0 got1 text h = (text, [], append-nil text, h)
 -- after a text that went out whole
 behind : (got0 got1 got2 : Option (List ℕ)) (text more : List ℕ) → Appends got0 got1 text → AppendsFront got1 got2 more → AppendsFront got0 got2 (text ++ more)
 behind got0 got1 got2 text more first h = (text ++ h.0, h.1, append_assoc text h.0 h.1 ∙ ap (λ l. text ++ l) h.2, Appends-trans got0 got1 got2 text h.0 first h.3)
-
--- what went out of a front is a front
-pub front_out : (got0 got1 : Option (List ℕ)) (waits text : List ℕ) → CarriesFront got0 got1 waits text → AppendsFront got0 got1 text
-front_out got0 got1 waits text h = (h.sent, waits ++ h.back, sym (append_assoc h.sent waits h.back) ∙ h.is, h.wrote)
 
 -- ---- texts that are put
 

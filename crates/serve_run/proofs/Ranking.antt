@@ -1,16 +1,17 @@
 -- Which fault the parts of a run may have had.
-use Rattle.std.proofs.Common.{◌≡◌, ◌⊎◌, ⊎_elim, ℕ, ◌+◌, ◌<◌, ◌≤◌, Bool, true, false, List, [], ◌∷◌, ◌++◌, map, Option, Some, None, inl, inr, refl, sym, ◌∙◌, subst, arith}
+use Rattle.std.proofs.Common.{◌≡◌, ◌⊎◌, ⊎_elim, ℕ, ◌+◌, ◌<◌, ◌≤◌, Bool, true, false, List, [], ◌∷◌, ◌++◌, Option, Some, None, inl, inr, refl, sym, ◌∙◌, subst, arith}
 use Rattle.std.specs.Prelude.{nat_lt, if◌then◌else◌}
 use Rattle.std.specs.List.{fold}
 use Rattle.std.proofs.lemmas.Bool.Decides.{Decides-ltb}
 use Rattle.std.proofs.lemmas.Option.{same_Some, none-some}
 use Rattle.gate_parts.specs.declared.actor_part.ActorDone.{ActorDone}
-use Rattle.serve_ends.specs.Faults.{actor_fault, script_fault, worker_fault, actor_faults, script_faults, worker_faults, first_fault, rank, sooner, start_fault}
-use Rattle.serve_ends.specs.declared.ending.FileEnd.{FileEnd}
-use Rattle.serve_ends.specs.declared.ending.WorkerEnd.{WorkerEnd}
+use Rattle.serve_ends.specs.Faults.{actor_faults, script_faults, worker_faults, first_fault, rank, sooner, start_fault}
+use Rattle.serve_ends.specs.Files.{FileEnd}
 use Rattle.serve_ends.specs.declared.fault.ServeFault.{ServeFault}
 use Rattle.serve_ends.specs.declared.fault.ServeFault.TheVariants.{Memory, Spent, Start, Door, Read, Line, Write}
-use Rattle.serve_ends.proofs.Ranks.{AnyIs, ScriptFaultOf, first_is, first_is_none, all_started, of_actor, of_script, of_worker}
+use Rattle.serve_ends.proofs.Ranks.{ScriptFaultOf, all_started, of_actor, of_script, of_worker}
+use Rattle.gate_ends.specs.declared.ending.WorkerEnd.{WorkerEnd}
+use Rattle.gate_ends.proofs.Ranks.{AnyIs, first_is, first_is_none}
 use Rattle.serve_run.specs.Ended.{MayHave}
 
 pub any_of : (f : ServeFault) (xs ys : List (Option ServeFault)) → AnyIs f (xs ++ ys) → AnyIs f xs ⊎ AnyIs f ys
@@ -84,7 +85,7 @@ of_started Write h = absurd h
 
 pub may_have : {R : Type 0} (started : Bool) (actors : List (ActorDone R)) (scripts : List FileEnd) (workers : List WorkerEnd) (fault : Option ServeFault)
     → first_fault started actors scripts workers ≡ fault → MayHave started fault
-may_have started actors scripts workers None e = all_started started (first_is_none (start_fault started) (actor_faults actors ++ (script_faults 1 scripts ++ worker_faults workers)) e)
+may_have started actors scripts workers None e = all_started started (first_is_none rank (start_fault started) (actor_faults actors ++ (script_faults 1 scripts ++ worker_faults workers)) e)
 may_have false actors scripts workers (Some f) e =
     let first = no_later Start (actor_faults actors ++ (script_faults 1 scripts ++ worker_faults workers)) in
     let same : first.0 ≡ f = same_Some first.0 f (sym first.1.0 ∙ e) in
@@ -93,4 +94,4 @@ may_have true actors scripts workers (Some f) e =
     of_started f (⊎_elim (λ none. absurd (none-some f none))
     (λ any. ⊎_elim (of_actors f actors) (λ more. ⊎_elim (of_scripts f 1 scripts) (of_workers f workers) (any_of f (script_faults 1 scripts) (worker_faults workers) more))
     (any_of f (actor_faults actors) (script_faults 1 scripts ++ worker_faults workers) any))
-    (first_is None (actor_faults actors ++ (script_faults 1 scripts ++ worker_faults workers)) f e))
+    (first_is rank None (actor_faults actors ++ (script_faults 1 scripts ++ worker_faults workers)) f e))

@@ -1,10 +1,9 @@
 -- What the parts of a run have left, by what they were set up from.
-use Rattle.std.proofs.Common.{◌≡◌, ℕ, zero, suc, ◌+◌, List, [], ◌∷◌, ◌++◌, map, length, Some, None, Result, Ok, Err, option_map, slice_get, refl, sym, ap, ap₂, ◌∙◌, subst, arith}
+use Rattle.std.proofs.Common.{◌≡◌, ℕ, zero, suc, ◌+◌, List, [], ◌∷◌, ◌++◌, map, length, Some, None, Result, refl, sym, ap, ap₂, ◌∙◌, subst, arith}
 use Rattle.std.proofs.lemmas.List.{length-map}
-use Rattle.std.proofs.lemmas.Option.{same_Some, none-some}
 use Rattle.std.specs.List.{All}
 use Rattle.std.specs.declared.option.Option.{Option}
-use Rattle.edit_post.specs.Post.{PostId, Sender, Taker, new_taker, after_end}
+use Rattle.edit_post.specs.Post.{PostId, Sender, after_end}
 use Rattle.file_script.specs.Sends.{HeadIsRead, SendsFile}
 use Rattle.file_script.specs.declared.fault.ScriptFault.{ScriptFault}
 use Rattle.gate_outside.specs.Clocks.{ClockTale}
@@ -12,8 +11,7 @@ use Rattle.gate_outside.specs.Doors.{DoorTale}
 use Rattle.guild_hub.specs.Writes.{Publishing}
 use Rattle.session_core.specs.declared.bot.Bot.{Bot}
 use Rattle.thread_outside.specs.declared.quiet_notes.QuietNotes.{QuietNotes}
-use Rattle.gate_parts.specs.Actors.{Acts, ActorGives}
-use Rattle.gate_parts.specs.Workers.{outside_before, outside_after}
+use Rattle.gate_parts.specs.Actors.{ActorGives}
 use Rattle.gate_parts.specs.declared.actor_part.ActorPart.{ActorPart}
 use Rattle.gate_parts.specs.declared.actor_part.ActorDone.{ActorDone}
 use Rattle.gate_parts.specs.declared.ending.Ending.{Ending}
@@ -21,7 +19,7 @@ use Rattle.gate_parts.specs.declared.ending.Ending.TheVariants.{Ran, Stopped}
 use Rattle.gate_parts.specs.declared.worker_part.WorkerPart.{WorkerPart}
 use Rattle.gate_parts.specs.declared.worker_part.WorkerDone.{WorkerDone}
 use Rattle.run_ends.specs.Senders.{new_passes}
-use Rattle.run_stage.specs.Dealing.{IsAt, dealt_to}
+use Rattle.run_stage.specs.Dealing.{IsAt}
 use Rattle.run_stage.proofs.Numbered.{all_at}
 use Rattle.serve_heads.specs.declared.script_file.ScriptFile.{ScriptFile}
 use Rattle.serve_parts.specs.Files.{FileGives, SendsOrStops as PartSends}
@@ -31,14 +29,12 @@ use Rattle.serve_parts.specs.declared.file_part.FileDone.{FileDone}
 use Rattle.serve_stage.specs.Parts.{IsActor, IsScript, IsWorker, file_of}
 use Rattle.serve_stage.specs.Stages.{senders_of}
 use Rattle.serve_stage.specs.declared.lent.Lent.{Lent}
-use Rattle.serve_ends.specs.Ends.{ActorEnds, FileEnds, WorkerEnds, SendsOrStops}
+use Rattle.serve_ends.specs.Ends.{FileEnds, WorkerEnds, SendsOrStops}
 use Rattle.serve_ends.specs.Services.{Service, FileTale, DoorGiven, HasHead, service, file_tales, ascending, senders}
-use Rattle.serve_ends.specs.Sorted.{file_end, worker_end}
-
--- what is there is what was made of something
-made_of : {A B : Type 0} (f : A → B) (o : Option A) (b : B) → option_map f o ≡ Some b → (a : A) × ((o ≡ Some a) × (f a ≡ b))
-made_of f None b e = absurd (none-some b e)
-made_of f (Some a) b e = (a, (refl, same_Some (f a) b e))
+use Rattle.serve_ends.specs.Sorted.{file_end}
+use Rattle.gate_ends.specs.Done.{worker_end}
+use Rattle.gate_ends.specs.Ends.{ActorEnds}
+use Rattle.gate_ends.proofs.Began.{actor_ends, worker_serves}
 
 -- what was made of the item at a place
 at_map : {X Y : Type 0} (f : X → Y) (xs : List X) (n : ℕ) (x : X) → IsAt xs n x → IsAt (map f xs) n (f x)
@@ -86,34 +82,21 @@ module _ {S D C : Type 0} (left : S → Option (List ℕ)) (source_faults : S �
     many_doors = length-map lent.doors.items given
 
     module _ {R : Type 0} (posts : List PostId) (writers : List (ℕ × Publishing)) where
-      pub one_actor : (n : ℕ) (p : ActorPart R) (d : ActorDone R) → IsActor posts (senders_of lent) writers n p → ActorGives p d → ActorEnds told posts writers n d
+      pub one_actor : (n : ℕ) (p : ActorPart R) (d : ActorDone R) → IsActor posts (senders_of lent) writers n p → ActorGives p d → ActorEnds posts writers (senders told) n d
       one_actor n p d is gives =
-          let made = made_of (λ post. new_taker post (senders_of lent)) (slice_get posts n) p.pass is.pass_is in
-          let same : senders_of lent ≡ senders told = ap₂ (λ (a b : ℕ). a + b) (sym many_files) (sym many_doors) in
-          record {
-            post = made.0;
-            at_place = made.1.0;
-            acts = subst (λ (k : ℕ). Acts (new_taker made.0 k) (dealt_to n writers) d.ending) same
-                (subst (λ (ws : List (ℕ × Publishing)). Acts (new_taker made.0 (senders_of lent)) ws d.ending) is.writers_are
-                (subst (λ (pass : Taker). Acts pass p.writers.items d.ending) (sym made.1.1) gives.acts));
-          }
+          subst (λ (k : ℕ). ActorEnds posts writers k n d) (ap₂ (λ (a b : ℕ). a + b) (sym many_files) (sym many_doors))
+          (actor_ends posts writers (senders_of lent) n p d is.pass_is is.writers_are gives)
 
       pub one_worker : (n : ℕ) (p : WorkerPart D C QuietNotes R) (d : WorkerDone D C QuietNotes) → IsWorker posts (length lent.files.items) writers bots (ascending guilds) port lent.doors.items lent.clocks.items n p
           → DoorPartGives door_tale door_faults clock_tale p d → WorkerEnds told posts writers n (worker_end d)
       one_worker n p d is gives = record {
-        worker = p.worker;
+        serves = worker_serves door_tale door_faults clock_tale (λ quiet. None) posts writers (length told.files + n) p d is.readers_are
+            (is.passes_are ∙ ap (λ (k : ℕ). new_passes posts (k + n)) (sym many_files)) gives;
         is_new = is.worker_is;
         door = given p.door;
         door_is = at_map given lent.doors.items n p.door is.door_is;
-        before = outside_before door_tale door_faults clock_tale (λ quiet. None) p;
-        after = outside_after door_tale door_faults clock_tale (λ quiet. None) d;
         door_before = (refl, refl);
         clock_before = at_map clock_tale lent.clocks.items n p.clock is.clock_is;
-        readers_before = is.readers_are;
-        passes_before = is.passes_are ∙ ap (λ (k : ℕ). new_passes posts (k + n)) (sym many_files);
-        readers_after = refl;
-        passes_after = refl;
-        works = gives.works;
       }
 
     module _ {R : Type 0} (posts : List PostId) (heads_are : All HasHead told.files) where

@@ -5,13 +5,14 @@ use Rattle.edit_post.specs.Post.{PostId}
 use Rattle.guild_hub.specs.Writes.{Publishing}
 use Rattle.gate_parts.specs.declared.actor_part.ActorDone.{ActorDone}
 use Rattle.run_stage.specs.Hubs.{IsNewWriter}
-use Rattle.serve_ends.specs.Ends.{ActorEnds, FileEnds, WorkerEnds}
+use Rattle.serve_ends.specs.Ends.{FileEnds, WorkerEnds}
 use Rattle.serve_ends.specs.Faults.{first_fault}
-use Rattle.serve_ends.specs.Services.{Service, ascending}
-use Rattle.serve_ends.specs.declared.ending.FileEnd.{FileEnd}
-use Rattle.serve_ends.specs.declared.ending.WorkerEnd.{WorkerEnd}
+use Rattle.serve_ends.specs.Services.{Service, ascending, senders}
+use Rattle.serve_ends.specs.Files.{FileEnd}
 use Rattle.serve_ends.specs.declared.fault.ServeFault.{ServeFault}
 use Rattle.serve_ends.specs.declared.fault.ServeFault.TheVariants.{Memory, Spent, Start, Door, Read, Line, Write}
+use Rattle.gate_ends.specs.Ends.{ActorEnds}
+use Rattle.gate_ends.specs.declared.ending.WorkerEnd.{WorkerEnd}
 
 -- each item is as it has to be for its number; the first has the number `first`
 abbrev pub AreNumbered : {X : Type 0} → (ℕ → X → Type 0) → ℕ → List X → Type 0
@@ -24,7 +25,7 @@ pub record EndsSo {R : Type 0} (s : Service) (posts : List PostId) (started : Bo
   pub two : length posts ≡ 2
   pub writers : List (ℕ × Publishing)
   pub writers_are : AllZip IsNewWriter (ascending s.guilds) writers
-  pub actors_are : AreNumbered (ActorEnds s posts writers) 0 actors
+  pub actors_are : AreNumbered (ActorEnds posts writers (senders s)) 0 actors
   pub scripts_are : AreNumbered (FileEnds s posts) 0 scripts
   pub workers_are : AreNumbered (WorkerEnds s posts writers) 0 workers
   pub whole : started ≡ true → (length actors ≡ 2) × ((length scripts ≡ length s.files) × (length workers ≡ length s.doors))

@@ -11,9 +11,11 @@ ghost use Rattle.serve_run.specs.Serves.{Serves};
 ghost use Rattle.serve_run.specs.Writes.{Refuses, Tells};
 
 use crate::writing::put;
+use file_script::ScriptFault;
+use gate_ends::Senders;
 use gate_outside::streams::Sink;
 use gate_parts::Posts;
-use serve_ends::{Senders, ServeFault, sooner, stop_line, sum_up};
+use serve_ends::{ServeFault, sooner, stop_line, sum_up};
 use snowflake_id::Snowflake;
 use std::alloc::Global;
 use std::sync::Wait;
@@ -42,7 +44,7 @@ pub fn answer<R: Wait + Drop, K: Sink>(
     alloc: Global,
     guilds: &[Snowflake],
     posts: Posts<R>,
-    senders: Senders<R>,
+    senders: Senders<R, ScriptFault>,
     fault: Option<ServeFault>,
     told: Option<ServeFault>,
     sink: &mut K,

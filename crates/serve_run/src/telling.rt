@@ -2,7 +2,7 @@
 
 ghost use Rattle.serve_run.specs.Writes.{Tells};
 
-use crate::writing::write_out;
+use gate_ends::write_out;
 use gate_outside::streams::Sink;
 use serve_ends::ServeFault;
 

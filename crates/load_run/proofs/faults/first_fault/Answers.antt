@@ -1,8 +1,8 @@
 use Rattle.std.proofs.Common.{◌∙◌, ◌+◌, map, drop, sym, ap}
 use Rattle.std.specs.List.{fold}
 use Rattle.std.proofs.lemmas.List.{at_drop_more}
+use Rattle.gate_ends.proofs.Added.{drop_end}
 use Rattle.load_run.specs.Faults.{fault_of, sooner}
-use Rattle.load_run.proofs.Added.{drop_end}
 use Rattle.load_run.proofs.faults.first_fault.Goals as goal
 
 pub loop-done-preserved : goal.loop-done-preserved

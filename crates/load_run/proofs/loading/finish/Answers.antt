@@ -18,5 +18,5 @@ returns-in_err-write_out-clause-loads g c =
 pub returns-in_err-write_out-clause-cause : goal.returns-in_err-write_out-clause-cause
 returns-in_err-write_out-clause-cause g c = λ team.
     let e = err_from_is_err_and c.from_residual-in_err-write_out.result c.from_residual-in_err-write_out.ensures.1 in
-    subst (HasLoadCause g.row.R.Denot c.args.seed team team (g.K.Sink.faults c.args.sink.now) (g.K.Sink.faults c.write_out.new.sink)) (sym (e.1 ∙ ap Err e.2))
-    (sink_cause g.row.R.Denot c.args.seed team (g.K.Sink.faults c.args.sink.now) (g.K.Sink.faults c.write_out.new.sink) c.in_err-write_out.field-0.0 c.write_out.result c.in_err-write_out.was c.write_out.ensures.cause)
+    subst (HasLoadCause c.args.seed team team (g.K.Sink.faults c.args.sink.now) (g.K.Sink.faults c.write_out.new.sink)) (sym (e.1 ∙ ap Err e.2))
+    (sink_cause c.args.seed team (g.K.Sink.faults c.args.sink.now) (g.K.Sink.faults c.write_out.new.sink) c.in_err-write_out.field-0.0 c.write_out.result c.in_err-write_out.was c.write_out.ensures.cause)

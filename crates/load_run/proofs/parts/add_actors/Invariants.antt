@@ -1,7 +1,7 @@
 use Rattle.std.proofs.Common.{◌≡◌, ◌+◌, ◌≤◌, [], ◌∷◌, length}
 use Rattle.std.specs.Vec.{vec_len, vec_capacity}
 use Rattle.load_parts.specs.declared.load_part.LoadPart.TheVariants.{Actor}
-use Rattle.load_run.proofs.Popped.{Passed, Anything}
+use Rattle.gate_ends.proofs.Popped.{Passed, Anything}
 use Rattle.load_run.proofs.parts.add_actors.Given as goal
 
 abbrev pub invariant-loop-part : goal.invariant-loop-part

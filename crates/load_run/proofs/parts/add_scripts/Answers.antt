@@ -1,7 +1,7 @@
 use Rattle.std.proofs.Common.{rules, ◌≡◌, ◌∙◌, ◌+◌, ◌++◌, ◌∷◌, [], length, ap, arith, length-append}
 use Rattle.std.proofs.lemmas.List.{nil_from_length, length-reverse}
 use Rattle.load_parts.specs.declared.load_part.LoadPart.TheVariants.{Script}
-use Rattle.load_run.proofs.Popped.{passed_none, passed_one, passed_all, flat_one, Anything}
+use Rattle.gate_ends.proofs.Popped.{passed_none, passed_one, passed_all, flat_one, Anything}
 use Rattle.load_run.proofs.parts.add_scripts.Goals as goal
 
 pub loop-part-init : goal.loop-part-init

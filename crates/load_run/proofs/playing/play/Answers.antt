@@ -5,12 +5,13 @@ use Rattle.std.specs.Vec.{vec_len}
 use Rattle.load_parts.proofs.ByKind.{by_kind}
 use Rattle.load_parts.specs.Parts.{LoadGives}
 use Rattle.team_run.specs.Teams.{many_more}
+use Rattle.gate_ends.proofs.Counts.{none_there, some_there}
+use Rattle.gate_ends.proofs.Zips.{many_zip}
 use Rattle.load_run.specs.Ends.{clock_of_part}
 use Rattle.load_run.specs.Faults.{first_fault}
 use Rattle.load_parts.specs.ByKind.{parts_of}
 use Rattle.load_run.specs.Sorted.{HasRoom}
-use Rattle.load_run.proofs.Joining.{counts, less_room, none_back, some_there, none_there, has_joined, clocks_back, fault_cause}
-use Rattle.load_run.proofs.Zips.{many_zip}
+use Rattle.load_run.proofs.Joining.{counts, less_room, none_back, has_joined, clocks_back, fault_cause}
 use Rattle.load_run.proofs.playing.play.Goals as goal
 
 pub add_parts-requires : goal.add_parts-requires

@@ -1,7 +1,7 @@
 use Rattle.std.proofs.Common.{sym, subst, arith}
-use Rattle.load_stage.specs.Dealing.{IsAt}
+use Rattle.run_stage.specs.Dealing.{IsAt}
+use Rattle.run_stage.proofs.Numbered.{added, all_at, next_at}
 use Rattle.load_stage.specs.Drafts.{HasNotFailed, IsClockedClient}
-use Rattle.load_stage.proofs.Numbered.{added, all_at, next_at}
 use Rattle.load_stage.proofs.clients.clocked_clients.Goals as goal
 
 pub client_part-requires : goal.client_part-requires

@@ -1,5 +1,5 @@
 use Rattle.thread_outside.specs.DialledDoors.{new_door_dial}
-use Rattle.load_stage.proofs.Numbered.{from_zero}
+use Rattle.run_stage.proofs.Numbered.{from_zero}
 use Rattle.load_stage.proofs.doors.open_door.Goals as goal
 
 pub returns-clause-dials : goal.returns-clause-dials

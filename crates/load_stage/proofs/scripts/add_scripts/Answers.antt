@@ -1,12 +1,12 @@
 use Rattle.std.proofs.Common.{◌≡◌, ◌+◌, ◌-◌, refl, ap, subst, ◌∙◌, arith}
 use Rattle.stop_flag.specs.Flags.{new_seat}
-use Rattle.load_stage.specs.Dealing.{AreFrom}
+use Rattle.run_stage.specs.Dealing.{AreFrom}
+use Rattle.run_stage.specs.Posts.{ArePassesOf}
+use Rattle.run_stage.specs.Seats.{HasSeats}
+use Rattle.run_stage.proofs.Numbered.{added, first_of}
+use Rattle.run_stage.proofs.Seated.{next_seat}
 use Rattle.load_stage.specs.Parts.{IsScript}
-use Rattle.load_stage.specs.Posts.{ArePassesOf}
-use Rattle.load_stage.specs.Seats.{HasSeats}
-use Rattle.load_stage.proofs.Numbered.{added, first_of}
-use Rattle.load_stage.proofs.Passes.{can_send}
-use Rattle.load_stage.proofs.Seated.{next_seat}
+use Rattle.load_stage.proofs.Ready.{can_send}
 use Rattle.load_stage.proofs.scripts.add_scripts.Goals as goal
 
 pub script-requires-clause-passes : goal.script-requires-clause-passes
@@ -28,7 +28,7 @@ loop-number-preserved g c =
     let fewer_seats : 20 - (n + 1) + 1 ≡ 20 - n = omega arith in
     let first = first_of (ArePassesOf posts) n (7 - n) (n + 1) (7 - (n + 1)) c.loop-number.passes.items c.take_next-its_passes.new.items.items c.take_next-its_passes.result
     kept.passes c.take_next-its_passes.ensures refl fewer in
-    let seat = next_seat (2 + n) (20 - n) (2 + (n + 1)) (20 - (n + 1)) c.loop-number.seats c.take_next-seat.new.self c.take_next-seat.result
+    let seat = next_seat 22 (2 + n) (20 - n) (2 + (n + 1)) (20 - (n + 1)) c.loop-number.seats c.take_next-seat.new.self c.take_next-seat.result
     kept.seats c.take_next-seat.ensures.left c.take_next-seat.ensures.keeper later fewer_seats in
     let made = c.in_ok-script.ensures in
     record {
@@ -53,4 +53,4 @@ returns-clause-passes g c =
 pub returns-clause-seats : goal.returns-clause-seats
 returns-clause-seats g c =
     let four : c.loop-number.number ≡ 4 = omega arith in
-    (subst (λ k. HasSeats (2 + k) (20 - k) c.loop-number.seats) four c.loop-number.invariant.seats, c.loop-number.invariant.keeper)
+    (subst (λ k. HasSeats 22 (2 + k) (20 - k) c.loop-number.seats) four c.loop-number.invariant.seats, c.loop-number.invariant.keeper)

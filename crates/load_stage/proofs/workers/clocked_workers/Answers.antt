@@ -1,7 +1,7 @@
 use Rattle.std.proofs.Common.{◌≡◌, drop, sym, subst, arith}
-use Rattle.load_stage.specs.Dealing.{AreFrom, IsAt}
+use Rattle.run_stage.specs.Dealing.{AreFrom, IsAt}
+use Rattle.run_stage.proofs.Numbered.{added, all_at, next_at}
 use Rattle.load_stage.specs.Drafts.{CanBegin, IsClockedWorker}
-use Rattle.load_stage.proofs.Numbered.{added, all_at, next_at}
 use Rattle.load_stage.proofs.workers.clocked_workers.Goals as goal
 
 pub worker_part-requires : goal.worker_part-requires

@@ -1,5 +1,5 @@
 use Rattle.std.proofs.Common.{◌≡◌, ◌≤◌, drop, vec_len, vec_capacity}
-use Rattle.load_stage.specs.Dealing.{AreFrom}
+use Rattle.run_stage.specs.Dealing.{AreFrom}
 use Rattle.load_stage.specs.Drafts.{IsClockedWorker}
 use Rattle.load_stage.proofs.workers.clocked_workers.Given as goal
 

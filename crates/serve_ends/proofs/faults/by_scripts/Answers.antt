@@ -1,8 +1,8 @@
-use Rattle.std.proofs.Common.{◌≡◌, ◌∙◌, ◌+◌, drop, sym, ap, subst, arith}
+use Rattle.std.proofs.Common.{◌∙◌, ◌+◌, drop, sym, ap}
 use Rattle.std.specs.List.{fold}
 use Rattle.std.proofs.lemmas.List.{at_drop_more}
+use Rattle.gate_ends.proofs.Added.{drop_end}
 use Rattle.serve_ends.specs.Faults.{script_fault, script_faults, sooner}
-use Rattle.serve_ends.proofs.Added.{drop_end}
 use Rattle.serve_ends.proofs.faults.by_scripts.Goals as goal
 
 pub loop-script-preserved : goal.loop-script-preserved

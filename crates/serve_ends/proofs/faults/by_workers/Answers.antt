@@ -1,8 +1,8 @@
 use Rattle.std.proofs.Common.{◌∙◌, ◌+◌, drop, sym, ap}
 use Rattle.std.specs.List.{fold}
 use Rattle.std.proofs.lemmas.List.{at_drop_more}
+use Rattle.gate_ends.proofs.Added.{drop_end}
 use Rattle.serve_ends.specs.Faults.{worker_fault, worker_faults, sooner}
-use Rattle.serve_ends.proofs.Added.{drop_end}
 use Rattle.serve_ends.proofs.faults.by_workers.Goals as goal
 
 pub loop-worker-preserved : goal.loop-worker-preserved

@@ -2,7 +2,7 @@ use Rattle.std.proofs.Common.{sym, rules}
 use Rattle.std.specs.Prelude.{nat_lt}
 use Rattle.std.proofs.lemmas.List.Sorted.{IsPartitionPoint-from_clause}
 use Rattle.collections.proofs.Ids.{parted, count_is}
-use Rattle.serve_ends.proofs.Writers.{Log, guild_of}
+use Rattle.gate_ends.proofs.Writers.{Log, guild_of}
 use Rattle.serve_ends.proofs.lines.count_below.Goals as goal
 
 pub returns : goal.returns

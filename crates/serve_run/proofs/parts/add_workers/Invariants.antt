@@ -1,7 +1,7 @@
 use Rattle.std.proofs.Common.{◌≡◌, ◌+◌, ◌≤◌, [], ◌∷◌, length}
 use Rattle.std.specs.Vec.{vec_len, vec_capacity}
 use Rattle.serve_parts.specs.declared.serve_part.ServePart.TheVariants.{Worker}
-use Rattle.serve_ends.proofs.Popped.{Passed, Anything}
+use Rattle.gate_ends.proofs.Popped.{Passed, Anything}
 use Rattle.serve_run.proofs.parts.add_workers.Given as goal
 
 abbrev pub invariant-loop-part : goal.invariant-loop-part

@@ -1,4 +1,4 @@
-use Rattle.std.proofs.Common.{◌≡◌, ◌+◌, ◌∙◌, ◌++◌, ◌≤◌, ◌<◌, true, false, [], length, map, flat_map, ap, sym, subst, arith}
+use Rattle.std.proofs.Common.{◌≡◌, ◌+◌, ◌∙◌, ◌++◌, true, [], length, map, flat_map, ap, sym, subst, arith}
 use Rattle.std.proofs.lemmas.List.{length-append, length-map, nil_from_length}
 use Rattle.std.specs.Vec.{vec_len}
 use Rattle.gate_outside.specs.Causes.{Rose}
@@ -9,8 +9,9 @@ use Rattle.serve_parts.specs.Parts.{ServeGives}
 use Rattle.serve_ends.specs.Faults.{first_fault}
 use Rattle.serve_ends.specs.Sorted.{file_end}
 use Rattle.team_run.specs.Teams.{many_more}
+use Rattle.gate_ends.proofs.Counts.{none_there, some_there}
 use Rattle.serve_run.proofs.Assembled.{ends_so, shows_so}
-use Rattle.serve_run.proofs.Counting.{two_actors, all_scripts, all_workers, many_parts, most_parts, returns_all, less_room, most_scripts, all_ended, fewer_started, none_back, some_back}
+use Rattle.serve_run.proofs.Counting.{two_actors, all_scripts, all_workers, many_parts, most_parts, returns_all, less_room, most_scripts, all_ended, fewer_started}
 use Rattle.serve_run.proofs.Ranking.{may_have}
 use Rattle.serve_run.proofs.playing.play.Goals as goal
 
@@ -85,7 +86,7 @@ many g c = ap length (parts_are g c) ∙ many_parts c.args.ready.stage.actors.it
 none_came : (g : _) (c : goal.After-drop-lines g) → c.is_empty-all.result ≡ true → c.begin_all-started.result.back.items ≡ []
 none_came g c is =
     let back = c.begin_all-started.result.back in
-    let none = none_back (vec_len back) (sym c.is_empty-all.ensures ∙ is) in
+    let none = none_there (vec_len back) (sym c.is_empty-all.ensures ∙ is) in
     nil_from_length back.items (omega (arith, none, back.ok.0))
 
 pub returns-clause-starts : goal.returns-clause-starts
@@ -97,7 +98,7 @@ returns-clause-starts g c =
       asked = λ is. ap (λ (s : Starts). s.asked) c.finish_all-dones.ensures.starts ∙ c.begin_all-started.ensures.asked (none_came g c is) ∙ ap (λ n. many_more n before.asked) (many g c);
       sound = λ is. c.finish_all-dones.ensures.faults ∙ c.begin_all-started.ensures.sound (none_came g c is);
       rose = λ is_not.
-          let some = some_back (vec_len back) (sym c.is_empty-all.ensures ∙ is_not) in
+          let some = some_there (vec_len back) (sym c.is_empty-all.ensures ∙ is_not) in
           subst (λ n. Rose (g.T.Spawner.faults c.args.team.now) n) (sym c.finish_all-dones.ensures.faults) (c.begin_all-started.ensures.rose (omega (arith, some, back.ok.0)));
     }
 

@@ -1,16 +1,9 @@
-use Rattle.std.proofs.Common.{rules, ◌≡◌, ◌∙◌, ◌+◌, ℕ, List, ◌∷◌, [], ◌++◌, flat_map, length, ap, subst, arith, length-append}
+use Rattle.std.proofs.Common.{rules, ◌≡◌, ◌∙◌, ◌+◌, ◌∷◌, [], length, ap, subst, arith, length-append}
 use Rattle.std.proofs.lemmas.List.{nil_from_length}
+use Rattle.gate_ends.proofs.Popped.{one_less}
 use Rattle.serve_ends.specs.Sorted.{HasRoom, source_of_part, door_of_part, clock_of_part}
 use Rattle.serve_ends.specs.declared.ends.Ends.{Ends}
-use Rattle.serve_ends.proofs.Popped.{flat_more}
 use Rattle.serve_ends.proofs.ends.Ends.add_back.Goals as goal
-
--- how many are left after one more
-one_less : {T X : Type 0} (g : T → List X) (now rest : List T) (x : T) (old new : List X) (sum : ℕ) → now ≡ rest ++ x ∷ [] → new ≡ old ++ g x → length old + length (flat_map g now) ≡ sum → length new + length (flat_map g rest) ≡ sum
-one_less g now rest x old new sum is made kept =
-    let all : length (flat_map g now) ≡ length (flat_map g rest) + length (g x) = ap (λ l. length (flat_map g l)) is ∙ ap length (flat_more g rest x) ∙ length-append (flat_map g rest) (g x) in
-    let more : length new ≡ length old + length (g x) = ap length made ∙ length-append old (g x) in
-    omega (arith, kept, all, more)
 
 pub loop-part-preserved : goal.loop-part-preserved
 loop-part-preserved g c =

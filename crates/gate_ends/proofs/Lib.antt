@@ -1,0 +1,14 @@
+pub mod Zips
+pub mod Counts
+pub mod Ranks
+pub mod Popped
+pub mod Added
+pub mod Places
+pub mod Began
+pub mod Writers
+pub mod Sealed
+pub mod Actors
+pub mod Acted
+pub mod Readers
+pub mod Served
+pub mod Settled

@@ -1,8 +1,0 @@
-use Rattle.edit_post.specs.Post.{new_sender}
-use Rattle.load_stage.proofs.Numbered.{from_zero}
-use Rattle.load_stage.proofs.posts.open_post.Goals as goal
-
-pub returns-clause-senders : goal.returns-clause-senders
-returns-clause-senders g c =
-    let made = c.in_ok-post.ensures.senders in
-    from_zero (new_sender c.in_ok-post.post) 7 c.in_ok-post.passes.items made.0 made.1
