@@ -132,7 +132,7 @@ def compare_tables():
     for line, (name, value, _) in rows(STEPS, "intent"):
         compare("intents", STEPS, line, int(value), 1 << int(bits[name.split(" ")[0]]))
     source = re.findall(r"Verdict::(\w+)(?: \{ \.\. \})? => (\d+)", text_of("crates/guild_model/src/verdict.rt"))
-    source += re.findall(r"LineFault::(\w+) => ([1-9])", text_of("crates/scenario/src/texts.rt"))
+    source += re.findall(r"LineFault::(\w+) => ([1-9])", text_of("crates/line_faults/src/lib.rt"))
     page = [(line, (name, number)) for line, (number, name, *_) in rows(TRANSCRIPT, "number")]
     compare_rows("verdicts and faults", TRANSCRIPT, page, source)
     sent = text_of("crates/session_core/src/*.rt")
