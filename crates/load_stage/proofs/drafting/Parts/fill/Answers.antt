@@ -1,8 +1,9 @@
-use Rattle.std.proofs.Common.{◌≡◌, map, sym, ap, subst, ◌∙◌}
+use Rattle.std.proofs.Common.{◌<◌, ℕ, List, length, ap, arith, subst, ◌∙◌}
+use Rattle.std.specs.Global.{Vec}
+use Rattle.guild_hub.specs.Sights.{Seeing}
 use Rattle.guild_places.specs.Places.{guilds_of}
 use Rattle.stop_flag.specs.Flags.{KeeperState}
 use Rattle.run_stage.specs.Dealing.{AreFrom}
-use Rattle.run_stage.specs.Hubs.{new_reader}
 use Rattle.run_stage.proofs.Numbered.{as_many}
 use Rattle.run_stage.proofs.Written.{guilds_are, guilds_of_readers}
 use Rattle.load_stage.specs.Doors.{IsDialOf, IsDoorOf}
@@ -13,7 +14,13 @@ use Rattle.load_stage.proofs.drafting.Parts.fill.Goals as goal
 
 -- the first worker reads the hubs of all guilds
 pub add_scripts-requires-clause-guilds : goal.add_scripts-requires-clause-guilds
-add_scripts-requires-clause-guilds g c = ?
+add_scripts-requires-clause-guilds g c =
+    let writers = c.args.supply.writers.items in
+    let hubs = c.requires.supply.hubs_are in
+    let some : 0 < length c.args.supply.served.readers.items = omega (arith, hubs.readers_are.lists) in
+    let first = hubs.readers_are.each_has 0 c.index.result.now some in
+    ap (λ (l : List (ℕ × Seeing)). guilds_of l) (c.as_slice-guilds.ensures.value ∙ ap (λ (v : Vec (ℕ × Seeing)). v.items) c.index.ensures ∙ first)
+    ∙ guilds_of_readers writers ∙ guilds_are guild_ids writers hubs.writers_are
 
 pub add_workers-requires-clause-served : goal.add_workers-requires-clause-served
 add_workers-requires-clause-served g c =
