@@ -46,6 +46,7 @@ module _ (posts : List PostId) (writers : List Writer) where
 
   pub one_ran : (ls : List Log) → AllZip IsSealedOf writers ls → IsById guild_of ls → (n : ℕ) (e : WorkerEnd) (wished : List (ℕ × Edit)) (w : HasWorked n e) → wishes w.history ≡ wished
       → All (HasPart ls) (readers e) → WorkerRan ls n wished
+  unfolding serves
   one_ran ls sealed up n e wished w is part = record {
     worker = w.is.serves.worker;
     is_new = w.is.is_new;
