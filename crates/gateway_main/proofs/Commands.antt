@@ -1,5 +1,5 @@
 -- What is done for each command.
-use Rattle.std.proofs.Common.{◌≡◌, ℕ, List, [], ◌++◌, Result, Ok, Err, OnOk, OnErr, is_err, true, false, inl, inr, refl, sym, arith, append-nil}
+use Rattle.std.proofs.Common.{◌≡◌, ℕ, List, [], ◌++◌, Result, Ok, Err, OnOk, OnErr, is_err, true, false, inl, inr, refl, sym, subst, arith, append-nil}
 use Rattle.std.specs.declared.option.Option.{Option}
 use Rattle.std.specs.declared.option.Option.TheVariants.{Some, None}
 use Rattle.std.specs.Io.KnownBytes.{Appends}
@@ -13,7 +13,8 @@ use Rattle.house_loans.proofs.Returned.{clocks_back_none}
 use Rattle.serve_ends.specs.declared.fault.ServeFault.TheVariants as serving
 use Rattle.serve_house.proofs.Back.{ran_out}
 use Rattle.client_follow.specs.declared.fault.FollowFault.TheVariants as follow
-use Rattle.gateway_main.specs.Gate.{Outside, Does, LeavesDial, LeavesTeams}
+use Rattle.gateway_main.specs.declared.fault.GateFault.{GateFault}
+use Rattle.gateway_main.specs.Gate.{Outside, Does, Plays, RunsServe, LeavesDial, LeavesTeams}
 use Rattle.gateway_main.specs.Usage.{usage}
 
 appends_none : (got : Option (List ℕ)) → Appends got got []
@@ -109,3 +110,15 @@ module _ (old : Outside) where
     teams = leaves_teams;
     fault = inr (refl, refl);
   }
+
+-- ---- what is done, by what the words ask for
+
+module _ (R : Type 0) (command : Option Command) (old new : Outside) (told : Option GateFault) (status : ℕ) where
+  by_words : (asked : Option Command) → command ≡ asked → Does R asked old new told status → Does R command old new told status
+  by_words asked is does = subst (λ (o : Option Command). Does R o old new told status) (sym is) does
+
+  pub plays : (file : List ℕ) → command ≡ Some (run file) → Plays file old new told status → Does R command old new told status
+  plays file is does = by_words (Some (run file)) is does
+
+  pub serves : (port workers accepts : ℕ) (files : List (List ℕ)) → command ≡ Some (serve port workers accepts files) → RunsServe R port workers accepts files old new told status → Does R command old new told status
+  serves port workers accepts files is does = by_words (Some (serve port workers accepts files)) is does

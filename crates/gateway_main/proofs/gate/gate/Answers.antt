@@ -1,10 +1,10 @@
-use Rattle.std.proofs.Common.{◌∙◌, map, string_bytes, option_map, Some, sym, ap, arith}
+use Rattle.std.proofs.Common.{◌∙◌, map, string_bytes, option_map, Some, refl, sym, ap, inl, arith}
 use Rattle.std.proofs.lemmas.List.{length-map}
 use Rattle.serve_words.specs.Words.{asked, command_of}
 use Rattle.serve_house.specs.Serving.{sink_tale, team_tale}
 use Rattle.gateway_main.specs.Gate.{outside}
 use Rattle.gateway_main.proofs.Bounds.{are_bounded}
-use Rattle.gateway_main.proofs.Commands.{out_of_memory}
+use Rattle.gateway_main.proofs.Commands.{out_of_memory, plays, serves}
 use Rattle.gateway_main.proofs.gate.gate.Goals as goal
 
 -- out of memory while the words are read
@@ -34,3 +34,28 @@ run_serve-ended-requires-clause-ports g c =
     let are = are_bounded c.in-Serve.port c.in-Serve.workers c.in-Serve.accepts (map string_bytes c.in-Serve.files.now) (map string_bytes c.args.words.now)
     (sym c.in-Ok.ensures ∙ (ap (option_map asked) c.in-Some.is ∙ ap (λ x. Some (asked x)) c.in-Serve.is)) in
     omega (arith, are.port_most, are.workers_most)
+
+pub returns-in-Run-clause-does : goal.returns-in-Run-clause-does
+returns-in-Run-clause-does g c =
+    plays _ _ _ _ _ _ _ (sym c.in-Ok.ensures ∙ (ap (option_map asked) c.in-Some.is ∙ ap (λ x. Some (asked x)) c.in-Run.is)) (record {
+      played = c.run-played.result;
+      status_is = c.play_status.ensures;
+      runs = c.run-played.ensures.runs;
+      asks = c.run-played.ensures.asks;
+      cause = c.run-played.ensures.cause;
+      rest = c.run-played.ensures.rest;
+      dial = record { dial = c.run-played.ensures.dial; dial_faults = c.run-played.ensures.dial_faults };
+      teams = record { load_team = refl; serve_team = refl };
+      fault = inl c.play_fault.ensures;
+    })
+
+pub returns-in-Serve-clause-does : goal.returns-in-Serve-clause-does
+returns-in-Serve-clause-does g c =
+    serves _ _ _ _ _ _ _ _ _ _ (sym c.in-Ok.ensures ∙ (ap (option_map asked) c.in-Some.is ∙ ap (λ x. Some (asked x)) c.in-Serve.is)) (record {
+      ended = c.run_serve-ended.result;
+      status_is = c.serve_status.ensures;
+      serves = c.run_serve-ended.ensures.serves;
+      dial = record { dial = c.run_serve-ended.ensures.dial; dial_faults = c.run_serve-ended.ensures.dial_faults };
+      load_team = refl;
+      fault = inl c.serve_fault.ensures;
+    })
