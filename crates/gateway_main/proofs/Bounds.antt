@@ -1,10 +1,10 @@
 -- What the grammar says of the numbers of `serve`.
-use Rattle.std.proofs.Common.{◌≡◌, ℕ, ◌≤◌, List, [], ◌∷◌, length, Bool, true, false, ◌&&◌, nat_le, Option, Some, None, if◌then◌else◌, option_map, codes, refl, sym, ap, subst, ◌∙◌, arith}
+use Rattle.std.proofs.Common.{◌≡◌, ℕ, ◌≤◌, List, [], ◌∷◌, length, Bool, true, false, ◌&&◌, nat_le, Option, Some, None, if◌then◌else◌, option_map, codes, refl, subst, arith}
 use Rattle.std.proofs.lemmas.Bool.Decides.{nat_tests}
 use Rattle.std.specs.Prelude.{option_and_then}
 use Rattle.std.specs.List.{list_any}
 use Rattle.std.specs.Str.{bytes_eq}
-use Rattle.serve_words.specs.Words.{Asked, run, load, serve, is_option, number_of, number_to, url_of, token_of, intents_of, served, followed, run_words, load_words, serve_words, client_words, named_words, command_of}
+use Rattle.serve_words.specs.Words.{Asked, load, serve, is_option, number_of, number_to, url_of, token_of, intents_of, served, followed, run_words, load_words, serve_words, client_words, named_words, command_of}
 
 -- the bounds of what `serve` asks for
 pub record AreBounded (port workers : ℕ) (files : List (List ℕ)) : Type 0 where

@@ -174,7 +174,7 @@ pub record Plays (file : List ℕ) (old new : Outside) (told : Option GateFault)
   pub fault : TellsFault told (play_fault played) (played ≡ Err play.Memory)
 
 -- `load SEED`: the load with that seed is run, with clocks that the house lends
-pub record RunsLoad (R : Type 0) (seed : ℕ) (old new : Outside) (told : Option GateFault) (status : ℕ) : Type 0 where
+pub record RunsLoad (seed : ℕ) (old new : Outside) (told : Option GateFault) (status : ℕ) : Type 0 where
   pub loaded : Result (Unit {0}) LoadFault
   pub status_is : status ≡ load_status loaded
   pub loads : Loads seed old.sink.got new.sink.got old.sink.waits loaded
@@ -206,6 +206,6 @@ pub record RunsClient (url token : List ℕ) (intents count : ℕ) (old new : Ou
 abbrev pub Does : (R : Type 0) → Option Command → (old new : Outside) → (told : Option GateFault) → (status : ℕ) → Type 0
 Does R None old new told status = Refuses old new told status
 Does R (Some (run file)) old new told status = Plays file old new told status
-Does R (Some (load seed)) old new told status = RunsLoad R seed old new told status
+Does R (Some (load seed)) old new told status = RunsLoad seed old new told status
 Does R (Some (serve port workers accepts files)) old new told status = RunsServe R port workers accepts files old new told status
 Does R (Some (client url token intents count)) old new told status = RunsClient url token intents count old new told status
