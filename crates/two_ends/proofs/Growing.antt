@@ -1,0 +1,1 @@
+-- Sessions of a worker grow with each input.

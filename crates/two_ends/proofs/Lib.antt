@@ -1,0 +1,5 @@
+pub mod Minds
+pub mod Growing
+pub mod Elsewhere
+pub mod Readings
+pub mod Places

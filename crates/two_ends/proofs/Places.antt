@@ -1,0 +1,1 @@
+-- The worker of a number in a world, and the sessions of an id.

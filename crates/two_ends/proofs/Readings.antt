@@ -1,0 +1,1 @@
+-- What a client reads of the texts that a worker writes.

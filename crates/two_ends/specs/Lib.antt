@@ -1,0 +1,4 @@
+pub mod Flights
+pub mod Ends
+pub mod Events
+pub mod TwoEnds
