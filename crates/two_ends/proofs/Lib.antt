@@ -1,6 +1,11 @@
 pub mod Minds
 pub mod Growing
 pub mod Steps
+pub mod Stages
+pub mod Arriving
+pub mod Opening
+pub mod Judging
+pub mod Hearing
 pub mod Elsewhere
 pub mod Readings
 pub mod Places

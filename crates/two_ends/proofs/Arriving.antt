@@ -1,0 +1,218 @@
+-- What the worker makes of a text of the client on its connection.
+use Rattle.std.proofs.Common.{◌≡◌, ℕ, ◌+◌, ◌-◌, ◌<◌, ◌≤◌, ◌^◌, List, [], ◌∷◌, ◌++◌, Bool, true, false, Option, Some, None, Result, Ok, Err, if◌then◌else◌, length, map, drop, refl, sym, ap, subst, ◌∙◌, arith, append_assoc, ◌⊎◌, inl, inr}
+use Rattle.std.specs.Prelude.{All, ◌==◌, ◌&&◌, nat_lt, is_some, flat_map}
+use Rattle.std.specs.List.{find}
+use Rattle.std.specs.Str.{bytes_eq}
+use Rattle.std.proofs.Math.Seq.{drop-append_seam}
+use Rattle.std.proofs.lemmas.Bool.{eqb-true, true≢false}
+use Rattle.std.proofs.lemmas.Bool.Decides.{nat_tests}
+use Rattle.std.proofs.lemmas.List.{length-append, length-map}
+use Rattle.std.proofs.lemmas.List.Elements.{All-head, All-tail}
+use Rattle.std.proofs.lemmas.Option.{same_Some}
+use Rattle.std.proofs.lemmas.Slice.Eq.{bytes_eq-Decides}
+use Rattle.dispatch_types.specs.declared.dispatch.Dispatch.{Dispatch}
+use Rattle.dispatch_types.specs.declared.dispatch.Dispatch.TheVariants.{Ready}
+use Rattle.dispatch_types.specs.declared.ready.Ready.{Ready as Greeted}
+use Rattle.dispatch_types.specs.declared.viewer.Viewer.{Viewer}
+use Rattle.dispatch_types.specs.Fold.{fold, purge}
+use Rattle.edit_apply.specs.Edits.{state}
+use Rattle.edit_events.proofs.Others.{projection_stays}
+use Rattle.gateway_frames.specs.declared.frame.Frame.{Frame as AFrame}
+use Rattle.gateway_frames.specs.declared.frame.Frame.TheVariants as frame
+use Rattle.gateway_frames.specs.declared.frame.Identify.{Identify as AnIdentify}
+use Rattle.gateway_frames.specs.declared.frame.Resume.{Resume as AResume}
+use Rattle.gateway_frames.specs.declared.fault.FrameFault.{FrameFault}
+use Rattle.gateway_frames.specs.declared.out.Out.TheVariants.{Hello, Ack, Invalid, Reconnect, Resumed}
+use Rattle.gateway_frames.specs.Read.{frame_of}
+use Rattle.session_core.specs.declared.bot.Bot.{Bot}
+use Rattle.session_core.specs.State.{Session, Condition, Attached, Detached, Ended, is_on, is_live, attached, released, has_connection, has_session, session_on, number_on}
+use Rattle.session_core.specs.Identify.{identified, viewer_of}
+use Rattle.session_core.specs.Rate.{is_rated}
+use Rattle.session_core.specs.Frames.{Move, Nothing, Answers, ClosesWith, Begins, Denies, Resumes, Wants, identify_move, fault_code, read_move, move_in_session, move_before_session}
+use Rattle.session_core.specs.Resume.{session_id, session_named}
+use Rattle.client_session.specs.declared.session.Session.{Session as ClientSession}
+use Rattle.client_session.specs.Table.{identify, resume, frame_text}
+use Rattle.world_law.specs.Frames.{framed, frame_sends, move_at, older_sends}
+use Rattle.world_law.specs.Greeting.{first_dispatches, ready, greeting_of, begins_with}
+use Rattle.world_law.specs.Inputs.{Frame, taken, outputs}
+use Rattle.world_law.specs.Model.{Worker, in_model, replay, cursors}
+use Rattle.world_law.specs.Outputs.{Output, Says, Closes, sends}
+use Rattle.world_law.specs.Resumes.{Reaches, ResumeHolds, IsDenied, GoesOn as ResumeGoesOn, sent_of}
+use Rattle.world_law.specs.Sends.{IsOff, AreOff, IsAlone}
+use Rattle.world_law.specs.Sent.{Sent, SentDispatch, dispatch_of, dispatches, told}
+use Rattle.world_law.specs.Wants.{is_numbered, numbered}
+use Rattle.session_core.specs.declared.reply.Mark.TheVariants.{Start}
+use Rattle.world_law.proofs.Alone.{IsSound, none_on}
+use Rattle.world_law.proofs.Folds.{dispatches_told, same_id}
+use Rattle.world_law.proofs.GoesOn.{each_resume_holds}
+use Rattle.world_law.proofs.Lists.{append_none, map_join}
+use Rattle.world_law.proofs.Logs.{state_id, state_is_well}
+use Rattle.world_law.proofs.Replays.{last_is}
+use Rattle.world_law.proofs.Workers.{Follows, SessionMeets}
+use Rattle.two_ends.specs.Flights.{Flight, Text, Close, said, flight, flights, ReadsBack, Fits}
+use Rattle.two_ends.specs.TwoEnds.{IsAmong}
+use Rattle.two_ends.proofs.Minds.{Item, Said, Told, Shut, flown, all_flown, told_items, Mind, with_dispatch, minded, all_minded, SessionKeeps, WorkerKeeps, At, Known, Knows, AtEnds, IsGreeting, Comes, GoesOn, Good}
+use Rattle.two_ends.proofs.Steps.{all_here, flights_join, flown_told, minded_join, good_join, told_good, at_first, at_resumed}
+use Rattle.two_ends.proofs.Stages.{IsStill, AreStill, AreLater, still_join, later_join, still_later, all_still_minded, IsBeat, AreBeats, IsFirst, Prompts, Asks, Has, Stage, off_here, off_ends}
+use Rattle.two_ends.proofs.Places.{same_number, same_session, among_below, found_among}
+
+-- ---- lists
+
+pub released_off : (conn now : ℕ) (xs : List (Session Sent)) → AreOff conn (map (released conn (Detached now)) xs)
+released_off conn now [] = tt
+released_off conn now (x ∷ xs) = (by_test (is_on conn x.condition) refl, released_off conn now xs)
+  where
+    by_test : (b : Bool) → is_on conn x.condition ≡ b → IsOff conn (if b then record x { condition = Detached now } else x)
+    by_test true here = refl
+    by_test false off = off
+
+pub last_among : (x : Session Sent) (xs : List (Session Sent)) → IsAmong x (xs ++ x ∷ [])
+last_among x [] = inl refl
+last_among x (y ∷ ys) = inr (last_among x ys)
+
+pub among_join : (x y : Session Sent) (xs : List (Session Sent)) → IsAmong y (xs ++ x ∷ []) → IsAmong y xs ⊎ (y ≡ x)
+among_join x y [] among = elim among [
+  | inl same ↦ inr same
+  | inr none ↦ absurd none
+]
+among_join x y (z ∷ xs) among = elim among [
+  | inl same ↦ inl (inl same)
+  | inr later ↦ elim (among_join x y xs later) [
+    | inl before ↦ inl (inr before)
+    | inr last ↦ inr last
+  ]
+]
+
+-- at most one session has a connection
+pub one_on : (conn : ℕ) (xs : List (Session Sent)) (x y : Session Sent) → IsAlone conn xs → IsAmong x xs → IsAmong y xs → is_on conn x.condition ≡ true → is_on conn y.condition ≡ true → y ≡ x
+one_on conn [] x y alone here there on also = absurd here
+one_on conn (z ∷ zs) x y alone here there on also = elim here [
+  | inl same ↦ elim there [
+    | inl other ↦ other ∙ sym same
+    | inr later ↦ absurd (true≢false (sym also ∙ off_here conn y zs (alone.0 (ap (λ (x : Session Sent). is_on conn x.condition) (sym same) ∙ on)) later))
+  ]
+  | inr later ↦ elim there [
+    | inl same ↦ absurd (true≢false (sym on ∙ off_here conn x zs (alone.0 (ap (λ (x : Session Sent). is_on conn x.condition) (sym same) ∙ also)) later))
+    | inr among ↦ one_on conn zs x y alone.1 later among on also
+  ]
+]
+
+-- ---- a session that is held whole leaves no thread over
+
+pub session_still : (w : Worker) (x : Session Sent) → Follows w → IsAmong x w.core.sessions → (g : ℕ)
+    → purge x.viewer.intents g (fold x.viewer.intents g (dispatches x.sent)) ≡ fold x.viewer.intents g (dispatches x.sent)
+session_still w x follows among g =
+    let meets : SessionMeets w.logs.seen x = all_here (SessionMeets w.logs.seen) x w.core.sessions follows.sessions among in
+    let h = fold x.viewer.intents g (dispatches x.sent) in
+    let Still : ℕ → Type 0 = λ n. purge x.viewer.intents n h ≡ h in
+    subst Still (state_id g _) (projection_stays (state g _) x.viewer h (state_is_well g _) (meets.meets.current g))
+
+abbrev pub IsPlain : Move → Type 0
+IsPlain move = (move ≡ Nothing) ⊎ ((move ≡ Answers) ⊎ ((code : ℕ) × (move ≡ ClosesWith code)))
+
+module _ (text : ℕ → Dispatch → List ℕ) (conn : ℕ) where
+  -- a text that changes no session but by closing the connection
+  abbrev pub made_by : Worker → Move → Worker
+  made_by w move = framed (in_model text) w conn move
+
+  abbrev pub gives_by : Worker → Move → List Output
+  gives_by w move = frame_sends (in_model text) w conn move
+
+  pub said_flies : flights conn (Says conn Ack ∷ []) ≡ all_flown text (Said Ack ∷ [])
+  said_flies = ap (λ b. (if b then Text _ ∷ [] else []) ++ []) (same_id conn)
+
+  pub closed_flies : (code : ℕ) → flights conn (Closes conn code ∷ []) ≡ all_flown text (Shut code ∷ [])
+  closed_flies code = ap (λ b. (if b then Close code ∷ [] else []) ++ []) (same_id conn)
+
+module _ (text : ℕ → Dispatch → List ℕ) (intents conn : ℕ) where
+  -- what a text leaves, of the worker, of what is on its way, and of how far both are
+  pub record Leaves (worker : ℕ) (m : Mind) (is : List Item) (later : List (List ℕ)) (new : Worker) (out : List Output) : Type 0 where
+    pub items : List Item
+    pub are : flights conn out ≡ all_flown text items
+    pub good : Good intents worker new.core.sessions (all_minded m is) items
+    pub stage : Stage intents worker m conn new.core.sessions (is ++ items) later
+
+  -- items that are still, while no session is on the connection or those on it stay
+  module _ (worker : ℕ) (m : Mind) (is : List Item) (later : List (List ℕ)) (xs : List (Session Sent)) (items : List Item) (still : AreStill items) where
+    still_prompts : Prompts conn xs is later → Prompts conn xs (is ++ items) later
+    still_prompts waits = record {
+      off = waits.off;
+      prompt = waits.prompt;
+      which = waits.which;
+      front = waits.front;
+      back = waits.back ++ items;
+      split = ap (λ is. is ++ items) waits.split ∙ append_assoc waits.front (waits.prompt ∷ waits.back) items;
+      before = waits.before;
+      later = still_join waits.back items waits.later still;
+      beats = waits.beats;
+    }
+
+    still_asks : Asks intents m conn xs is later → Asks intents m conn xs (is ++ items) later
+    still_asks asks = record {
+      off = asks.off;
+      still = still_join is items asks.still still;
+      frame = asks.frame;
+      first = asks.first;
+      front = asks.front;
+      back = asks.back;
+      split = asks.split;
+      before = asks.before;
+      later = asks.later;
+    }
+
+    still_has : Has intents worker m conn xs is later → Has intents worker m conn xs (is ++ items) later
+    still_has has = record {
+      ends = subst (λ (n : Mind). AtEnds intents worker conn n xs) (sym (minded_join m is items ∙ all_still_minded (all_minded m is) items still)) has.ends;
+      late = later_join is items has.late (still_later items still);
+      beats = has.beats;
+    }
+
+    pub still_stage : Stage intents worker m conn xs is later → Stage intents worker m conn xs (is ++ items) later
+    still_stage stage = elim stage [
+      | inl waits ↦ inl (still_prompts waits)
+      | inr (inl asks) ↦ inr (inl (still_asks asks))
+      | inr (inr has) ↦ inr (inr (still_has has))
+    ]
+
+  -- sessions that have lost the connection
+  shut_stage : (worker : ℕ) (m : Mind) (is : List Item) (later : List (List ℕ)) (xs : List (Session Sent)) (now : ℕ) → Stage intents worker m conn xs is later
+      → Stage intents worker m conn (map (released conn (Detached now)) xs) is later
+  shut_stage worker m is later xs now stage = elim stage [
+    | inl waits ↦ inl (record { off = released_off conn now xs; prompt = waits.prompt; which = waits.which; front = waits.front; back = waits.back; split = waits.split; before = waits.before; later = waits.later; beats = waits.beats })
+    | inr (inl asks) ↦ inr (inl (record { off = released_off conn now xs; still = asks.still; frame = asks.frame; first = asks.first; front = asks.front; back = asks.back; split = asks.split; before = asks.before; later = asks.later }))
+    | inr (inr has) ↦ inr (inr (record { ends = off_ends intents worker conn (all_minded m is) (map (released conn (Detached now)) xs) (released_off conn now xs); late = has.late; beats = has.beats }))
+  ]
+
+  pub plain_leaves : (w : Worker) (worker : ℕ) (m : Mind) (is : List Item) (later : List (List ℕ)) (move : Move) → IsPlain move → Stage intents worker m conn w.core.sessions is later
+      → Leaves worker m is later (made_by text conn w move) (gives_by text conn w move)
+  plain_leaves w worker m is later move plain stage = elim plain [
+    | inl none ↦ subst Left (sym none) (record { items = []; are = refl; good = tt; stage = still_stage worker m is later w.core.sessions [] tt stage })
+    | inr (inl answers) ↦ subst Left (sym answers) (record { items = Said Ack ∷ []; are = said_flies text conn; good = (tt, tt); stage = still_stage worker m is later w.core.sessions (Said Ack ∷ []) (tt, tt) stage })
+    | inr (inr closes) ↦ subst Left (sym closes.1) (record {
+      items = Shut closes.0 ∷ [];
+      are = closed_flies text conn closes.0;
+      good = (tt, tt);
+      stage = still_stage worker m is later (map (released conn (Detached w.now)) w.core.sessions) (Shut closes.0 ∷ []) (tt, tt) (shut_stage worker m is later w.core.sessions w.now stage);
+    })
+  ]
+    where
+      abbrev Left : Move → Type 0
+      Left move = Leaves worker m is later (made_by text conn w move) (gives_by text conn w move)
+
+module _ (text : ℕ → Dispatch → List ℕ) (back : ReadsBack text) (conn : ℕ) where
+  -- a heartbeat is answered, or closes the connection
+  beat_read : (o : Option ℕ) (s : Option ℕ) (w : Worker) (r : Result AFrame FrameFault) → ((read : AFrame) → r ≡ Ok read → read ≡ frame.Heartbeat o) → IsPlain (read_move (replay text) w.core s r)
+  beat_read o s w (Err fault) reads = inr (inr (fault_code fault, refl))
+  beat_read o None w (Ok read) reads = inr (inl (ap (move_before_session (replay text) w.core) (reads read refl)))
+  beat_read o (Some number) w (Ok read) reads = inr (inl (ap (move_in_session number) (reads read refl)))
+
+  pub beat_plain : (w : Worker) (t : List ℕ) → IsBeat t → IsPlain (move_at (in_model text) w conn t)
+  beat_plain w t beat = by_tests (has_connection conn w.core) (is_rated conn w.now w.core)
+    where
+      reads : (read : AFrame) → frame_of t ≡ Ok read → read ≡ frame.Heartbeat beat.0
+      reads read is = back.frames (frame.Heartbeat beat.0) read tt (ap frame_of (sym beat.1) ∙ is)
+
+      by_tests : (there rated : Bool) → IsPlain (if there then (if rated then ClosesWith 4008 else read_move (replay text) w.core (number_on conn w.core) (frame_of t)) else Nothing)
+      by_tests false rated = inl refl
+      by_tests true true = inr (inr (4008, refl))
+      by_tests true false = beat_read beat.0 (number_on conn w.core) w (frame_of t) reads
