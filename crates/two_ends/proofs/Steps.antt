@@ -51,7 +51,7 @@ one_more front d = omega (arith, length-append front (d ∷ []))
 abbrev pub Advances : Mind → Mind → Type 0
 Advances m n = (s t : ClientSession) → m.session ≡ Some s → n.session ≡ Some t → t.id ≡ s.id → s.number ≤ t.number
 
-advances_same : (m : Mind) → Advances m m
+pub advances_same : (m : Mind) → Advances m m
 advances_same m s t is at id = let same : s ≡ t = same_Some s t (sym is ∙ at) in subst (λ (u : ClientSession). s.number ≤ u.number) same (omega arith)
 
 module _ (intents worker : ℕ) where

@@ -67,7 +67,7 @@ pub record ReadsBack (text : ℕ → Dispatch → List ℕ) : Type 0 where
 abbrev pub SessionFits : Session Sent → Type 0
 SessionFits x = All DispatchFits (dispatches x.sent) × (length x.sent.told < 2 ^ 64)
 
--- so do all that a worker has made, and the numbers of its sessions
+-- so do all that a worker has made; it makes fewer than 2^32 sessions
 pub record Fits (w : Worker) : Type 0 where
   pub sessions : All SessionFits w.core.sessions
-  pub made : w.core.made < 2 ^ 64
+  pub made : w.core.made < 2 ^ 32

@@ -1,0 +1,422 @@
+-- What holds of a client and its worker lasts through every event.
+use Rattle.std.proofs.Common.{◌≡◌, ℕ, ◌+◌, ◌<◌, ◌≤◌, ◌^◌, List, [], ◌∷◌, ◌++◌, Bool, true, false, Option, Some, None, if◌then◌else◌, length, map, take, refl, sym, ap, subst, ◌∙◌, arith, append_assoc, eq-eqb, ◌⊎◌, inl, inr}
+use Rattle.std.specs.Prelude.{All, ◌==◌, nat_lt, option_map, flat_map}
+use Rattle.std.proofs.lemmas.Bool.{true≢false}
+use Rattle.std.proofs.lemmas.Option.{same_Some}
+use Rattle.dispatch_types.specs.declared.dispatch.Dispatch.{Dispatch}
+use Rattle.gateway_frames.specs.declared.out.Out.TheVariants as out
+use Rattle.session_core.specs.State.{State, Session, Connection, has_connection, opened, with_connection}
+use Rattle.client_session.specs.declared.session.Session.{Session as ClientSession}
+use Rattle.client_session.specs.declared.received.Received.{Received}
+use Rattle.client_session.specs.Received.{IsTextOf}
+use Rattle.client_session.specs.Step.{Event as Told, Receives, Loses as LosesLink, Asks as IsAsked, acts}
+use Rattle.client_session.specs.Law.{Model as Client, taken as client_taken}
+use Rattle.world_law.specs.Inputs.{Input, Look, Rebase, Open, Frame, Lost, Closed, Tick, taken, outputs, open_sends}
+use Rattle.world_law.specs.Model.{Worker, in_model}
+use Rattle.world_law.specs.Outputs.{Output, Says, Closes}
+use Rattle.world_law.specs.Sends.{AreOff}
+use Rattle.world_law.specs.Sent.{Sent}
+use Rattle.world_law.specs.World.{World, Step, Edits, Looks, Opens, Frames, Loses, Leaves, Ticks, look_at, lags}
+use Rattle.world_law.proofs.Alone.{IsSound, taken_sound}
+use Rattle.world_law.proofs.Folds.{same_id}
+use Rattle.world_law.proofs.Lists.{append_none, map_join}
+use Rattle.world_law.proofs.Workers.{Follows}
+use Rattle.two_ends.specs.Flights.{Flight, Text, Close, flights, ReadsBack, Fits, sent_texts, said}
+use Rattle.two_ends.specs.Ends.{input_if, input_of, outputs_of}
+use Rattle.two_ends.specs.Events.{IsElsewhere}
+use Rattle.two_ends.proofs.Minds.{Item, Said, Told as ToldItem, Shut, flown, all_flown, Mind, minded, all_minded, SessionKeeps, WorkerKeeps, AtEnds, Knows, Fine, Good}
+use Rattle.two_ends.proofs.Growing.{taken_grows, taken_worker, taken_keeps}
+use Rattle.two_ends.proofs.Steps.{Advances, advances_item, minded_join, good_join, good_grown, good_take, knows_item, knows_grown}
+use Rattle.two_ends.proofs.Stages.{AreStill, AreLater, later_join, AreBeats, beats_join, AreOwn, own_join, own_grown, Prompts, Asks, Has, Stage, off_ends}
+use Rattle.two_ends.proofs.Arriving.{still_stage}
+use Rattle.two_ends.proofs.Judging.{text_leaves}
+use Rattle.two_ends.proofs.Hearing.{mind, payload_of, IsTextOfItem, read_item, hears_mind, asks_mind, loses_mind, same_intents, beat_texts, beats_own, heard_stage, heard_own}
+use Rattle.two_ends.proofs.Elsewhere.{IsElse, IsShut, AreLate, Reaches, off_elsewhere, on_elsewhere}
+use Rattle.two_ends.proofs.Places.{after_input}
+
+-- ---- what holds
+
+-- of a client, its connection with what is on its way, and its worker
+pub record Holds (text : ℕ → Dispatch → List ℕ) (c : Client) (worker : ℕ) (conn : Option ℕ) (whole : Bool) (to_client : List Flight) (to_worker : List (List ℕ)) (w : Worker) : Type 0 where
+  pub number : w.core.worker ≡ worker
+  pub items : List Item
+  pub are : to_client ≡ all_flown text items
+  pub good : Good c.intents worker w.core.sessions (mind c) items
+  pub knows : Knows c.intents worker w.core.sessions (mind c)
+  pub own : AreOwn worker w.core.sessions to_worker
+  pub keeps : WorkerKeeps w
+  pub stage : (k : ℕ) → conn ≡ Some k → whole ≡ true → Stage c.intents worker (mind c) k w.core.sessions items to_worker
+
+-- ---- closes
+
+shuts : List ℕ → List Item
+shuts codes = map (λ code. Shut code) codes
+
+shuts_flown : (text : ℕ → Dispatch → List ℕ) (codes : List ℕ) → map (λ code. Close code) codes ≡ all_flown text (shuts codes)
+unfolding shuts
+shuts_flown text [] = refl
+shuts_flown text (code ∷ codes) = ap (λ fs. Close code ∷ fs) (shuts_flown text codes)
+
+shuts_still : (codes : List ℕ) → AreStill (shuts codes)
+unfolding shuts
+shuts_still [] = tt
+shuts_still (code ∷ codes) = (tt, shuts_still codes)
+
+shuts_good : (intents worker : ℕ) (xs : List (Session Sent)) (m : Mind) (codes : List ℕ) → Good intents worker xs m (shuts codes)
+unfolding shuts
+shuts_good intents worker xs m [] = tt
+shuts_good intents worker xs m (code ∷ codes) = (tt, shuts_good intents worker xs m codes)
+
+late_later : (is : List Item) → AreLate is → AreLater is
+late_later [] late = tt
+late_later (Said (out.Hello interval_ms) ∷ is) late = absurd late.0
+late_later (Said out.Ack ∷ is) late = absurd late.0
+late_later (Said (out.Invalid resumable) ∷ is) late = absurd late.0
+late_later (Said out.Reconnect ∷ is) late = absurd late.0
+late_later (Said (out.Resumed n) ∷ is) late = absurd late.0
+late_later (ToldItem n d ∷ is) late = (tt, late_later is late.1)
+late_later (Shut code ∷ is) late = (tt, late_later is late.1)
+
+-- ---- what a worker takes
+
+module _ (text : ℕ → Dispatch → List ℕ) (c : Client) (worker : ℕ) (to_client : List Flight) (w : Worker) where
+  -- nothing gets on its way to the client
+  quietly : (conn : Option ℕ) (to_worker : List (List ℕ)) (new : Worker) → new.core.worker ≡ worker → (old : Holds text c worker conn false to_client to_worker w)
+      → Good c.intents worker new.core.sessions (mind c) old.items → Knows c.intents worker new.core.sessions (mind c) → AreOwn worker new.core.sessions to_worker → WorkerKeeps new
+      → Holds text c worker conn false (to_client ++ []) to_worker new
+  quietly conn to_worker new number old good knows own keeps = record {
+    number = number;
+    items = old.items;
+    are = append_none to_client ∙ old.are;
+    good = good;
+    knows = knows;
+    own = own;
+    keeps = keeps;
+    stage = λ k is whole. absurd (true≢false (sym whole));
+  }
+
+  -- an input that is not of the client's connection
+  module _ (i : Input) (sound : IsSound w) where
+    abbrev new : Worker
+    new = taken (in_model text) w i
+
+    module _ (intents : ℕ) (m : Mind) (k : ℕ) (is : List Item) (to_worker : List (List ℕ)) (elsewhere : IsElse k i) (keeps : WorkerKeeps w) (number : w.core.worker ≡ worker) where
+      pub record Goes : Type 0 where
+        pub more : List Item
+        pub are : flights k (outputs (in_model text) w i) ≡ all_flown text more
+        pub good : Good intents worker new.core.sessions (all_minded m is) more
+        pub stage : Stage intents worker m k new.core.sessions (is ++ more) to_worker
+
+      shut_goes : AreOff k w.core.sessions → ((off : AreOff k new.core.sessions) → Stage intents worker m k new.core.sessions is to_worker) → Goes
+      shut_goes off stage =
+          let shut : IsShut k new.core.sessions (flights k (outputs (in_model text) w i)) = off_elsewhere text i w k elsewhere off in
+          record {
+            more = shuts shut.codes;
+            are = shut.shut ∙ shuts_flown text shut.codes;
+            good = shuts_good intents worker new.core.sessions (all_minded m is) shut.codes;
+            stage = still_stage text intents k worker m is to_worker new.core.sessions (shuts shut.codes) (shuts_still shut.codes) (stage shut.off);
+          }
+
+      pub goes : Stage intents worker m k w.core.sessions is to_worker → Goes
+      goes stage = elim stage [
+        | inl waits ↦ shut_goes waits.off (λ off. inl (record { off = off; prompt = waits.prompt; which = waits.which; front = waits.front; back = waits.back; split = waits.split; before = waits.before; later = waits.later; beats = waits.beats }))
+        | inr (inl asks) ↦ shut_goes asks.off (λ off. inr (inl (record { off = off; still = asks.still; frame = asks.frame; first = asks.first; front = asks.front; back = asks.back; split = asks.split; before = asks.before; later = asks.later })))
+        | inr (inr has) ↦
+            let reaches : Reaches text intents worker k (all_minded m is) new.core.sessions (flights k (outputs (in_model text) w i)) =
+            subst (λ n. Reaches text intents n k (all_minded m is) new.core.sessions (flights k (outputs (in_model text) w i))) number
+            (on_elsewhere text i w k intents (all_minded m is) elsewhere sound keeps (taken_keeps text i w keeps)
+            (subst (λ n. AtEnds intents n k (all_minded m is) w.core.sessions) (sym number) has.ends)) in
+            record {
+              more = reaches.items;
+              are = reaches.are;
+              good = reaches.good;
+              stage = inr (inr (record {
+                ends = subst (λ (n : Mind). AtEnds intents worker k n new.core.sessions) (sym (minded_join m is reaches.items)) reaches.ends;
+                late = later_join is reaches.items has.late (late_later reaches.items reaches.late);
+                beats = has.beats;
+              }));
+            }
+      ]
+
+-- what outputs put on their way to a connection, if there is one
+abbrev pub flown_to : Option ℕ → List Output → List Flight
+flown_to None os = []
+flown_to (Some k) os = flights k os
+
+module _ (text : ℕ → Dispatch → List ℕ) (c : Client) (worker : ℕ) (to_client : List Flight) (w : Worker) (sound : IsSound w) where
+  abbrev Lasts : Input → Option ℕ → Bool → List (List ℕ) → Type 0
+  Lasts i conn whole to_worker = Holds text c worker conn whole (to_client ++ (if whole then flown_to conn (outputs (in_model text) w i) else [])) to_worker (taken (in_model text) w i)
+
+  module _ (i : Input) (to_worker : List (List ℕ)) where
+    abbrev next : Worker
+    next = taken (in_model text) w i
+
+    number_kept : w.core.worker ≡ worker → next.core.worker ≡ worker
+    number_kept is = taken_worker text i w ∙ is
+
+    good_kept : (items : List Item) → Good c.intents worker w.core.sessions (mind c) items → Good c.intents worker next.core.sessions (mind c) items
+    good_kept items good = good_grown c.intents worker w.core.sessions next.core.sessions (taken_grows text i w) (mind c) items good
+
+    knows_kept : Knows c.intents worker w.core.sessions (mind c) → Knows c.intents worker next.core.sessions (mind c)
+    knows_kept knows = knows_grown c.intents worker w.core.sessions next.core.sessions (taken_grows text i w) (mind c) knows
+
+    own_kept : AreOwn worker w.core.sessions to_worker → AreOwn worker next.core.sessions to_worker
+    own_kept own = own_grown worker w.core.sessions next.core.sessions (taken_grows text i w) to_worker own
+
+  unlinked_lasts : (i : Input) (conn : Option ℕ) (to_worker : List (List ℕ)) → Holds text c worker conn false to_client to_worker w → Lasts i conn false to_worker
+  unlinked_lasts i conn to_worker old =
+      quietly text c worker to_client w conn to_worker (taken (in_model text) w i) (number_kept i to_worker old.number) old
+      (good_kept i to_worker old.items old.good) (knows_kept i to_worker old.knows) (own_kept i to_worker old.own) (taken_keeps text i w old.keeps)
+
+  -- an input that is not of the client's connection
+  pub else_lasts : (i : Input) (conn : Option ℕ) (whole : Bool) (to_worker : List (List ℕ)) → ((k : ℕ) → conn ≡ Some k → IsElse k i) → Holds text c worker conn whole to_client to_worker w → Lasts i conn whole to_worker
+  else_lasts i conn false to_worker elsewhere old = unlinked_lasts i conn to_worker old
+  else_lasts i None true to_worker elsewhere old = record {
+    number = number_kept i to_worker old.number;
+    items = old.items;
+    are = append_none to_client ∙ old.are;
+    good = good_kept i to_worker old.items old.good;
+    knows = knows_kept i to_worker old.knows;
+    own = own_kept i to_worker old.own;
+    keeps = taken_keeps text i w old.keeps;
+    stage = λ k is whole. absurd (cc is);
+  }
+  else_lasts i (Some k) true to_worker elsewhere old =
+      let goes : Goes text c worker to_client w i sound c.intents (mind c) k old.items to_worker (elsewhere k refl) old.keeps old.number =
+      goes text c worker to_client w i sound c.intents (mind c) k old.items to_worker (elsewhere k refl) old.keeps old.number (old.stage k refl refl) in
+      record {
+        number = number_kept i to_worker old.number;
+        items = old.items ++ goes.more;
+        are = ap (λ fs. fs ++ flights k (outputs (in_model text) w i)) old.are ∙ (ap (λ fs. all_flown text old.items ++ fs) goes.are ∙ sym (map_join (flown text) old.items goes.more));
+        good = good_join c.intents worker (taken (in_model text) w i).core.sessions (mind c) old.items goes.more (good_kept i to_worker old.items old.good) goes.good;
+        knows = knows_kept i to_worker old.knows;
+        own = own_kept i to_worker old.own;
+        keeps = taken_keeps text i w old.keeps;
+        stage = λ n is whole. subst (λ (n : ℕ). Stage c.intents worker (mind c) n (taken (in_model text) w i).core.sessions (old.items ++ goes.more) to_worker) (same_Some k n is) goes.stage;
+      }
+
+  -- nothing, or such an input
+  pub any_lasts : (o : Option Input) (conn : Option ℕ) (whole : Bool) (to_worker : List (List ℕ)) → ((i : Input) → o ≡ Some i → (k : ℕ) → conn ≡ Some k → IsElse k i) → Holds text c worker conn whole to_client to_worker w
+      → Holds text c worker conn whole (to_client ++ (if whole then flown_to conn (outputs_of text w o) else [])) to_worker (after_input text w o)
+  any_lasts (Some i) conn whole to_worker elsewhere old = else_lasts i conn whole to_worker (elsewhere i refl) old
+  any_lasts None conn whole to_worker elsewhere old = subst (λ (fs : List Flight). Holds text c worker conn whole fs to_worker w) (sym (none whole conn)) old
+    where
+      none : (whole : Bool) (conn : Option ℕ) → to_client ++ (if whole then flown_to conn [] else []) ≡ to_client
+      none true None = append_none to_client
+      none true (Some k) = append_none to_client
+      none false conn = append_none to_client
+
+  -- a text of the client
+  pub text_lasts : ReadsBack text → Follows w → w.core.made < 2 ^ 32 → (k : ℕ) (t : List ℕ) (later : List (List ℕ)) (whole : Bool) → Holds text c worker (Some k) whole to_client (t ∷ later) w
+      → Lasts (Frame k t) (Some k) whole later
+  text_lasts back follows few k t later false old = unlinked_lasts (Frame k t) (Some k) later (record { number = old.number; items = old.items; are = old.are; good = old.good; knows = old.knows; own = old.own.1; keeps = old.keeps; stage = λ n is whole. absurd (true≢false (sym whole)) })
+  text_lasts back follows few k t later true old =
+      let i : Input = Frame k t in
+      let new : Worker = taken (in_model text) w i in
+      let left = text_leaves text back w k t c.intents (mind c) old.items later
+      (subst (λ n. Stage c.intents n (mind c) k w.core.sessions old.items (t ∷ later)) (sym old.number) (old.stage k refl refl))
+      (subst (λ n. Knows c.intents n w.core.sessions (mind c)) (sym old.number) old.knows)
+      sound (omega (arith, few)) follows (taken_sound text i w sound) (taken_worker text i w) (taken_keeps text i w old.keeps) in
+      record {
+        number = number_kept i later old.number;
+        items = old.items ++ left.items;
+        are = ap (λ fs. fs ++ flights k (outputs (in_model text) w i)) old.are ∙ (ap (λ fs. all_flown text old.items ++ fs) left.are ∙ sym (map_join (flown text) old.items left.items));
+        good = good_join c.intents worker new.core.sessions (mind c) old.items left.items (good_kept i later old.items old.good)
+            (subst (λ n. Good c.intents n new.core.sessions (all_minded (mind c) old.items) left.items) old.number left.good);
+        knows = knows_kept i later old.knows;
+        own = own_kept i later old.own.1;
+        keeps = taken_keeps text i w old.keeps;
+        stage = λ n is whole.
+            subst (λ (n : ℕ). Stage c.intents worker (mind c) n new.core.sessions (old.items ++ left.items) later) (same_Some k n is)
+            (subst (λ n. Stage c.intents n (mind c) k new.core.sessions (old.items ++ left.items) later) old.number left.stage);
+      }
+
+  -- a connection that opens
+  pub open_lasts : (k : ℕ) (conn : Option ℕ) (whole : Bool) (to_worker : List (List ℕ)) → has_connection k w.core ≡ false → AreOff k w.core.sessions → Holds text c worker conn whole to_client to_worker w
+      → Holds text c worker (Some k) true (flights k (outputs (in_model text) w (Open k))) [] (taken (in_model text) w (Open k))
+  open_lasts k conn whole to_worker unused off old = by_tests (has_connection k w.core) (nat_lt (length w.core.connections) 64) unused
+    where
+      abbrev Claim : State Sent → List Output → Type 0
+      Claim s os = Holds text c worker (Some k) true (flights k os) [] (record w { core = s })
+
+      by_tests : (there room : Bool) → there ≡ false → Claim (if there then w.core else (if room then with_connection k w.now w.core else w.core)) (if there then [] else (if room then Says k (out.Hello 41250) ∷ [] else Closes k 4000 ∷ []))
+      by_tests true room is = absurd (true≢false is)
+      by_tests false true is = record {
+        number = old.number;
+        items = Said (out.Hello 41250) ∷ [];
+        are = ap (λ b. (if b then Text (said (out.Hello 41250)) ∷ [] else []) ++ []) (same_id k);
+        good = (omega arith, tt);
+        knows = old.knows;
+        own = tt;
+        keeps = old.keeps;
+        stage = λ n is whole. subst (λ (n : ℕ). Stage c.intents worker (mind c) n w.core.sessions (Said (out.Hello 41250) ∷ []) []) (same_Some k n is)
+            (inl (record { off = off; prompt = Said (out.Hello 41250); which = inl refl; front = []; back = []; split = refl; before = tt; later = tt; beats = tt }));
+      }
+      by_tests false false is = record {
+        number = old.number;
+        items = Shut 4000 ∷ [];
+        are = ap (λ b. (if b then Close 4000 ∷ [] else []) ++ []) (same_id k);
+        good = (tt, tt);
+        knows = old.knows;
+        own = tt;
+        keeps = old.keeps;
+        stage = λ n is whole. subst (λ (n : ℕ). Stage c.intents worker (mind c) n w.core.sessions (Shut 4000 ∷ []) []) (same_Some k n is)
+            (inr (inr (record { ends = off_ends c.intents worker k (mind c) w.core.sessions off; late = (tt, tt); beats = tt })));
+      }
+
+-- ---- what the client is told
+
+module _ (text : ℕ → Dispatch → List ℕ) (worker : ℕ) (conn : Option ℕ) (w : Worker) where
+  -- the client receives the first text on its way
+  pub hear_lasts : ReadsBack text → Fits w → (c : Client) (whole : Bool) (t : List ℕ) (rest : List Flight) (to_worker : List (List ℕ)) (received : Received) (now : ℕ) → IsTextOf t received
+      → Holds text c worker conn whole (Text t ∷ rest) to_worker w
+      → Holds text (client_taken c (Receives received now)) worker conn whole rest (to_worker ++ (if whole then sent_texts (acts c (Receives received now)) else [])) w
+  hear_lasts back fits c whole t rest to_worker received now reads old = by_items old.items refl
+    where
+      abbrev xs : List (Session Sent)
+      xs = w.core.sessions
+
+      text_of : (i : Item) → Text t ≡ flown text i → IsTextOfItem text t i
+      text_of (Said out) is = cc is
+      text_of (ToldItem n d) is = cc is
+      text_of (Shut code) is = absurd (cc is)
+
+      by_item : (i : Item) (is : List Item) → old.items ≡ i ∷ is → rest ≡ all_flown text is
+          → Holds text (client_taken c (Receives (payload_of i) now)) worker conn whole rest (to_worker ++ (if whole then sent_texts (acts c (Receives (payload_of i) now)) else [])) w
+      by_item i is e flies =
+          let good : Good c.intents worker xs (mind c) (i ∷ is) = subst (λ (is : List Item). Good c.intents worker xs (mind c) is) e old.good in
+          let asked : (client_taken c (Receives (payload_of i) now)).intents ≡ c.intents = same_intents c (Receives (payload_of i) now) in
+          let minds : mind (client_taken c (Receives (payload_of i) now)) ≡ minded (mind c) i = hears_mind c i now in
+          record {
+            number = old.number;
+            items = is;
+            are = flies;
+            good = subst (λ n. Good n worker xs (mind (client_taken c (Receives (payload_of i) now))) is) (sym asked) (subst (λ (m : Mind). Good c.intents worker xs m is) (sym minds) good.1);
+            knows = subst (λ n. Knows n worker xs (mind (client_taken c (Receives (payload_of i) now)))) (sym asked)
+                (subst (λ (m : Mind). Knows c.intents worker xs m) (sym minds) (knows_item c.intents worker xs (mind c) i (subst (λ n. All (SessionKeeps n) xs) old.number old.keeps) old.knows good.0));
+            own = own_join worker xs to_worker (if whole then sent_texts (acts c (Receives (payload_of i) now)) else []) old.own (own_more whole);
+            keeps = old.keeps;
+            stage = stage_more whole old.stage asked minds;
+          }
+        where
+          own_more : (b : Bool) → AreOwn worker xs (if b then sent_texts (acts c (Receives (payload_of i) now)) else [])
+          own_more true = heard_own c.intents worker 0 xs c refl old.knows (payload_of i) now
+          own_more false = tt
+
+          stage_more : (b : Bool) → ((k : ℕ) → conn ≡ Some k → b ≡ true → Stage c.intents worker (mind c) k xs old.items to_worker)
+              → (client_taken c (Receives (payload_of i) now)).intents ≡ c.intents → mind (client_taken c (Receives (payload_of i) now)) ≡ minded (mind c) i
+              → (k : ℕ) → conn ≡ Some k → b ≡ true
+              → Stage (client_taken c (Receives (payload_of i) now)).intents worker (mind (client_taken c (Receives (payload_of i) now))) k xs is (to_worker ++ (if b then sent_texts (acts c (Receives (payload_of i) now)) else []))
+          stage_more true stage asked minds k here on =
+              subst (λ n. Stage n worker (mind (client_taken c (Receives (payload_of i) now))) k xs is (to_worker ++ sent_texts (acts c (Receives (payload_of i) now)))) (sym asked)
+              (subst (λ (m : Mind). Stage c.intents worker m k xs is (to_worker ++ sent_texts (acts c (Receives (payload_of i) now)))) (sym minds)
+              (heard_stage c.intents worker k xs c refl i is to_worker now (subst (λ (is : List Item). Stage c.intents worker (mind c) k xs is to_worker) e (stage k here refl))))
+          stage_more false stage asked minds k here on = absurd (true≢false (sym on))
+
+      by_items : (items : List Item) → old.items ≡ items → Holds text (client_taken c (Receives received now)) worker conn whole rest (to_worker ++ (if whole then sent_texts (acts c (Receives received now)) else [])) w
+      by_items [] e = absurd (cc (old.are ∙ ap (all_flown text) e))
+      by_items (i ∷ is) e =
+          let are : Text t ∷ rest ≡ flown text i ∷ all_flown text is = old.are ∙ ap (all_flown text) e in
+          let fine : Fine c.intents worker xs (mind c) i = (subst (λ (is : List Item). Good c.intents worker xs (mind c) is) e old.good).0 in
+          let read : received ≡ payload_of i = read_item text back c.intents w fits worker (mind c) i t received fine (text_of i (cc are)) reads in
+          subst (λ (received : Received). Holds text (client_taken c (Receives received now)) worker conn whole rest (to_worker ++ (if whole then sent_texts (acts c (Receives received now)) else [])) w)
+          (sym read) (by_item i is e (cc are))
+
+  -- and does not go back
+  pub hear_advances : ReadsBack text → Fits w → (c : Client) (whole : Bool) (t : List ℕ) (rest : List Flight) (to_worker : List (List ℕ)) (received : Received) (now : ℕ) → IsTextOf t received
+      → Holds text c worker conn whole (Text t ∷ rest) to_worker w → Advances (mind c) (mind (client_taken c (Receives received now)))
+  hear_advances back fits c whole t rest to_worker received now reads old = by_items old.items refl
+    where
+      text_is : (i : Item) → Text t ≡ flown text i → IsTextOfItem text t i
+      text_is (Said out) is = cc is
+      text_is (ToldItem n d) is = cc is
+      text_is (Shut code) is = absurd (cc is)
+
+      by_items : (items : List Item) → old.items ≡ items → Advances (mind c) (mind (client_taken c (Receives received now)))
+      by_items [] e = absurd (cc (old.are ∙ ap (all_flown text) e))
+      by_items (i ∷ is) e =
+          let are : Text t ∷ rest ≡ flown text i ∷ all_flown text is = old.are ∙ ap (all_flown text) e in
+          let fine : Fine c.intents worker w.core.sessions (mind c) i = (subst (λ (is : List Item). Good c.intents worker w.core.sessions (mind c) is) e old.good).0 in
+          let read : received ≡ payload_of i = read_item text back c.intents w fits worker (mind c) i t received fine (text_is i (cc are)) reads in
+          subst (λ (received : Received). Advances (mind c) (mind (client_taken c (Receives received now)))) (sym read)
+          (subst (Advances (mind c)) (sym (hears_mind c i now))
+          (advances_item c.intents worker w.core.sessions (mind c) i (subst (λ n. All (SessionKeeps n) w.core.sessions) old.number old.keeps) fine))
+
+  -- the client is asked whether a heartbeat is due
+  pub beat_lasts : (c : Client) (whole : Bool) (to_client : List Flight) (to_worker : List (List ℕ)) (now : ℕ) → Holds text c worker conn whole to_client to_worker w
+      → Holds text (client_taken c (IsAsked now)) worker conn whole to_client (to_worker ++ (if whole then sent_texts (acts c (IsAsked now)) else [])) w
+  beat_lasts c whole to_client to_worker now old = record {
+    number = old.number;
+    items = old.items;
+    are = old.are;
+    good = as_now (λ n m. Good n worker w.core.sessions m old.items) old.good;
+    knows = as_now (λ n m. Knows n worker w.core.sessions m) old.knows;
+    own = own_join worker w.core.sessions to_worker (if whole then sent_texts (acts c (IsAsked now)) else []) old.own (beats_own worker w.core.sessions _ (beats whole));
+    keeps = old.keeps;
+    stage = λ k here on. as_now (λ n m. Stage n worker m k w.core.sessions old.items (to_worker ++ (if whole then sent_texts (acts c (IsAsked now)) else []))) (beaten_stage k (old.stage k here on));
+  }
+    where
+      as_now : (P : ℕ → Mind → Type 0) → P c.intents (mind c) → P (client_taken c (IsAsked now)).intents (mind (client_taken c (IsAsked now)))
+      as_now P here = subst (λ n. P n (mind (client_taken c (IsAsked now)))) (sym (same_intents c (IsAsked now))) (subst (P c.intents) (sym (asks_mind c now)) here)
+
+      beats : (b : Bool) → AreBeats (if b then sent_texts (acts c (IsAsked now)) else [])
+      beats true = beat_texts c now
+      beats false = tt
+
+      beaten_stage : (k : ℕ) → Stage c.intents worker (mind c) k w.core.sessions old.items to_worker → Stage c.intents worker (mind c) k w.core.sessions old.items (to_worker ++ (if whole then sent_texts (acts c (IsAsked now)) else []))
+      beaten_stage k stage = elim stage [
+        | inl waits ↦ inl (record { off = waits.off; prompt = waits.prompt; which = waits.which; front = waits.front; back = waits.back; split = waits.split; before = waits.before; later = waits.later; beats = beats_join to_worker _ waits.beats (beats whole) })
+        | inr (inl asks) ↦ inr (inl (record {
+          off = asks.off;
+          still = asks.still;
+          frame = asks.frame;
+          first = asks.first;
+          front = asks.front;
+          back = asks.back ++ (if whole then sent_texts (acts c (IsAsked now)) else []);
+          split = ap (λ ts. ts ++ (if whole then sent_texts (acts c (IsAsked now)) else [])) asks.split ∙ append_assoc asks.front (_ ∷ asks.back) _;
+          before = asks.before;
+          later = beats_join asks.back _ asks.later (beats whole);
+        }))
+        | inr (inr has) ↦ inr (inr (record { ends = has.ends; late = has.late; beats = beats_join to_worker _ has.beats (beats whole) }))
+      ]
+
+  -- the client learns that its connection has ended
+  pub learn_lasts : (c : Client) (whole : Bool) (to_client : List Flight) (to_worker : List (List ℕ)) (code : Option ℕ) → Holds text c worker conn whole to_client to_worker w
+      → Holds text (client_taken c (LosesLink code)) worker conn false [] to_worker w
+  learn_lasts c whole to_client to_worker code old = record {
+    number = old.number;
+    items = [];
+    are = refl;
+    good = tt;
+    knows = subst (λ n. Knows n worker w.core.sessions (mind (client_taken c (LosesLink code)))) (sym (same_intents c (LosesLink code))) (elim (loses_mind c code) [
+      | inl same ↦ subst (λ (m : Mind). Knows c.intents worker w.core.sessions m) (sym same) old.knows
+      | inr none ↦ subst (λ (m : Mind). Knows c.intents worker w.core.sessions m) (sym none) (λ s is. absurd (cc is))
+    ]);
+    own = old.own;
+    keeps = old.keeps;
+    stage = λ k here on. absurd (true≢false (sym on));
+  }
+
+  -- the link is cut
+  taken_flown : (n : ℕ) (is : List Item) → take n (all_flown text is) ≡ all_flown text (take n is)
+  taken_flown zero is = refl
+  taken_flown (suc n) [] = refl
+  taken_flown (suc n) (i ∷ is) = ap (λ fs. flown text i ∷ fs) (taken_flown n is)
+
+  own_taken : (n : ℕ) (texts : List (List ℕ)) → AreOwn worker w.core.sessions texts → AreOwn worker w.core.sessions (take n texts)
+  own_taken zero texts own = tt
+  own_taken (suc n) [] own = tt
+  own_taken (suc n) (t ∷ texts) own = (own.0, own_taken n texts own.1)
+
+  pub cut_lasts : (c : Client) (whole : Bool) (to_client : List Flight) (to_worker : List (List ℕ)) (m n : ℕ) → Holds text c worker conn whole to_client to_worker w
+      → Holds text c worker conn false (take m to_client) (take n to_worker) w
+  cut_lasts c whole to_client to_worker m n old = record {
+    number = old.number;
+    items = take m old.items;
+    are = ap (take m) old.are ∙ taken_flown m old.items;
+    good = good_take c.intents worker w.core.sessions (mind c) m old.items old.good;
+    knows = old.knows;
+    own = own_taken n to_worker old.own;
+    keeps = old.keeps;
+    stage = λ k here on. absurd (true≢false (sym on));
+  }
