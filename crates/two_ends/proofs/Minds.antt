@@ -90,15 +90,15 @@ SessionKeeps worker x = All (Keeps (session_id worker x.number)) (dispatches x.s
 abbrev pub WorkerKeeps : Worker → Type 0
 WorkerKeeps w = All (SessionKeeps w.core.worker) w.core.sessions
 
-module _ (intents worker : ℕ) where
+module _ (asked worker : ℕ) where
   -- the client has this session, and holds its dispatches up to these
   pub record At (m : Mind) (x : Session Sent) (front : List Dispatch) : Type 0 where
     pub session : ClientSession
     pub is : m.session ≡ Some session
     pub id : session.id ≡ session_id worker x.number
     pub number : session.number ≡ length front
-    pub intents : x.viewer.intents ≡ intents
-    pub folds : (g : ℕ) → fold intents g m.kept ≡ fold intents g front
+    pub intents : x.viewer.intents ≡ asked
+    pub folds : (g : ℕ) → fold asked g m.kept ≡ fold asked g front
 
   -- it has one of these sessions
   pub record Known (xs : List (Session Sent)) (m : Mind) : Type 0 where
@@ -124,7 +124,7 @@ module _ (intents worker : ℕ) where
     pub ready : Greeted
     pub is : d ≡ Ready ready
     pub id : ready.session ≡ session_id worker x.number
-    pub intents : x.viewer.intents ≡ intents
+    pub intents : x.viewer.intents ≡ asked
     pub other : (s : ClientSession) → m.session ≡ Some s → ¬ (s.id ≡ session_id worker x.number)
 
   pub record Comes (xs : List (Session Sent)) (m : Mind) (n : ℕ) (d : Dispatch) : Type 0 where
@@ -145,7 +145,7 @@ module _ (intents worker : ℕ) where
     pub split : dispatches session.sent ≡ front ++ back
     pub number : n ≡ length front
     pub at : At m session front
-    pub still : (g : ℕ) → purge intents g (fold intents g front) ≡ fold intents g front
+    pub still : (g : ℕ) → purge asked g (fold asked g front) ≡ fold asked g front
 
   abbrev pub Fine : List (Session Sent) → Mind → Item → Type 0
   Fine xs m (Said (Hello interval_ms)) = interval_ms < 2 ^ 64
