@@ -74,8 +74,11 @@ module _ (text : ℕ → Dispatch → List ℕ) (back : ReadsBack text) (intents
 
 -- ---- what is left of a client
 
-with_nothing : (session : Option ClientSession) (kept : List Dispatch) → (let m : Mind = record { session = session; kept = kept ++ [] } in m) ≡ record { session = session; kept = kept }
-with_nothing session kept = ap (λ (kept : List Dispatch). let m : Mind = record { session = session; kept = kept } in m) (append_none kept)
+abbrev pub minding : Option ClientSession → List Dispatch → Mind
+minding session kept = record { session = session; kept = kept }
+
+with_nothing : (session : Option ClientSession) (kept : List Dispatch) → minding session (kept ++ []) ≡ minding session kept
+with_nothing session kept = ap (minding session) (append_none kept)
 
 -- a client has in mind what the item leaves
 pub hears_mind : (c : Client) (i : Item) (now : ℕ) → mind (taken c (Receives (payload_of i) now)) ≡ minded (mind c) i
@@ -96,12 +99,12 @@ asks_mind c now = by_due (is_due c now)
     by_due false = with_nothing c.session c.kept
 
 -- the end of a connection leaves the session, or none
-pub loses_mind : (c : Client) (code : Option ℕ) → (mind (taken c (Loses code)) ≡ mind c) ⊎ (mind (taken c (Loses code)) ≡ record { session = None; kept = c.kept })
+pub loses_mind : (c : Client) (code : Option ℕ) → (mind (taken c (Loses code)) ≡ mind c) ⊎ (mind (taken c (Loses code)) ≡ minding None c.kept)
 loses_mind c None = inl (with_nothing c.session c.kept)
 loses_mind c (Some code) = by_code (is_final code) (code == 4007)
   where
     by_code : (final beyond : Bool) → let d : Client = record (if final then c else (if beyond then forgotten (unlinked c) else unlinked c)) { kept = c.kept ++ [] } in
-        (mind d ≡ mind c) ⊎ (mind d ≡ record { session = None; kept = c.kept })
+        (mind d ≡ mind c) ⊎ (mind d ≡ minding None c.kept)
     by_code true beyond = inl (with_nothing c.session c.kept)
     by_code false true = inr (with_nothing None c.kept)
     by_code false false = inl (with_nothing c.session c.kept)

@@ -1,5 +1,5 @@
 -- The law of two ends, by induction over the events.
-use Rattle.std.proofs.Common.{◌≡◌, ℕ, ◌+◌, ◌<◌, ◌≤◌, ◌^◌, List, [], ◌∷◌, ◌++◌, Bool, true, false, Option, Some, None, if◌then◌else◌, length, map, take, refl, sym, ap, subst, ◌∙◌, arith, eq-eqb, ◌⊎◌, inl, inr}
+use Rattle.std.proofs.Common.{◌≡◌, ℕ, zero, suc, ◌+◌, ◌<◌, ◌≤◌, ◌^◌, List, [], ◌∷◌, ◌++◌, Bool, true, false, Option, Some, None, if◌then◌else◌, length, map, take, refl, sym, ap, subst, ◌∙◌, arith, eq-eqb, ◌⊎◌, inl, inr}
 use Rattle.std.specs.Prelude.{All, ◌==◌, option_map}
 use Rattle.std.proofs.lemmas.Bool.{eqb-true, true≢false}
 use Rattle.std.proofs.lemmas.List.{length-append}
@@ -177,12 +177,13 @@ module _ (text : ℕ → Dispatch → List ℕ) (back : ReadsBack text) where
     event_stands (Cuts m n) may = record {
       stays = stand.stays;
       ends = λ w found. cut_lasts text e.worker e.conn w e.client e.is_whole e.to_client e.to_worker m n (stand.ends w found);
-      alone = λ none. ap (take m) (stand.alone none) ∙ none_taken m;
+      alone = λ none. none_taken m e.to_client (stand.alone none);
     }
       where
-        none_taken : (m : ℕ) → (let fs : List Flight = [] in take m fs) ≡ []
-        none_taken zero = refl
-        none_taken (suc m) = refl
+        none_taken : (m : ℕ) (fs : List Flight) → fs ≡ [] → take m fs ≡ []
+        none_taken zero fs is = refl
+        none_taken (suc m) [] is = refl
+        none_taken (suc m) (f ∷ fs) is = absurd (cc is)
     event_stands (Learns code) may = record {
       stays = stand.stays;
       ends = λ w found. learn_lasts text e.worker e.conn w e.client e.is_whole e.to_client e.to_worker code (stand.ends w found);
