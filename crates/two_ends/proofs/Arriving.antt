@@ -1,5 +1,5 @@
 -- What the worker makes of a text of the client on its connection.
-use Rattle.std.proofs.Common.{◌≡◌, ℕ, ◌+◌, ◌-◌, ◌<◌, ◌≤◌, ◌^◌, List, [], ◌∷◌, ◌++◌, Bool, true, false, Option, Some, None, Result, Ok, Err, if◌then◌else◌, length, map, drop, refl, sym, ap, subst, ◌∙◌, arith, append_assoc, ◌⊎◌, inl, inr}
+use Rattle.std.proofs.Common.{◌≡◌, ℕ, ◌+◌, ◌-◌, ◌<◌, ◌≤◌, ◌^◌, List, [], ◌∷◌, ◌++◌, Bool, true, false, Option, Some, None, Result, Ok, Err, if◌then◌else◌, length, map, drop, take, refl, sym, ap, subst, ◌∙◌, arith, append_assoc, ◌⊎◌, inl, inr}
 use Rattle.std.specs.Prelude.{All, ◌==◌, ◌&&◌, nat_lt, is_some, flat_map}
 use Rattle.std.specs.List.{find}
 use Rattle.std.specs.Str.{bytes_eq}
@@ -14,7 +14,8 @@ use Rattle.dispatch_types.specs.declared.dispatch.Dispatch.{Dispatch}
 use Rattle.dispatch_types.specs.declared.dispatch.Dispatch.TheVariants.{Ready}
 use Rattle.dispatch_types.specs.declared.ready.Ready.{Ready as Greeted}
 use Rattle.dispatch_types.specs.declared.viewer.Viewer.{Viewer}
-use Rattle.dispatch_types.specs.Fold.{fold, purge}
+use Rattle.dispatch_types.specs.Fold.{Held, fold, purge}
+use Rattle.edit_apply.specs.declared.Edit.{Edit}
 use Rattle.edit_apply.specs.Edits.{state}
 use Rattle.edit_events.proofs.Others.{projection_stays}
 use Rattle.gateway_frames.specs.declared.frame.Frame.{Frame as AFrame}
@@ -32,6 +33,7 @@ use Rattle.session_core.specs.Frames.{Move, Nothing, Answers, ClosesWith, Begins
 use Rattle.session_core.specs.Resume.{session_id, session_named}
 use Rattle.client_session.specs.declared.session.Session.{Session as ClientSession}
 use Rattle.client_session.specs.Table.{identify, resume, frame_text}
+use Rattle.world_law.specs.Folds.{last_cursors}
 use Rattle.world_law.specs.Frames.{framed, frame_sends, move_at, older_sends}
 use Rattle.world_law.specs.Greeting.{first_dispatches, ready, greeting_of, begins_with}
 use Rattle.world_law.specs.Inputs.{Frame, taken, outputs}
@@ -103,9 +105,10 @@ pub session_still : (w : Worker) (x : Session Sent) → Follows w → IsAmong x 
     → purge x.viewer.intents g (fold x.viewer.intents g (dispatches x.sent)) ≡ fold x.viewer.intents g (dispatches x.sent)
 session_still w x follows among g =
     let meets : SessionMeets w.logs.seen x = all_here (SessionMeets w.logs.seen) x w.core.sessions follows.sessions among in
-    let h = fold x.viewer.intents g (dispatches x.sent) in
-    let Still : ℕ → Type 0 = λ n. purge x.viewer.intents n h ≡ h in
-    subst Still (state_id g _) (projection_stays (state g _) x.viewer h (state_is_well g _) (meets.meets.current g))
+    let held : Held = fold x.viewer.intents g (dispatches x.sent) in
+    let es : List Edit = take (last_cursors (cursors w.logs.seen) x g) (w.logs.seen g) in
+    let Still : ℕ → Type 0 = λ n. purge x.viewer.intents n held ≡ held in
+    subst Still (state_id g es) (projection_stays (state g es) x.viewer held (state_is_well g es) (meets.meets.current g))
 
 abbrev pub IsPlain : Move → Type 0
 IsPlain move = (move ≡ Nothing) ⊎ ((move ≡ Answers) ⊎ ((code : ℕ) × (move ≡ ClosesWith code)))
@@ -119,7 +122,7 @@ module _ (text : ℕ → Dispatch → List ℕ) (conn : ℕ) where
   gives_by w move = frame_sends (in_model text) w conn move
 
   pub said_flies : flights conn (Says conn Ack ∷ []) ≡ all_flown text (Said Ack ∷ [])
-  said_flies = ap (λ b. (if b then Text _ ∷ [] else []) ++ []) (same_id conn)
+  said_flies = ap (λ b. (if b then Text (said Ack) ∷ [] else []) ++ []) (same_id conn)
 
   pub closed_flies : (code : ℕ) → flights conn (Closes conn code ∷ []) ≡ all_flown text (Shut code ∷ [])
   closed_flies code = ap (λ b. (if b then Close code ∷ [] else []) ++ []) (same_id conn)
@@ -186,18 +189,15 @@ module _ (text : ℕ → Dispatch → List ℕ) (intents conn : ℕ) where
   pub plain_leaves : (w : Worker) (worker : ℕ) (m : Mind) (is : List Item) (later : List (List ℕ)) (move : Move) → IsPlain move → Stage intents worker m conn w.core.sessions is later
       → Leaves worker m is later (made_by text conn w move) (gives_by text conn w move)
   plain_leaves w worker m is later move plain stage = elim plain [
-    | inl none ↦ subst Left (sym none) (record { items = []; are = refl; good = tt; stage = still_stage worker m is later w.core.sessions [] tt stage })
-    | inr (inl answers) ↦ subst Left (sym answers) (record { items = Said Ack ∷ []; are = said_flies text conn; good = (tt, tt); stage = still_stage worker m is later w.core.sessions (Said Ack ∷ []) (tt, tt) stage })
-    | inr (inr closes) ↦ subst Left (sym closes.1) (record {
+    | inl none ↦ subst (λ (move : Move). Leaves worker m is later (made_by text conn w move) (gives_by text conn w move)) (sym none) (record { items = []; are = refl; good = tt; stage = still_stage worker m is later w.core.sessions [] tt stage })
+    | inr (inl answers) ↦ subst (λ (move : Move). Leaves worker m is later (made_by text conn w move) (gives_by text conn w move)) (sym answers) (record { items = Said Ack ∷ []; are = said_flies text conn; good = (tt, tt); stage = still_stage worker m is later w.core.sessions (Said Ack ∷ []) (tt, tt) stage })
+    | inr (inr closes) ↦ subst (λ (move : Move). Leaves worker m is later (made_by text conn w move) (gives_by text conn w move)) (sym closes.1) (record {
       items = Shut closes.0 ∷ [];
       are = closed_flies text conn closes.0;
       good = (tt, tt);
       stage = still_stage worker m is later (map (released conn (Detached w.now)) w.core.sessions) (Shut closes.0 ∷ []) (tt, tt) (shut_stage worker m is later w.core.sessions w.now stage);
     })
   ]
-    where
-      abbrev Left : Move → Type 0
-      Left move = Leaves worker m is later (made_by text conn w move) (gives_by text conn w move)
 
 module _ (text : ℕ → Dispatch → List ℕ) (back : ReadsBack text) (conn : ℕ) where
   -- a heartbeat is answered, or closes the connection

@@ -17,7 +17,7 @@ use Rattle.gateway_frames.specs.Read.{frame_of}
 use Rattle.gateway_frames.specs.Written.{MaySend}
 use Rattle.replay_ring.specs.Replay.{Replay, texts_after}
 use Rattle.session_core.specs.declared.bot.Bot.{Bot}
-use Rattle.session_core.specs.State.{State, Session, Attached, attached, has_connection, number_on, live}
+use Rattle.session_core.specs.State.{State, Session, Attached, attached, is_live, has_connection, number_on, live}
 use Rattle.session_core.specs.Identify.{identified, authorized_of, authorized, bot_of, are_intents, is_no_shard, goes_beyond}
 use Rattle.session_core.specs.Rate.{is_rated}
 use Rattle.session_core.specs.Frames.{Move, Nothing, Answers, ClosesWith, Begins, Denies, Resumes, Wants, identify_move, resume_move, fault_code, read_move, move_in_session, move_before_session}
@@ -110,7 +110,7 @@ module _ (text : ℕ → Dispatch → List ℕ) (w : Worker) (sound : IsSound w)
       x : Session Sent
       x = may.0
 
-      found : IsAmong y w.core.sessions × ((_ ≡ true) × (session_id w.core.worker y.number ≡ r.session))
+      found : IsAmong y w.core.sessions × ((is_live y.condition ≡ true) × (session_id w.core.worker y.number ≡ r.session))
       found = named_session w r.session y named
 
       one_session : x ≡ y

@@ -158,14 +158,8 @@ module _ (text : ℕ → Dispatch → List ℕ) (w : Worker) (conn : ℕ) (t : L
         by_resume : ResumeHolds text w conn r (taken (in_model text) w (Frame conn t)) (outputs (in_model text) w (Frame conn t)) → Left
         by_resume holds = by_name (session_named s.id w.core) refl
           where
-            abbrev new : Worker
-            new = taken (in_model text) w (Frame conn t)
-
-            abbrev out : List Output
-            out = outputs (in_model text) w (Frame conn t)
-
             by_name : (o : Option (Session Sent)) → session_named s.id w.core ≡ o → Left
-            by_name None named = denied_leaves text intents conn w new out w.core.worker m is later (holds.unknown named) off still beats
+            by_name None named = denied_leaves text intents conn w (taken (in_model text) w (Frame conn t)) (outputs (in_model text) w (Frame conn t)) w.core.worker m is later (holds.unknown named) off still beats
             by_name (Some x) named = by_token (bytes_eq x.token token) refl
               where
                 found : IsAmong x w.core.sessions × ((is_live x.condition ≡ true) × (session_id w.core.worker x.number ≡ s.id))
@@ -186,13 +180,13 @@ module _ (text : ℕ → Dispatch → List ℕ) (w : Worker) (conn : ℕ) (t : L
                 within = omega (arith, seq_is, ap length (ap (λ (x : Session Sent). dispatches x.sent) (sym one) ∙ known.split), length-append known.front known.back)
 
                 by_low : x.token ≡ token → (low : Bool) → nat_lt s.number (length (dispatches x.sent) - length (replay text x.sent).held) ≡ low → Left
-                by_low mine true low = denied_leaves text intents conn w new out w.core.worker m is later (holds.below x named mine (grind (arith, nat_tests, low))) off still beats
+                by_low mine true low = denied_leaves text intents conn w (taken (in_model text) w (Frame conn t)) (outputs (in_model text) w (Frame conn t)) w.core.worker m is later (holds.below x named mine (grind (arith, nat_tests, low))) off still beats
                 by_low mine false low =
                     let covers : Covers text x.sent s.number = (grind (arith, nat_tests, low), within) in
-                    goes_on_leaves text intents conn w new out m is later x s.number (holds.covered x named mine covers) known one seq_is still beats follows new_sound same keeps
+                    goes_on_leaves text intents conn w (taken (in_model text) w (Frame conn t)) (outputs (in_model text) w (Frame conn t)) m is later x s.number (holds.covered x named mine covers) known one seq_is still beats follows new_sound same keeps
 
                 by_token : (mine : Bool) → bytes_eq x.token token ≡ mine → Left
-                by_token false other = denied_leaves text intents conn w new out w.core.worker m is later
+                by_token false other = denied_leaves text intents conn w (taken (in_model text) w (Frame conn t)) (outputs (in_model text) w (Frame conn t)) w.core.worker m is later
                     (holds.other x named (λ same. absurd (true≢false (sym ((bytes_eq-Decides x.token token).1 same) ∙ other)))) off still beats
                 by_token true mine = by_low ((bytes_eq-Decides x.token token).0 mine) (nat_lt s.number (length (dispatches x.sent) - length (replay text x.sent).held)) refl
 

@@ -236,10 +236,9 @@ module _ (text : ℕ → Dispatch → List ℕ) (c : Client) (worker : ℕ) (to_
       → Holds text c worker (Some k) true (flights k (outputs (in_model text) w (Open k))) [] (taken (in_model text) w (Open k))
   open_lasts k conn whole to_worker unused off old = by_tests (has_connection k w.core) (nat_lt (length w.core.connections) 64) unused
     where
-      abbrev Claim : State Sent → List Output → Type 0
-      Claim s os = Holds text c worker (Some k) true (flights k os) [] (record w { core = s })
-
-      by_tests : (there room : Bool) → there ≡ false → Claim (if there then w.core else (if room then with_connection k w.now w.core else w.core)) (if there then [] else (if room then Says k (out.Hello 41250) ∷ [] else Closes k 4000 ∷ []))
+      by_tests : (there room : Bool) → there ≡ false
+          → Holds text c worker (Some k) true (flights k (if there then [] else (if room then Says k (out.Hello 41250) ∷ [] else Closes k 4000 ∷ []))) []
+          (record w { core = if there then w.core else (if room then with_connection k w.now w.core else w.core) })
       by_tests true room is = absurd (true≢false is)
       by_tests false true is = record {
         number = old.number;
@@ -273,9 +272,6 @@ module _ (text : ℕ → Dispatch → List ℕ) (worker : ℕ) (conn : Option �
       → Holds text (client_taken c (Receives received now)) worker conn whole rest (to_worker ++ (if whole then sent_texts (acts c (Receives received now)) else [])) w
   hear_lasts back fits c whole t rest to_worker received now reads old = by_items old.items refl
     where
-      abbrev xs : List (Session Sent)
-      xs = w.core.sessions
-
       text_of : (i : Item) → Text t ≡ flown text i → IsTextOfItem text t i
       text_of (Said out) is = cc is
       text_of (ToldItem n d) is = cc is
@@ -284,40 +280,40 @@ module _ (text : ℕ → Dispatch → List ℕ) (worker : ℕ) (conn : Option �
       by_item : (i : Item) (is : List Item) → old.items ≡ i ∷ is → rest ≡ all_flown text is
           → Holds text (client_taken c (Receives (payload_of i) now)) worker conn whole rest (to_worker ++ (if whole then sent_texts (acts c (Receives (payload_of i) now)) else [])) w
       by_item i is e flies =
-          let good : Good c.intents worker xs (mind c) (i ∷ is) = subst (λ (is : List Item). Good c.intents worker xs (mind c) is) e old.good in
+          let good : Good c.intents worker w.core.sessions (mind c) (i ∷ is) = subst (λ (is : List Item). Good c.intents worker w.core.sessions (mind c) is) e old.good in
           let asked : (client_taken c (Receives (payload_of i) now)).intents ≡ c.intents = same_intents c (Receives (payload_of i) now) in
           let minds : mind (client_taken c (Receives (payload_of i) now)) ≡ minded (mind c) i = hears_mind c i now in
           record {
             number = old.number;
             items = is;
             are = flies;
-            good = subst (λ n. Good n worker xs (mind (client_taken c (Receives (payload_of i) now))) is) (sym asked) (subst (λ (m : Mind). Good c.intents worker xs m is) (sym minds) good.1);
-            knows = subst (λ n. Knows n worker xs (mind (client_taken c (Receives (payload_of i) now)))) (sym asked)
-                (subst (λ (m : Mind). Knows c.intents worker xs m) (sym minds) (knows_item c.intents worker xs (mind c) i (subst (λ n. All (SessionKeeps n) xs) old.number old.keeps) old.knows good.0));
-            own = own_join worker xs to_worker (if whole then sent_texts (acts c (Receives (payload_of i) now)) else []) old.own (own_more whole);
+            good = subst (λ n. Good n worker w.core.sessions (mind (client_taken c (Receives (payload_of i) now))) is) (sym asked) (subst (λ (m : Mind). Good c.intents worker w.core.sessions m is) (sym minds) good.1);
+            knows = subst (λ n. Knows n worker w.core.sessions (mind (client_taken c (Receives (payload_of i) now)))) (sym asked)
+                (subst (λ (m : Mind). Knows c.intents worker w.core.sessions m) (sym minds) (knows_item c.intents worker w.core.sessions (mind c) i (subst (λ n. All (SessionKeeps n) w.core.sessions) old.number old.keeps) old.knows good.0));
+            own = own_join worker w.core.sessions to_worker (if whole then sent_texts (acts c (Receives (payload_of i) now)) else []) old.own (own_more whole);
             keeps = old.keeps;
             stage = stage_more whole old.stage asked minds;
           }
         where
-          own_more : (b : Bool) → AreOwn worker xs (if b then sent_texts (acts c (Receives (payload_of i) now)) else [])
-          own_more true = heard_own c.intents worker 0 xs c refl old.knows (payload_of i) now
+          own_more : (b : Bool) → AreOwn worker w.core.sessions (if b then sent_texts (acts c (Receives (payload_of i) now)) else [])
+          own_more true = heard_own c.intents worker 0 w.core.sessions c refl old.knows (payload_of i) now
           own_more false = tt
 
-          stage_more : (b : Bool) → ((k : ℕ) → conn ≡ Some k → b ≡ true → Stage c.intents worker (mind c) k xs old.items to_worker)
+          stage_more : (b : Bool) → ((k : ℕ) → conn ≡ Some k → b ≡ true → Stage c.intents worker (mind c) k w.core.sessions old.items to_worker)
               → (client_taken c (Receives (payload_of i) now)).intents ≡ c.intents → mind (client_taken c (Receives (payload_of i) now)) ≡ minded (mind c) i
               → (k : ℕ) → conn ≡ Some k → b ≡ true
-              → Stage (client_taken c (Receives (payload_of i) now)).intents worker (mind (client_taken c (Receives (payload_of i) now))) k xs is (to_worker ++ (if b then sent_texts (acts c (Receives (payload_of i) now)) else []))
+              → Stage (client_taken c (Receives (payload_of i) now)).intents worker (mind (client_taken c (Receives (payload_of i) now))) k w.core.sessions is (to_worker ++ (if b then sent_texts (acts c (Receives (payload_of i) now)) else []))
           stage_more true stage asked minds k here on =
-              subst (λ n. Stage n worker (mind (client_taken c (Receives (payload_of i) now))) k xs is (to_worker ++ sent_texts (acts c (Receives (payload_of i) now)))) (sym asked)
-              (subst (λ (m : Mind). Stage c.intents worker m k xs is (to_worker ++ sent_texts (acts c (Receives (payload_of i) now)))) (sym minds)
-              (heard_stage c.intents worker k xs c refl i is to_worker now (subst (λ (is : List Item). Stage c.intents worker (mind c) k xs is to_worker) e (stage k here refl))))
+              subst (λ n. Stage n worker (mind (client_taken c (Receives (payload_of i) now))) k w.core.sessions is (to_worker ++ sent_texts (acts c (Receives (payload_of i) now)))) (sym asked)
+              (subst (λ (m : Mind). Stage c.intents worker m k w.core.sessions is (to_worker ++ sent_texts (acts c (Receives (payload_of i) now)))) (sym minds)
+              (heard_stage c.intents worker k w.core.sessions c refl i is to_worker now (subst (λ (is : List Item). Stage c.intents worker (mind c) k w.core.sessions is to_worker) e (stage k here refl))))
           stage_more false stage asked minds k here on = absurd (true≢false (sym on))
 
       by_items : (items : List Item) → old.items ≡ items → Holds text (client_taken c (Receives received now)) worker conn whole rest (to_worker ++ (if whole then sent_texts (acts c (Receives received now)) else [])) w
       by_items [] e = absurd (cc (old.are ∙ ap (all_flown text) e))
       by_items (i ∷ is) e =
           let are : Text t ∷ rest ≡ flown text i ∷ all_flown text is = old.are ∙ ap (all_flown text) e in
-          let fine : Fine c.intents worker xs (mind c) i = (subst (λ (is : List Item). Good c.intents worker xs (mind c) is) e old.good).0 in
+          let fine : Fine c.intents worker w.core.sessions (mind c) i = (subst (λ (is : List Item). Good c.intents worker w.core.sessions (mind c) is) e old.good).0 in
           let read : received ≡ payload_of i = read_item text back c.intents w fits worker (mind c) i t received fine (text_of i (cc are)) reads in
           subst (λ (received : Received). Holds text (client_taken c (Receives received now)) worker conn whole rest (to_worker ++ (if whole then sent_texts (acts c (Receives received now)) else [])) w)
           (sym read) (by_item i is e (cc are))

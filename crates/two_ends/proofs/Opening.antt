@@ -72,23 +72,20 @@ module _ (text : ℕ → Dispatch → List ℕ) (intents conn : ℕ) where
   pub spent_leaves : (w : Worker) (worker : ℕ) (m : Mind) (is : List Item) (later : List (List ℕ)) (move : Move) → (move ≡ Nothing) ⊎ ((code : ℕ) × (move ≡ ClosesWith code))
       → AreOff conn w.core.sessions → AreStill is → AreBeats later → Leaves text intents conn worker m is later (made_by text conn w move) (gives_by text conn w move)
   spent_leaves w worker m is later move ends off still beats = elim ends [
-    | inl none ↦ subst Left (sym none) (record { items = []; are = refl; good = tt; stage = spent worker m is [] later w.core.sessions off still tt beats })
-    | inr closes ↦ subst Left (sym closes.1) (record {
+    | inl none ↦ subst (λ (move : Move). Leaves text intents conn worker m is later (made_by text conn w move) (gives_by text conn w move)) (sym none) (record { items = []; are = refl; good = tt; stage = spent worker m is [] later w.core.sessions off still tt beats })
+    | inr closes ↦ subst (λ (move : Move). Leaves text intents conn worker m is later (made_by text conn w move) (gives_by text conn w move)) (sym closes.1) (record {
       items = Shut closes.0 ∷ [];
       are = closed_flies text conn closes.0;
       good = (tt, tt);
       stage = spent worker m is (Shut closes.0 ∷ []) later (map (released conn (Detached w.now)) w.core.sessions) (released_off conn w.now w.core.sessions) still (tt, tt) beats;
     })
   ]
-    where
-      abbrev Left : Move → Type 0
-      Left move = Leaves text intents conn worker m is later (made_by text conn w move) (gives_by text conn w move)
 
   pub denied_leaves : (w new : Worker) (out : List Output) (worker : ℕ) (m : Mind) (is : List Item) (later : List (List ℕ)) → IsDenied w conn new out
       → AreOff conn w.core.sessions → AreStill is → AreBeats later → Leaves text intents conn worker m is later new out
   denied_leaves w new out worker m is later denied off still beats = record {
     items = Said (Invalid false) ∷ [];
-    are = ap (flights conn) denied.0 ∙ ap (λ b. (if b then Text _ ∷ [] else []) ++ []) (same_id conn);
+    are = ap (flights conn) denied.0 ∙ ap (λ b. (if b then Text (said (Invalid false)) ∷ [] else []) ++ []) (same_id conn);
     good = (refl, tt);
     stage = inl (record {
       off = subst (AreOff conn) (sym denied.1) off;
@@ -167,7 +164,7 @@ module _ (text : ℕ → Dispatch → List ℕ) (intents conn : ℕ) where
 
   -- a session that goes on
   module _ (w new : Worker) (out : List Output) (m : Mind) (is : List Item) (later : List (List ℕ)) where
-    older_items : Option ℕ → List Item
+    abbrev older_items : Option ℕ → List Item
     older_items None = []
     older_items (Some c) = if c == conn then Shut 4000 ∷ [] else []
 

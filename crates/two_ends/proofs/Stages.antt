@@ -66,7 +66,7 @@ pub still_later : (is : List Item) → AreStill is → AreLater is
 still_later [] still = tt
 still_later (i ∷ is) still = (still_is_later i still.0, still_later is still.1)
 
-still_minded : (m : Mind) (i : Item) → IsStill i → minded m i ≡ m
+pub still_minded : (m : Mind) (i : Item) → IsStill i → minded m i ≡ m
 still_minded m (Said (Hello interval_ms)) still = absurd still
 still_minded m (Said Ack) still = refl
 still_minded m (Said (Invalid resumable)) still = absurd still
