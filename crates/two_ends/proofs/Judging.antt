@@ -163,7 +163,7 @@ module _ (text : ℕ → Dispatch → List ℕ) (w : Worker) (conn : ℕ) (t : L
             by_name (Some x) named = by_token (bytes_eq x.token token) refl
               where
                 found : IsAmong x w.core.sessions × ((is_live x.condition ≡ true) × (session_id w.core.worker x.number ≡ s.id))
-                found = named_session w.core s.id x named
+                found = named_session w s.id x named
 
                 one : known.session ≡ x
                 one =

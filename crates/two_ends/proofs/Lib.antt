@@ -1,5 +1,6 @@
 pub mod Minds
 pub mod Growing
+pub mod Kept
 pub mod Steps
 pub mod Stages
 pub mod Places
