@@ -1,5 +1,5 @@
 -- The law of two ends, by induction over the events.
-use Rattle.std.proofs.Common.{◌≡◌, ℕ, zero, suc, ◌+◌, ◌<◌, ◌≤◌, ◌^◌, List, [], ◌∷◌, ◌++◌, Bool, true, false, Option, Some, None, if◌then◌else◌, length, map, take, refl, sym, ap, subst, ◌∙◌, arith, eq-eqb, ◌⊎◌, inl, inr}
+use Rattle.std.proofs.Common.{◌≡◌, ℕ, zero, suc, ◌+◌, ◌<◌, ◌≤◌, ◌^◌, List, [], ◌∷◌, ◌++◌, Bool, true, false, Option, Some, None, if◌then◌else◌, length, map, take, drop, refl, sym, ap, subst, ◌∙◌, arith, eq-eqb, ◌⊎◌, inl, inr}
 use Rattle.std.specs.Prelude.{All, ◌==◌, option_map}
 use Rattle.std.proofs.lemmas.Bool.{eqb-true, true≢false}
 use Rattle.std.proofs.lemmas.List.{length-append}
@@ -48,9 +48,9 @@ given_if n w i j is = by_test (w.core.worker == n) refl is
 
 else_input : (m : World) (w : Worker) (worker : ℕ) (conn : Option ℕ) (step : Step) → w.core.worker ≡ worker → IsElsewhere worker conn step → (i : Input) → input_of m w step ≡ Some i → (k : ℕ) → conn ≡ Some k → IsElse k i
 else_input m w worker conn (Edits g e) number elsewhere i is k here = absurd (cc is)
-else_input m w worker conn (Looks n g) number elsewhere i is k here = subst (IsElse k) (given_if n w _ i is).1 (by_lag (lags (m.logs g) (length (w.logs.seen g))))
+else_input m w worker conn (Looks n g) number elsewhere i is k here = subst (IsElse k) (given_if n w (look_at g (m.logs g) (length (w.logs.seen g))) i is).1 (by_lag (lags (m.logs g) (length (w.logs.seen g))))
   where
-    by_lag : (b : Bool) → IsElse k (if b then Rebase g _ else Look g _)
+    by_lag : (b : Bool) → IsElse k (if b then Rebase g (m.logs g) else Look g (drop (length (w.logs.seen g)) (m.logs g)))
     by_lag true = tt
     by_lag false = tt
 else_input m w worker conn (Opens n c) number elsewhere i is k here =
@@ -255,7 +255,7 @@ module _ (text : ℕ → Dispatch → List ℕ) (back : ReadsBack text) where
     pub ends_hold : EndsHold text e
     ends_hold = record {
       session = session_held;
-      advances = λ event s next may has then id. event_advances event may s next has then id;
+      advances = λ event s next may has now id. event_advances event may s next has now id;
       resumes = λ w k t later found here texts.
           let old : Holds text e.client e.worker e.conn e.is_whole e.to_client (t ∷ later) w = subst (λ (ts : List (List ℕ)). Holds text e.client e.worker e.conn e.is_whole e.to_client ts w) texts (stand.ends w found) in
           not_beyond text w (stays_here e stand w found).sound (omega (arith, (fits_of w found).made)) back k t (subst (λ n. IsOwn n w.core.sessions t) (sym old.number) old.own.0);
