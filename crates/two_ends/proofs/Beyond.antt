@@ -1,5 +1,5 @@
 -- No frame of the client is answered with the close of a number beyond the last.
-use Rattle.std.proofs.Common.{◌≡◌, ℕ, ◌+◌, ◌-◌, ◌<◌, ◌≤◌, ◌^◌, List, [], ◌∷◌, ◌++◌, Bool, true, false, not, Option, Some, None, Result, Ok, Err, if◌then◌else◌, length, map, refl, sym, ap, subst, ◌∙◌, arith, ◌⊎◌, inl, inr}
+use Rattle.std.proofs.Common.{◌≡◌, ℕ, ◌+◌, ◌-◌, ◌<◌, ◌≤◌, ◌^◌, List, [], ◌∷◌, ◌++◌, Bool, true, false, not, Option, Some, None, Result, Ok, Err, if◌then◌else◌, length, map, refl, sym, ap, subst, ◌∙◌, arith}
 use Rattle.std.specs.Prelude.{All, nat_lt}
 use Rattle.std.specs.Str.{bytes_eq}
 use Rattle.std.proofs.lemmas.Bool.Decides.{nat_tests}
@@ -15,14 +15,13 @@ use Rattle.gateway_frames.specs.declared.fault.FrameFault.TheVariants.{TooLong, 
 use Rattle.gateway_frames.specs.declared.out.Out.TheVariants.{Ack, Invalid, Resumed as SaysResumed}
 use Rattle.gateway_frames.specs.Read.{frame_of}
 use Rattle.gateway_frames.specs.Written.{MaySend}
-use Rattle.replay_ring.specs.Replay.{Replay, texts_after}
+use Rattle.replay_ring.specs.Replay.{texts_after}
 use Rattle.session_core.specs.declared.bot.Bot.{Bot}
 use Rattle.session_core.specs.State.{State, Session, Attached, attached, is_live, has_connection, number_on, live}
-use Rattle.session_core.specs.Identify.{identified, authorized_of, authorized, bot_of, are_intents, is_no_shard, goes_beyond}
+use Rattle.session_core.specs.Identify.{identified, authorized_of, bot_of, are_intents, is_no_shard, goes_beyond}
 use Rattle.session_core.specs.Rate.{is_rated}
 use Rattle.session_core.specs.Frames.{Move, Nothing, Answers, ClosesWith, Begins, Denies, Resumes, Wants, identify_move, resume_move, fault_code, read_move, move_in_session, move_before_session}
-use Rattle.session_core.specs.Resume.{ResumeAnswer, NotResumable, InvalidSeq, Resumed, resume_by, session_id, session_named}
-use Rattle.client_session.specs.Table.{frame_text}
+use Rattle.session_core.specs.Resume.{NotResumable, InvalidSeq, Resumed, resume_by, session_id, session_named}
 use Rattle.world_law.specs.Frames.{frame_sends, move_at, older_sends}
 use Rattle.world_law.specs.Greeting.{first_dispatches}
 use Rattle.world_law.specs.Inputs.{Frame, outputs}

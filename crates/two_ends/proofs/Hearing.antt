@@ -1,19 +1,15 @@
 -- What a client makes of what comes to it, and what it sends.
-use Rattle.std.proofs.Common.{◌≡◌, ℕ, ◌+◌, ◌<◌, ◌≤◌, ◌^◌, List, [], ◌∷◌, ◌++◌, Bool, true, false, Option, Some, None, Result, Ok, Err, if◌then◌else◌, length, map, refl, sym, ap, subst, ◌∙◌, arith, ◌⊎◌, inl, inr}
+use Rattle.std.proofs.Common.{◌≡◌, ℕ, ◌<◌, ◌^◌, List, [], ◌∷◌, ◌++◌, Bool, true, false, Option, Some, None, if◌then◌else◌, length, refl, sym, ap, subst, ◌∙◌, arith, ◌⊎◌, inl, inr}
 use Rattle.std.specs.Prelude.{All, ◌==◌, option_to_list}
 use Rattle.std.proofs.lemmas.List.{length-append, length-map}
-use Rattle.std.proofs.lemmas.List.Elements.{All-head, All-tail}
 use Rattle.std.proofs.lemmas.Option.{same_Some}
 use Rattle.dispatch_types.specs.declared.dispatch.Dispatch.{Dispatch}
 use Rattle.dispatch_types.specs.declared.dispatch.Dispatch.TheVariants.{Resumed as ResumedDispatch}
 use Rattle.event_json.specs.Body.{DispatchFits}
 use Rattle.gateway_frames.specs.declared.frame.Frame.TheVariants as frame
-use Rattle.gateway_frames.specs.declared.out.Out.{Out}
 use Rattle.gateway_frames.specs.declared.out.Out.TheVariants.{Hello, Ack, Invalid, Reconnect, Resumed}
 use Rattle.session_core.specs.State.{Session}
-use Rattle.session_core.specs.Resume.{session_id}
 use Rattle.client_session.specs.declared.session.Session.{Session as ClientSession}
-use Rattle.client_session.specs.declared.act.Act.{Act}
 use Rattle.client_session.specs.declared.received.Received.{Received}
 use Rattle.client_session.specs.declared.received.Received.TheVariants as payload
 use Rattle.client_session.specs.Received.{IsTextOf}
@@ -26,9 +22,9 @@ use Rattle.world_law.specs.Model.{Worker}
 use Rattle.world_law.proofs.Lists.{all_at, append_none}
 use Rattle.two_ends.specs.Flights.{ReadsBack, SessionFits, Fits, said, sent_texts}
 use Rattle.two_ends.specs.TwoEnds.{IsAmong}
-use Rattle.two_ends.proofs.Minds.{Item, Said, Told as ToldItem, Shut, Mind, minded, all_minded, At, Known, Knows, Comes, GoesOn, Fine}
+use Rattle.two_ends.proofs.Minds.{Item, Said, Told as ToldItem, Shut, Mind, minded, Known, Knows, Fine}
 use Rattle.two_ends.proofs.Steps.{all_here}
-use Rattle.two_ends.proofs.Stages.{IsStill, AreStill, IsLater, AreLater, IsBeat, AreBeats, beats_join, MaySay, IsOwn, AreOwn, IsFirst, Prompts, Asks, Has, Stage, still_minded, still_later}
+use Rattle.two_ends.proofs.Stages.{IsStill, AreStill, IsLater, AreBeats, IsOwn, AreOwn, IsFirst, Prompts, Asks, Has, Stage, still_minded, still_later}
 use Rattle.two_ends.proofs.Readings.{told_read, said_read, resumed_read}
 
 -- what a client has in mind

@@ -1,9 +1,9 @@
 -- A text of the client on its connection: how far the worker and the client are after it, and by which codes it is closed.
-use Rattle.std.proofs.Common.{◌≡◌, ℕ, ◌+◌, ◌-◌, ◌<◌, ◌≤◌, ◌^◌, List, [], ◌∷◌, ◌++◌, Bool, true, false, not, Option, Some, None, Result, Ok, Err, if◌then◌else◌, length, map, refl, sym, ap, subst, ◌∙◌, arith, ◌⊎◌, inl, inr}
-use Rattle.std.specs.Prelude.{All, ◌==◌, ◌&&◌, nat_lt, is_some, option_map}
+use Rattle.std.proofs.Common.{◌≡◌, ℕ, ◌+◌, ◌-◌, ◌<◌, ◌≤◌, ◌^◌, List, [], ◌∷◌, ◌++◌, Bool, true, false, Option, Some, None, Result, Ok, Err, if◌then◌else◌, length, refl, sym, ap, subst, ◌∙◌, arith, ◌⊎◌, inl, inr}
+use Rattle.std.specs.Prelude.{◌&&◌, nat_lt, is_some, option_map}
 use Rattle.std.specs.List.{find}
 use Rattle.std.specs.Str.{bytes_eq}
-use Rattle.std.proofs.lemmas.Bool.{true≢false, false_from_ne_true}
+use Rattle.std.proofs.lemmas.Bool.{true≢false}
 use Rattle.std.proofs.lemmas.Bool.Decides.{nat_tests}
 use Rattle.std.proofs.lemmas.List.{length-append}
 use Rattle.std.proofs.lemmas.Option.{same_Some}
@@ -16,17 +16,16 @@ use Rattle.gateway_frames.specs.declared.frame.Resume.{Resume as AResume}
 use Rattle.gateway_frames.specs.declared.fault.FrameFault.{FrameFault}
 use Rattle.gateway_frames.specs.Read.{frame_of}
 use Rattle.session_core.specs.declared.bot.Bot.{Bot}
-use Rattle.session_core.specs.State.{Session, is_on, is_live, has_connection, has_session, session_on, number_on}
+use Rattle.session_core.specs.State.{Session, is_on, is_live, has_connection, number_on}
 use Rattle.session_core.specs.Identify.{identified, viewer_of}
 use Rattle.session_core.specs.Rate.{is_rated}
-use Rattle.session_core.specs.Frames.{Move, Nothing, Answers, ClosesWith, Begins, Denies, Resumes, Wants, identify_move, fault_code, read_move, move_in_session, move_before_session}
+use Rattle.session_core.specs.Frames.{Move, Nothing, ClosesWith, Begins, identify_move, fault_code, read_move, move_before_session}
 use Rattle.session_core.specs.Resume.{session_id, session_named}
 use Rattle.client_session.specs.declared.session.Session.{Session as ClientSession}
-use Rattle.client_session.specs.Table.{identify, resume, frame_text}
+use Rattle.client_session.specs.Table.{resume, frame_text}
 use Rattle.world_law.specs.Frames.{move_at}
 use Rattle.world_law.specs.Inputs.{Frame, taken, outputs}
 use Rattle.world_law.specs.Model.{Worker, in_model, replay}
-use Rattle.world_law.specs.Outputs.{Output}
 use Rattle.world_law.specs.Resumes.{Reaches, ResumeHolds, Covers, EachResumeHolds}
 use Rattle.world_law.specs.Sends.{AreOff}
 use Rattle.world_law.specs.Sent.{Sent, dispatches}
@@ -37,7 +36,7 @@ use Rattle.two_ends.specs.Flights.{ReadsBack}
 use Rattle.two_ends.specs.TwoEnds.{IsAmong}
 use Rattle.two_ends.proofs.Minds.{Item, Mind, SessionKeeps, WorkerKeeps, Known, Knows}
 use Rattle.two_ends.proofs.Steps.{all_here}
-use Rattle.two_ends.proofs.Stages.{AreStill, IsBeat, AreBeats, IsFirst, Prompts, Asks, Has, Stage}
+use Rattle.two_ends.proofs.Stages.{AreStill, IsBeat, AreBeats, IsFirst, Asks, Stage}
 use Rattle.two_ends.proofs.Arriving.{last_among, made_by, gives_by, Leaves, plain_leaves, beat_plain}
 use Rattle.two_ends.proofs.Opening.{spent_leaves, denied_leaves, begins_leaves, goes_on_leaves}
 use Rattle.two_ends.proofs.Places.{same_number, same_session, among_below, found_among}

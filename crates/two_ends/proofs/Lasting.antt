@@ -1,33 +1,30 @@
 -- What holds of a client and its worker lasts through every event.
-use Rattle.std.proofs.Common.{◌≡◌, ℕ, zero, suc, ◌+◌, ◌<◌, ◌≤◌, ◌^◌, List, [], ◌∷◌, ◌++◌, Bool, true, false, Option, Some, None, if◌then◌else◌, length, map, take, refl, sym, ap, subst, ◌∙◌, arith, append_assoc, eq-eqb, ◌⊎◌, inl, inr}
-use Rattle.std.specs.Prelude.{All, ◌==◌, nat_lt, option_map, flat_map}
+use Rattle.std.proofs.Common.{◌≡◌, ℕ, zero, suc, ◌<◌, ◌^◌, List, [], ◌∷◌, ◌++◌, Bool, true, false, Option, Some, None, if◌then◌else◌, length, map, take, refl, sym, ap, subst, ◌∙◌, arith, append_assoc, inl, inr}
+use Rattle.std.specs.Prelude.{All, nat_lt}
 use Rattle.std.proofs.lemmas.Bool.{true≢false}
 use Rattle.std.proofs.lemmas.Option.{same_Some}
 use Rattle.dispatch_types.specs.declared.dispatch.Dispatch.{Dispatch}
 use Rattle.gateway_frames.specs.declared.out.Out.TheVariants as out
-use Rattle.session_core.specs.State.{State, Session, Connection, has_connection, opened, with_connection}
-use Rattle.client_session.specs.declared.session.Session.{Session as ClientSession}
+use Rattle.session_core.specs.State.{Session, has_connection, with_connection}
 use Rattle.client_session.specs.declared.received.Received.{Received}
 use Rattle.client_session.specs.Received.{IsTextOf}
-use Rattle.client_session.specs.Step.{Event as Told, Receives, Loses as LosesLink, Asks as IsAsked, acts}
+use Rattle.client_session.specs.Step.{Receives, Loses as LosesLink, Asks as IsAsked, acts}
 use Rattle.client_session.specs.Law.{Model as Client, taken as client_taken}
-use Rattle.world_law.specs.Inputs.{Input, Look, Rebase, Open, Frame, Lost, Closed, Tick, taken, outputs, open_sends}
+use Rattle.world_law.specs.Inputs.{Input, Open, Frame, taken, outputs}
 use Rattle.world_law.specs.Model.{Worker, in_model}
 use Rattle.world_law.specs.Outputs.{Output, Says, Closes}
 use Rattle.world_law.specs.Sends.{AreOff}
 use Rattle.world_law.specs.Sent.{Sent}
-use Rattle.world_law.specs.World.{World, Step, Edits, Looks, Opens, Frames, Loses, Leaves, Ticks, look_at, lags}
 use Rattle.world_law.proofs.Alone.{IsSound, taken_sound}
 use Rattle.world_law.proofs.Folds.{same_id}
 use Rattle.world_law.proofs.Lists.{append_none, map_join}
 use Rattle.world_law.proofs.Workers.{Follows}
 use Rattle.two_ends.specs.Flights.{Flight, Text, Close, flights, ReadsBack, Fits, sent_texts, said}
-use Rattle.two_ends.specs.Ends.{input_if, input_of, outputs_of}
-use Rattle.two_ends.specs.Events.{IsElsewhere}
+use Rattle.two_ends.specs.Ends.{outputs_of}
 use Rattle.two_ends.proofs.Minds.{Item, Said, Told as ToldItem, Shut, flown, all_flown, Mind, minded, all_minded, SessionKeeps, WorkerKeeps, AtEnds, Knows, Fine, Good}
 use Rattle.two_ends.proofs.Growing.{taken_grows, taken_worker, taken_keeps}
 use Rattle.two_ends.proofs.Steps.{Advances, advances_item, minded_join, good_join, good_grown, good_take, knows_item, knows_grown}
-use Rattle.two_ends.proofs.Stages.{AreStill, AreLater, later_join, AreBeats, beats_join, AreOwn, own_join, own_grown, Prompts, Asks, Has, Stage, off_ends}
+use Rattle.two_ends.proofs.Stages.{AreStill, AreLater, later_join, AreBeats, beats_join, AreOwn, own_join, own_grown, Stage, off_ends}
 use Rattle.two_ends.proofs.Arriving.{still_stage}
 use Rattle.two_ends.proofs.Judging.{text_leaves}
 use Rattle.two_ends.proofs.Hearing.{mind, payload_of, IsTextOfItem, read_item, hears_mind, asks_mind, loses_mind, same_intents, beat_texts, beats_own, heard_stage, heard_own}

@@ -1,19 +1,18 @@
 -- What a client keeps in mind, and what is on its way to it.
-use Rattle.std.proofs.Common.{◌≡◌, ℕ, ◌+◌, ◌≤◌, List, [], ◌∷◌, ◌++◌, Bool, true, false, Option, Some, None, length, map, refl, sym, ap, subst, ◌∙◌, arith, append_assoc, ◌⊎◌, inl, inr}
+use Rattle.std.proofs.Common.{◌≡◌, ℕ, ◌+◌, List, [], ◌∷◌, ◌++◌, true, false, Option, Some, None, length, map, ◌⊎◌}
 use Rattle.std.specs.Prelude.{All, ◌<◌, ◌^◌}
 use Rattle.dispatch_types.specs.declared.dispatch.Dispatch.{Dispatch}
 use Rattle.dispatch_types.specs.declared.dispatch.Dispatch.TheVariants.{Ready, Resumed as ResumedDispatch}
 use Rattle.dispatch_types.specs.declared.ready.Ready.{Ready as Greeted}
-use Rattle.dispatch_types.specs.Fold.{fold, fold_from, folded, nothing, purge}
+use Rattle.dispatch_types.specs.Fold.{fold, purge}
 use Rattle.gateway_frames.specs.declared.out.Out.{Out}
 use Rattle.gateway_frames.specs.declared.out.Out.TheVariants.{Hello, Ack, Invalid, Reconnect, Resumed}
 use Rattle.session_core.specs.State.{Session, is_on}
 use Rattle.session_core.specs.Resume.{session_id}
 use Rattle.client_session.specs.declared.session.Session.{Session as ClientSession}
 use Rattle.client_session.specs.Table.{begun, session_after}
-use Rattle.world_law.specs.Sent.{Sent, SentDispatch, dispatches, dispatch_of}
+use Rattle.world_law.specs.Sent.{Sent, dispatches}
 use Rattle.world_law.specs.Model.{Worker}
-use Rattle.world_law.proofs.Lists.{map_join}
 use Rattle.two_ends.specs.Flights.{Flight, Text, Close, said}
 use Rattle.two_ends.specs.TwoEnds.{IsAmong}
 

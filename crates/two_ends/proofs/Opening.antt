@@ -1,60 +1,38 @@
 -- What the worker makes of the first frame of a client on its connection.
-use Rattle.std.proofs.Common.{◌≡◌, ℕ, ◌+◌, ◌-◌, ◌<◌, ◌≤◌, ◌^◌, List, [], ◌∷◌, ◌++◌, Bool, true, false, Option, Some, None, Result, Ok, Err, if◌then◌else◌, length, map, drop, refl, sym, ap, subst, ◌∙◌, arith, append_assoc, ◌⊎◌, inl, inr}
-use Rattle.std.specs.Prelude.{All, ◌==◌, ◌&&◌, nat_lt, is_some, flat_map}
-use Rattle.std.specs.List.{find}
-use Rattle.std.specs.Str.{bytes_eq}
+use Rattle.std.proofs.Common.{◌≡◌, ℕ, ◌+◌, ◌<◌, ◌≤◌, ◌^◌, List, [], ◌∷◌, ◌++◌, Bool, true, false, Option, Some, None, if◌then◌else◌, length, map, drop, refl, sym, ap, subst, ◌∙◌, arith, ◌⊎◌, inl, inr}
+use Rattle.std.specs.Prelude.{◌==◌, flat_map}
 use Rattle.std.proofs.Math.Seq.{drop-append_seam}
-use Rattle.std.proofs.lemmas.Bool.{eqb-true, true≢false}
-use Rattle.std.proofs.lemmas.Bool.Decides.{nat_tests}
-use Rattle.std.proofs.lemmas.List.{length-append, length-map}
-use Rattle.std.proofs.lemmas.List.Elements.{All-head, All-tail}
+use Rattle.std.proofs.lemmas.Bool.{true≢false}
 use Rattle.std.proofs.lemmas.Option.{same_Some}
-use Rattle.std.proofs.lemmas.Slice.Eq.{bytes_eq-Decides}
 use Rattle.dispatch_types.specs.declared.dispatch.Dispatch.{Dispatch}
 use Rattle.dispatch_types.specs.declared.dispatch.Dispatch.TheVariants.{Ready}
 use Rattle.dispatch_types.specs.declared.ready.Ready.{Ready as Greeted}
 use Rattle.dispatch_types.specs.declared.viewer.Viewer.{Viewer}
 use Rattle.dispatch_types.specs.Fold.{fold, purge}
-use Rattle.edit_apply.specs.Edits.{state}
-use Rattle.edit_events.proofs.Others.{projection_stays}
-use Rattle.gateway_frames.specs.declared.frame.Frame.{Frame as AFrame}
-use Rattle.gateway_frames.specs.declared.frame.Frame.TheVariants as frame
-use Rattle.gateway_frames.specs.declared.frame.Identify.{Identify as AnIdentify}
-use Rattle.gateway_frames.specs.declared.frame.Resume.{Resume as AResume}
-use Rattle.gateway_frames.specs.declared.fault.FrameFault.{FrameFault}
 use Rattle.gateway_frames.specs.declared.out.Out.TheVariants.{Hello, Ack, Invalid, Reconnect, Resumed}
-use Rattle.gateway_frames.specs.Read.{frame_of}
 use Rattle.session_core.specs.declared.bot.Bot.{Bot}
-use Rattle.session_core.specs.State.{Session, Condition, Attached, Detached, Ended, is_on, is_live, attached, released, has_connection, has_session, session_on, number_on}
-use Rattle.session_core.specs.Identify.{identified, viewer_of}
-use Rattle.session_core.specs.Rate.{is_rated}
-use Rattle.session_core.specs.Frames.{Move, Nothing, Answers, ClosesWith, Begins, Denies, Resumes, Wants, identify_move, fault_code, read_move, move_in_session, move_before_session}
-use Rattle.session_core.specs.Resume.{session_id, session_named}
+use Rattle.session_core.specs.State.{Session, Attached, Detached, attached, released}
+use Rattle.session_core.specs.Frames.{Move, Nothing, ClosesWith, Begins}
 use Rattle.client_session.specs.declared.session.Session.{Session as ClientSession}
-use Rattle.client_session.specs.Table.{identify, resume, frame_text}
-use Rattle.world_law.specs.Frames.{framed, frame_sends, move_at, older_sends}
-use Rattle.world_law.specs.Greeting.{first_dispatches, ready, greeting_of, begins_with}
-use Rattle.world_law.specs.Inputs.{Frame, taken, outputs}
-use Rattle.world_law.specs.Model.{Worker, in_model, replay, cursors}
-use Rattle.world_law.specs.Outputs.{Output, Says, Closes, sends}
-use Rattle.world_law.specs.Resumes.{Reaches, ResumeHolds, IsDenied, GoesOn as ResumeGoesOn, sent_of}
-use Rattle.world_law.specs.Sends.{IsOff, AreOff, IsAlone}
-use Rattle.world_law.specs.Sent.{Sent, SentDispatch, dispatch_of, dispatches, told}
-use Rattle.world_law.specs.Wants.{is_numbered, numbered}
+use Rattle.world_law.specs.Frames.{older_sends}
+use Rattle.world_law.specs.Greeting.{ready, greeting_of, begins_with}
+use Rattle.world_law.specs.Model.{Worker, in_model, cursors}
+use Rattle.world_law.specs.Outputs.{Output, Says, sends}
+use Rattle.world_law.specs.Resumes.{IsDenied, GoesOn as ResumeGoesOn}
+use Rattle.world_law.specs.Sends.{AreOff}
+use Rattle.world_law.specs.Sent.{Sent, dispatches}
+use Rattle.world_law.specs.Wants.{is_numbered}
 use Rattle.session_core.specs.declared.reply.Mark.TheVariants.{Start}
-use Rattle.world_law.proofs.Alone.{IsSound, none_on}
+use Rattle.world_law.proofs.Alone.{IsSound}
 use Rattle.world_law.proofs.Folds.{dispatches_told, same_id}
-use Rattle.world_law.proofs.GoesOn.{each_resume_holds}
 use Rattle.world_law.proofs.Lists.{append_none, map_join}
-use Rattle.world_law.proofs.Logs.{state_id, state_is_well}
-use Rattle.world_law.proofs.Replays.{last_is}
-use Rattle.world_law.proofs.Workers.{Follows, SessionMeets}
-use Rattle.two_ends.specs.Flights.{Flight, Text, Close, said, flight, flights, ReadsBack, Fits}
+use Rattle.world_law.proofs.Workers.{Follows}
+use Rattle.two_ends.specs.Flights.{Text, Close, said, flights}
 use Rattle.two_ends.specs.TwoEnds.{IsAmong}
-use Rattle.two_ends.proofs.Minds.{Item, Said, Told, Shut, flown, all_flown, told_items, Mind, with_dispatch, minded, all_minded, SessionKeeps, WorkerKeeps, At, Known, Knows, AtEnds, IsGreeting, Comes, GoesOn, Good}
+use Rattle.two_ends.proofs.Minds.{Item, Said, Told, Shut, flown, all_flown, told_items, Mind, with_dispatch, minded, all_minded, SessionKeeps, WorkerKeeps, At, Known, Knows, IsGreeting, Comes, GoesOn, Good}
 use Rattle.two_ends.proofs.Steps.{all_here, flights_join, flown_told, minded_join, good_join, told_good, at_first, at_resumed}
-use Rattle.two_ends.proofs.Stages.{IsStill, AreStill, AreLater, still_join, later_join, still_later, all_still_minded, IsBeat, AreBeats, IsFirst, Prompts, Asks, Has, Stage, off_here, off_ends}
-use Rattle.two_ends.proofs.Places.{same_number, same_session, among_below, found_among}
+use Rattle.two_ends.proofs.Stages.{AreStill, AreLater, still_join, later_join, still_later, all_still_minded, AreBeats, Stage, off_here, off_ends}
+use Rattle.two_ends.proofs.Places.{same_number, among_below, found_among}
 use Rattle.two_ends.proofs.Arriving.{released_off, last_among, among_join, one_on, session_still, made_by, gives_by, closed_flies, Leaves}
 
 module _ (text : ℕ → Dispatch → List ℕ) (intents conn : ℕ) where

@@ -1,5 +1,5 @@
 -- How far a client and its worker are on the client's connection.
-use Rattle.std.proofs.Common.{◌≡◌, ℕ, ◌+◌, ◌≤◌, List, [], ◌∷◌, ◌++◌, Bool, true, false, Option, Some, None, length, map, refl, sym, ap, subst, ◌∙◌, arith, ◌⊎◌, inl, inr}
+use Rattle.std.proofs.Common.{◌≡◌, ℕ, ◌≤◌, List, [], ◌∷◌, ◌++◌, false, Option, Some, length, refl, sym, ap, ◌∙◌, arith, ◌⊎◌, inl, inr}
 use Rattle.std.proofs.lemmas.List.{length-append}
 use Rattle.gateway_frames.specs.declared.out.Out.TheVariants.{Hello, Ack, Invalid, Reconnect, Resumed}
 use Rattle.gateway_frames.specs.declared.frame.Frame.{Frame}
@@ -13,7 +13,6 @@ use Rattle.world_law.specs.Sent.{Sent, dispatches}
 use Rattle.two_ends.specs.TwoEnds.{IsAmong}
 use Rattle.two_ends.proofs.Minds.{Item, Said, Told, Shut, Mind, all_minded, minded, AtEnds, Grows, Grown}
 use Rattle.two_ends.proofs.Growing.{grown_among}
-use Rattle.two_ends.proofs.Steps.{minded_join}
 
 -- ---- items
 

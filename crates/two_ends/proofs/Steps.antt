@@ -1,25 +1,25 @@
 -- How a client's mind goes on, item by item.
-use Rattle.std.proofs.Common.{◌≡◌, ℕ, zero, suc, ◌+◌, ◌≤◌, List, [], ◌∷◌, ◌++◌, Bool, true, false, Option, Some, None, if◌then◌else◌, length, map, take, refl, sym, ap, subst, ◌∙◌, arith, append_assoc, ◌⊎◌, inl, inr}
-use Rattle.std.specs.Prelude.{All, flat_map, ◌==◌}
+use Rattle.std.proofs.Common.{◌≡◌, ℕ, zero, suc, ◌+◌, ◌≤◌, List, [], ◌∷◌, ◌++◌, true, false, Some, None, if◌then◌else◌, length, take, refl, sym, ap, subst, ◌∙◌, arith, append_assoc, inl, inr}
+use Rattle.std.specs.Prelude.{All}
 use Rattle.std.proofs.lemmas.List.{length-append}
 use Rattle.std.proofs.lemmas.List.Elements.{All-head, All-tail}
 use Rattle.std.proofs.lemmas.Option.{same_Some}
 use Rattle.dispatch_types.specs.declared.dispatch.Dispatch.{Dispatch}
 use Rattle.dispatch_types.specs.declared.dispatch.Dispatch.TheVariants.{Ready, Resumed as ResumedDispatch}
 use Rattle.dispatch_types.specs.declared.ready.Ready.{Ready as Greeted}
-use Rattle.dispatch_types.specs.Fold.{Held, fold, fold_from, folded, nothing, purge}
+use Rattle.dispatch_types.specs.Fold.{Held, fold, folded, nothing, purge}
 use Rattle.gateway_frames.specs.declared.out.Out.TheVariants.{Hello, Ack, Invalid, Reconnect, Resumed}
 use Rattle.session_core.specs.State.{Session, Attached}
 use Rattle.session_core.specs.Resume.{session_id}
 use Rattle.client_session.specs.declared.session.Session.{Session as ClientSession}
 use Rattle.client_session.specs.Table.{begun, session_after}
-use Rattle.world_law.specs.Outputs.{Output, Sends, sends}
+use Rattle.world_law.specs.Outputs.{Output, sends}
 use Rattle.world_law.specs.Sent.{Sent, dispatches}
 use Rattle.world_law.proofs.Folds.{fold_join, same_id}
 use Rattle.world_law.proofs.Lists.{all_at, append_none}
-use Rattle.two_ends.specs.Flights.{Flight, Text, flight, flights}
+use Rattle.two_ends.specs.Flights.{Text, flight, flights}
 use Rattle.two_ends.specs.TwoEnds.{IsAmong}
-use Rattle.two_ends.proofs.Minds.{Item, Said, Told, Shut, flown, all_flown, told_items, Mind, with_dispatch, without_session, minded, all_minded, Grows, Grown, Keeps, SessionKeeps, At, Known, Knows, IsGreeting, Comes, GoesOn, Fine, Good}
+use Rattle.two_ends.proofs.Minds.{Item, Said, Told, Shut, all_flown, told_items, Mind, with_dispatch, minded, all_minded, Grows, Grown, Keeps, SessionKeeps, At, Known, Knows, IsGreeting, Comes, Fine, Good}
 use Rattle.two_ends.proofs.Growing.{grown_among}
 
 -- ---- lists

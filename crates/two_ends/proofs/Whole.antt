@@ -1,35 +1,32 @@
 -- The law of two ends, by induction over the events.
-use Rattle.std.proofs.Common.{◌≡◌, ℕ, zero, suc, ◌+◌, ◌<◌, ◌≤◌, ◌^◌, List, [], ◌∷◌, ◌++◌, Bool, true, false, Option, Some, None, if◌then◌else◌, length, map, take, drop, refl, sym, ap, subst, ◌∙◌, arith, eq-eqb, ◌⊎◌, inl, inr}
+use Rattle.std.proofs.Common.{◌≡◌, ℕ, zero, suc, List, [], ◌∷◌, ◌++◌, Bool, true, false, Option, Some, None, if◌then◌else◌, length, take, drop, refl, sym, ap, subst, ◌∙◌, arith, eq-eqb, inl, inr}
 use Rattle.std.specs.Prelude.{All, ◌==◌, option_map}
-use Rattle.std.proofs.lemmas.Bool.{eqb-true, true≢false}
+use Rattle.std.proofs.lemmas.Bool.{eqb-true}
 use Rattle.std.proofs.lemmas.List.{length-append}
 use Rattle.std.proofs.lemmas.List.Elements.{All-nil}
 use Rattle.std.proofs.lemmas.Option.{same_Some}
 use Rattle.dispatch_types.specs.declared.dispatch.Dispatch.{Dispatch}
 use Rattle.dispatch_types.specs.Fold.{fold}
-use Rattle.edit_apply.specs.declared.Edit.{Edit}
 use Rattle.session_core.specs.declared.bot.Bot.{Bot}
 use Rattle.session_core.specs.State.{Session}
 use Rattle.session_core.specs.Resume.{session_id}
 use Rattle.client_session.specs.declared.session.Session.{Session as ClientSession}
 use Rattle.client_session.specs.declared.received.Received.{Received}
-use Rattle.client_session.specs.Step.{Event as Told, Receives, Loses as LosesLink, Asks as IsAsked}
+use Rattle.client_session.specs.Step.{Receives}
 use Rattle.client_session.specs.Law.{Model as Client, taken as client_taken}
 use Rattle.world_law.specs.Folds.{SessionHolds}
-use Rattle.world_law.specs.Inputs.{Input, Look, Rebase, Open, Frame, Lost, Closed, Tick, taken, outputs}
-use Rattle.world_law.specs.Model.{Worker, in_model, cursors}
-use Rattle.world_law.specs.Sends.{AreOff}
+use Rattle.world_law.specs.Inputs.{Input, Look, Rebase, Open, Frame, Lost, Closed, Tick}
+use Rattle.world_law.specs.Model.{Worker, cursors}
 use Rattle.world_law.specs.Sent.{Sent, dispatches}
 use Rattle.world_law.specs.World.{World, Step, Edits, Looks, Opens, Frames, Loses, Leaves, Ticks, stepped, first_world, look_at, lags}
-use Rattle.world_law.proofs.Lists.{append_none}
 use Rattle.world_law.proofs.Worlds.{Stays, worker_holds}
 use Rattle.two_ends.specs.Flights.{Flight, Text, Close, flights, ReadsBack, Fits}
 use Rattle.two_ends.specs.Ends.{Ends, first_ends, worker_at, input_if, input_of, outputs_of, given_by, flights_of, moved}
 use Rattle.two_ends.specs.Events.{Event, Hears, Arrives, Cuts, Learns, Dials, Beats, Happens, IsHeard, IsElsewhere, IsUnused, WorkerFits, MayHappen, MayAllHappen, heard, arrived, after, after_all}
-use Rattle.two_ends.specs.TwoEnds.{IsAmong, SessionIsHeld, IsNotBeyond, EndsHold, TwoEnds}
-use Rattle.two_ends.proofs.Minds.{Mind, Item, SessionKeeps, WorkerKeeps, Known, Good, Fine, all_flown, minded}
+use Rattle.two_ends.specs.TwoEnds.{SessionIsHeld, EndsHold, TwoEnds}
+use Rattle.two_ends.proofs.Minds.{SessionKeeps, Known}
 use Rattle.two_ends.proofs.Growing.{taken_worker}
-use Rattle.two_ends.proofs.Steps.{all_here, Advances, advances_same, advances_item}
+use Rattle.two_ends.proofs.Steps.{all_here, Advances, advances_same}
 use Rattle.two_ends.proofs.Beyond.{not_beyond}
 use Rattle.two_ends.proofs.Stages.{IsOwn}
 use Rattle.two_ends.proofs.Hearing.{mind, asks_mind, loses_mind}

@@ -6,7 +6,7 @@ use Rattle.session_core.specs.declared.bot.Bot.{Bot}
 use Rattle.client_session.specs.State.{new_client}
 use Rattle.client_session.specs.Law.{Model as Client}
 use Rattle.world_law.specs.Model.{Worker, in_model}
-use Rattle.world_law.specs.Inputs.{Input, Look, Rebase, Open, Frame, Lost, Closed, Tick, outputs}
+use Rattle.world_law.specs.Inputs.{Input, Open, Frame, Lost, Closed, Tick, outputs}
 use Rattle.world_law.specs.Outputs.{Output}
 use Rattle.world_law.specs.World.{World, Step, Edits, Looks, Opens, Frames, Loses, Leaves, Ticks, stepped, first_world, look_at}
 use Rattle.two_ends.specs.Flights.{Flight, flights}

@@ -1,11 +1,11 @@
 -- What may happen between two ends, and what becomes of them.
-use Rattle.std.specs.Prelude.{◌≡◌, ℕ, List, [], ◌∷◌, ◌++◌, Bool, true, false, Option, Some, None, if◌then◌else◌, take}
+use Rattle.std.specs.Prelude.{◌≡◌, ℕ, List, [], ◌∷◌, ◌++◌, true, false, Option, Some, None, if◌then◌else◌, take}
 use Rattle.dispatch_types.specs.declared.dispatch.Dispatch.{Dispatch}
 use Rattle.session_core.specs.State.{has_connection}
 use Rattle.client_session.specs.declared.received.Received.{Received}
 use Rattle.client_session.specs.Received.{IsTextOf}
 use Rattle.client_session.specs.Step.{Event as Told, Receives, Loses as LosesLink, Asks, acts}
-use Rattle.client_session.specs.Law.{Model as Client, taken}
+use Rattle.client_session.specs.Law.{taken}
 use Rattle.world_law.specs.Model.{Worker}
 use Rattle.world_law.specs.Sends.{AreOff}
 use Rattle.world_law.specs.World.{Step, Edits, Looks, Opens, Frames, Loses, Leaves, Ticks}

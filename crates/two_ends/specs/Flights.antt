@@ -1,5 +1,5 @@
 -- What is on its way between a client and its worker (Gateway, Payload Structure).
-use Rattle.std.specs.Prelude.{◌≡◌, ℕ, ◌<◌, ◌^◌, ◌==◌, List, [], ◌∷◌, ◌++◌, flat_map, if◌then◌else◌, Option, Some, None, length, All, Ok}
+use Rattle.std.specs.Prelude.{◌≡◌, ℕ, ◌<◌, ◌^◌, ◌==◌, List, [], ◌∷◌, flat_map, if◌then◌else◌, Some, length, All, Ok}
 use Rattle.serde_json.specs.Written.{compact_text}
 use Rattle.json_view.specs.Reading.{reading}
 use Rattle.object_json.specs.Fits.{IsWhole}
@@ -17,7 +17,7 @@ use Rattle.client_session.specs.declared.act.Act.TheVariants.{Send, Hang, DialFi
 use Rattle.client_session.specs.Table.{frame_text}
 use Rattle.session_core.specs.State.{Session}
 use Rattle.world_law.specs.Outputs.{Output, Says, Sends, Closes, Wishes}
-use Rattle.world_law.specs.Sent.{Sent, SentDispatch, dispatch_of, dispatches}
+use Rattle.world_law.specs.Sent.{Sent, dispatches}
 use Rattle.world_law.specs.Model.{Worker}
 
 -- on its way to the client: a text, or the code of a close
