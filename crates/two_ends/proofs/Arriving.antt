@@ -26,8 +26,9 @@ use Rattle.world_law.proofs.Workers.{Follows, SessionMeets}
 use Rattle.two_ends.specs.Flights.{Text, Close, said, flights, ReadsBack}
 use Rattle.two_ends.specs.TwoEnds.{IsAmong}
 use Rattle.two_ends.proofs.Minds.{Item, Said, Shut, all_flown, Mind, all_minded, AtEnds, Good}
-use Rattle.two_ends.proofs.Steps.{all_here, minded_join}
-use Rattle.two_ends.proofs.Stages.{AreStill, still_join, later_join, still_later, all_still_minded, IsBeat, Prompts, Asks, Has, Stage, off_here, off_ends}
+use Rattle.two_ends.proofs.Steps.{minded_join}
+use Rattle.two_ends.proofs.Stages.{AreStill, still_join, later_join, still_later, all_still_minded, IsBeat, Prompts, Asks, Has, Stage, off_ends}
+use Rattle.two_ends.proofs.Places.{all_among, off_among}
 
 -- ---- lists
 
@@ -62,10 +63,10 @@ one_on conn [] x y alone here there on also = absurd here
 one_on conn (z ∷ zs) x y alone here there on also = elim here [
   | inl same ↦ elim there [
     | inl other ↦ other ∙ sym same
-    | inr later ↦ absurd (true≢false (sym also ∙ off_here conn y zs (alone.0 (ap (λ (x : Session Sent). is_on conn x.condition) (sym same) ∙ on)) later))
+    | inr later ↦ absurd (true≢false (sym also ∙ off_among conn y zs (alone.0 (ap (λ (x : Session Sent). is_on conn x.condition) (sym same) ∙ on)) later))
   ]
   | inr later ↦ elim there [
-    | inl same ↦ absurd (true≢false (sym on ∙ off_here conn x zs (alone.0 (ap (λ (x : Session Sent). is_on conn x.condition) (sym same) ∙ also)) later))
+    | inl same ↦ absurd (true≢false (sym on ∙ off_among conn x zs (alone.0 (ap (λ (x : Session Sent). is_on conn x.condition) (sym same) ∙ also)) later))
     | inr among ↦ one_on conn zs x y alone.1 later among on also
   ]
 ]
@@ -75,7 +76,7 @@ one_on conn (z ∷ zs) x y alone here there on also = elim here [
 pub session_still : (w : Worker) (x : Session Sent) → Follows w → IsAmong x w.core.sessions → (g : ℕ)
     → purge x.viewer.intents g (fold x.viewer.intents g (dispatches x.sent)) ≡ fold x.viewer.intents g (dispatches x.sent)
 session_still w x follows among g =
-    let meets : SessionMeets w.logs.seen x = all_here (SessionMeets w.logs.seen) x w.core.sessions follows.sessions among in
+    let meets : SessionMeets w.logs.seen x = all_among (SessionMeets w.logs.seen) x w.core.sessions follows.sessions among in
     let held : Held = fold x.viewer.intents g (dispatches x.sent) in
     let es : List Edit = take (last_cursors (cursors w.logs.seen) x g) (w.logs.seen g) in
     let Still : ℕ → Type 0 = λ n. purge x.viewer.intents n held ≡ held in

@@ -1,5 +1,5 @@
 -- Sessions that stay on a connection, and what goes out for others.
-use Rattle.std.proofs.Common.{◌≡◌, ℕ, List, [], ◌∷◌, ◌++◌, Bool, true, false, Option, Some, None, if◌then◌else◌, map, refl, sym, ap, subst, ◌∙◌, ◌⊎◌, inl, inr}
+use Rattle.std.proofs.Common.{◌≡◌, ℕ, List, [], ◌∷◌, ◌++◌, Bool, true, false, Option, Some, None, if◌then◌else◌, map, refl, sym, ap, ◌∙◌, ◌⊎◌, inl, inr}
 use Rattle.std.specs.Prelude.{◌==◌, ◌&&◌, flat_map}
 use Rattle.std.specs.List.{find}
 use Rattle.std.proofs.lemmas.Bool.{eqb-true, true≢false}
@@ -23,6 +23,7 @@ use Rattle.world_law.specs.Sends.{IsOff, AreOff, IsAlone}
 use Rattle.two_ends.specs.Flights.{Flight, Text, Close, said, flights}
 use Rattle.two_ends.specs.TwoEnds.{IsAmong}
 use Rattle.two_ends.proofs.Steps.{flights_join}
+use Rattle.two_ends.proofs.Places.{off_among}
 
 -- ---- lists of sessions
 
@@ -37,11 +38,6 @@ among_part x (y ∷ xs) ys (inr later) = elim (among_part x xs ys later) [
   | inl here ↦ inl (inr here)
   | inr there ↦ inr there
 ]
-
-pub off_among : (conn : ℕ) (x : Session Sent) (xs : List (Session Sent)) → AreOff conn xs → IsAmong x xs → IsOff conn x
-off_among conn x [] off among = absurd among
-off_among conn x (y ∷ xs) off (inl same) = subst (λ (z : Session Sent). IsOff conn z) (sym same) off.0
-off_among conn x (y ∷ xs) off (inr later) = off_among conn x xs off.1 later
 
 off_each : (conn : ℕ) (xs : List (Session Sent)) → ((x : Session Sent) → IsAmong x xs → IsOff conn x) → AreOff conn xs
 off_each conn [] each = tt

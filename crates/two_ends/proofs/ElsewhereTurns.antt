@@ -15,7 +15,8 @@ use Rattle.two_ends.specs.Flights.{Flight, Text, Close, flights}
 use Rattle.two_ends.specs.TwoEnds.{IsAmong}
 use Rattle.two_ends.proofs.Minds.{Item, Said, Told, Shut, flown, all_flown, told_items, Mind, all_minded, Grows, Grown, SessionKeeps, At, AtEnds, Good}
 use Rattle.two_ends.proofs.Steps.{flown_told, good_grown, good_join, minded_join, told_good}
-use Rattle.two_ends.proofs.ElsewhereStays.{among_here, among_part, off_among, on_is, off_stays, IsPlain, none_if}
+use Rattle.two_ends.proofs.ElsewhereStays.{among_here, among_part, on_is, off_stays, IsPlain, none_if}
+use Rattle.two_ends.proofs.Places.{off_among}
 
 -- a connection that no session has, and nothing but closes on its way to it
 pub record IsShut (conn : ℕ) (xs : List (Session Sent)) (fs : List Flight) : Type 0 where

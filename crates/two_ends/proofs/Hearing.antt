@@ -23,9 +23,10 @@ use Rattle.world_law.proofs.Lists.{all_at, append_none}
 use Rattle.two_ends.specs.Flights.{ReadsBack, SessionFits, Fits, said, sent_texts}
 use Rattle.two_ends.specs.TwoEnds.{IsAmong}
 use Rattle.two_ends.proofs.Minds.{Item, Said, Told as ToldItem, Shut, Mind, minded, Known, Knows, Fine}
-use Rattle.two_ends.proofs.Steps.{all_here}
+
 use Rattle.two_ends.proofs.Stages.{IsStill, AreStill, IsLater, AreBeats, IsOwn, AreOwn, IsFirst, Prompts, Asks, Has, Stage, still_minded, still_later}
 use Rattle.two_ends.proofs.Readings.{told_read, said_read, resumed_read}
+use Rattle.two_ends.proofs.Places.{all_among}
 
 -- what a client has in mind
 abbrev pub mind : Client → Mind
@@ -49,7 +50,7 @@ IsTextOfItem text t (Shut code) = ⊥
 
 module _ (text : ℕ → Dispatch → List ℕ) (back : ReadsBack text) (intents : ℕ) (w : Worker) (fits : Fits w) where
   fits_here : (x : Session Sent) → IsAmong x w.core.sessions → SessionFits x
-  fits_here x among = all_here SessionFits x w.core.sessions fits.sessions among
+  fits_here x among = all_among SessionFits x w.core.sessions fits.sessions among
 
   few_here : (x : Session Sent) → IsAmong x w.core.sessions → length (dispatches x.sent) < 2 ^ 64
   few_here x among = omega (arith, (fits_here x among).1, length-map x.sent.told dispatch_of)

@@ -35,11 +35,11 @@ use Rattle.world_law.proofs.Workers.{Follows}
 use Rattle.two_ends.specs.Flights.{ReadsBack}
 use Rattle.two_ends.specs.TwoEnds.{IsAmong}
 use Rattle.two_ends.proofs.Minds.{Item, Mind, SessionKeeps, WorkerKeeps, Known, Knows}
-use Rattle.two_ends.proofs.Steps.{all_here}
+
 use Rattle.two_ends.proofs.Stages.{AreStill, IsBeat, AreBeats, IsFirst, Asks, Stage}
 use Rattle.two_ends.proofs.Arriving.{last_among, made_by, gives_by, Leaves, plain_leaves, beat_plain}
 use Rattle.two_ends.proofs.Opening.{spent_leaves, denied_leaves, begins_leaves, goes_on_leaves}
-use Rattle.two_ends.proofs.Places.{same_number, same_session, among_below, found_among}
+use Rattle.two_ends.proofs.Places.{same_number, same_session, among_below, found_among, all_among}
 
 -- ---- the first text on its way to the worker is a heartbeat, or the client's first frame
 
@@ -125,7 +125,7 @@ module _ (text : ℕ → Dispatch → List ℕ) (w : Worker) (conn : ℕ) (t : L
             let kept : WorkerKeeps (made_by text conn w (Begins bot (viewer_of bot i))) = subst (λ (move : Move). WorkerKeeps (made_by text conn w move)) moves keeps in
             subst LeftBy (sym moves)
             (begins_leaves text intents conn w m is later bot (viewer_of bot i) asked off still beats knows sound few
-            (all_here (SessionKeeps w.core.worker) _ _ kept (last_among _ w.core.sessions)))
+            (all_among (SessionKeeps w.core.worker) _ _ kept (last_among _ w.core.sessions)))
 
         by_reading : (r : Result AFrame FrameFault) → ((read : AFrame) → r ≡ Ok read → read ≡ frame.Identify i) → move_at (in_model text) w conn t ≡ read_move (replay text) w.core None r → Left
         by_reading (Err fault) reads moves = spent_by (ClosesWith (fault_code fault)) moves (inr (fault_code fault, refl))

@@ -263,17 +263,45 @@ module _ (text : ℕ → Dispatch → List ℕ) (c : Client) (worker : ℕ) (to_
 -- ---- what the client is told
 
 module _ (text : ℕ → Dispatch → List ℕ) (worker : ℕ) (conn : Option ℕ) (w : Worker) where
-  -- the client receives the first text on its way
-  pub hear_lasts : ReadsBack text → Fits w → (c : Client) (whole : Bool) (t : List ℕ) (rest : List Flight) (to_worker : List (List ℕ)) (received : Received) (now : ℕ) → IsTextOf t received
-      → Holds text c worker conn whole (Text t ∷ rest) to_worker w
-      → Holds text (client_taken c (Receives received now)) worker conn whole rest (to_worker ++ (if whole then sent_texts (acts c (Receives received now)) else [])) w
-  hear_lasts back fits c whole t rest to_worker received now reads old = by_items old.items refl
+  -- the first item on its way, which a text is read as
+  record FirstItem (items : List Item) (received : Received) (rest : List Flight) : Type 0 where
+    item : Item
+    later : List Item
+    split : items ≡ item ∷ later
+    flies : rest ≡ all_flown text later
+    read : received ≡ payload_of item
+
+  first_item : ReadsBack text → Fits w → (c : Client) (whole : Bool) (t : List ℕ) (rest : List Flight) (to_worker : List (List ℕ)) (received : Received) → IsTextOf t received
+      → (old : Holds text c worker conn whole (Text t ∷ rest) to_worker w) → FirstItem old.items received rest
+  first_item back fits c whole t rest to_worker received reads old = by_items old.items refl
     where
       text_of : (i : Item) → Text t ≡ flown text i → IsTextOfItem text t i
       text_of (Said out) is = cc is
       text_of (ToldItem n d) is = cc is
       text_of (Shut code) is = absurd (cc is)
 
+      by_items : (items : List Item) → old.items ≡ items → FirstItem old.items received rest
+      by_items [] e = absurd (cc (old.are ∙ ap (all_flown text) e))
+      by_items (i ∷ is) e =
+          let are : Text t ∷ rest ≡ flown text i ∷ all_flown text is = old.are ∙ ap (all_flown text) e in
+          let fine : Fine c.intents worker w.core.sessions (mind c) i = (subst (λ (is : List Item). Good c.intents worker w.core.sessions (mind c) is) e old.good).0 in
+          record {
+            item = i;
+            later = is;
+            split = e;
+            flies = cc are;
+            read = read_item text back c.intents w fits worker (mind c) i t received fine (text_of i (cc are)) reads;
+          }
+
+  -- the client receives it
+  pub hear_lasts : ReadsBack text → Fits w → (c : Client) (whole : Bool) (t : List ℕ) (rest : List Flight) (to_worker : List (List ℕ)) (received : Received) (now : ℕ) → IsTextOf t received
+      → Holds text c worker conn whole (Text t ∷ rest) to_worker w
+      → Holds text (client_taken c (Receives received now)) worker conn whole rest (to_worker ++ (if whole then sent_texts (acts c (Receives received now)) else [])) w
+  hear_lasts back fits c whole t rest to_worker received now reads old =
+      let first : FirstItem old.items received rest = first_item back fits c whole t rest to_worker received reads old in
+      subst (λ (received : Received). Holds text (client_taken c (Receives received now)) worker conn whole rest (to_worker ++ (if whole then sent_texts (acts c (Receives received now)) else [])) w)
+      (sym first.read) (by_item first.item first.later first.split first.flies)
+    where
       by_item : (i : Item) (is : List Item) → old.items ≡ i ∷ is → rest ≡ all_flown text is
           → Holds text (client_taken c (Receives (payload_of i) now)) worker conn whole rest (to_worker ++ (if whole then sent_texts (acts c (Receives (payload_of i) now)) else [])) w
       by_item i is e flies =
@@ -306,34 +334,15 @@ module _ (text : ℕ → Dispatch → List ℕ) (worker : ℕ) (conn : Option �
               (heard_stage c.intents worker k w.core.sessions c refl i is to_worker now (subst (λ (is : List Item). Stage c.intents worker (mind c) k w.core.sessions is to_worker) e (stage k here refl))))
           stage_more false stage asked minds k here on = absurd (true≢false (sym on))
 
-      by_items : (items : List Item) → old.items ≡ items → Holds text (client_taken c (Receives received now)) worker conn whole rest (to_worker ++ (if whole then sent_texts (acts c (Receives received now)) else [])) w
-      by_items [] e = absurd (cc (old.are ∙ ap (all_flown text) e))
-      by_items (i ∷ is) e =
-          let are : Text t ∷ rest ≡ flown text i ∷ all_flown text is = old.are ∙ ap (all_flown text) e in
-          let fine : Fine c.intents worker w.core.sessions (mind c) i = (subst (λ (is : List Item). Good c.intents worker w.core.sessions (mind c) is) e old.good).0 in
-          let read : received ≡ payload_of i = read_item text back c.intents w fits worker (mind c) i t received fine (text_of i (cc are)) reads in
-          subst (λ (received : Received). Holds text (client_taken c (Receives received now)) worker conn whole rest (to_worker ++ (if whole then sent_texts (acts c (Receives received now)) else [])) w)
-          (sym read) (by_item i is e (cc are))
-
   -- and does not go back
   pub hear_advances : ReadsBack text → Fits w → (c : Client) (whole : Bool) (t : List ℕ) (rest : List Flight) (to_worker : List (List ℕ)) (received : Received) (now : ℕ) → IsTextOf t received
       → Holds text c worker conn whole (Text t ∷ rest) to_worker w → Advances (mind c) (mind (client_taken c (Receives received now)))
-  hear_advances back fits c whole t rest to_worker received now reads old = by_items old.items refl
-    where
-      text_is : (i : Item) → Text t ≡ flown text i → IsTextOfItem text t i
-      text_is (Said out) is = cc is
-      text_is (ToldItem n d) is = cc is
-      text_is (Shut code) is = absurd (cc is)
-
-      by_items : (items : List Item) → old.items ≡ items → Advances (mind c) (mind (client_taken c (Receives received now)))
-      by_items [] e = absurd (cc (old.are ∙ ap (all_flown text) e))
-      by_items (i ∷ is) e =
-          let are : Text t ∷ rest ≡ flown text i ∷ all_flown text is = old.are ∙ ap (all_flown text) e in
-          let fine : Fine c.intents worker w.core.sessions (mind c) i = (subst (λ (is : List Item). Good c.intents worker w.core.sessions (mind c) is) e old.good).0 in
-          let read : received ≡ payload_of i = read_item text back c.intents w fits worker (mind c) i t received fine (text_is i (cc are)) reads in
-          subst (λ (received : Received). Advances (mind c) (mind (client_taken c (Receives received now)))) (sym read)
-          (subst (Advances (mind c)) (sym (hears_mind c i now))
-          (advances_item c.intents worker w.core.sessions (mind c) i (subst (λ n. All (SessionKeeps n) w.core.sessions) old.number old.keeps) fine))
+  hear_advances back fits c whole t rest to_worker received now reads old =
+      let first : FirstItem old.items received rest = first_item back fits c whole t rest to_worker received reads old in
+      let good : Good c.intents worker w.core.sessions (mind c) (first.item ∷ first.later) = subst (λ (is : List Item). Good c.intents worker w.core.sessions (mind c) is) first.split old.good in
+      subst (λ (received : Received). Advances (mind c) (mind (client_taken c (Receives received now)))) (sym first.read)
+      (subst (Advances (mind c)) (sym (hears_mind c first.item now))
+      (advances_item c.intents worker w.core.sessions (mind c) first.item (subst (λ n. All (SessionKeeps n) w.core.sessions) old.number old.keeps) good.0))
 
   -- the client is asked whether a heartbeat is due
   pub beat_lasts : (c : Client) (whole : Bool) (to_client : List Flight) (to_worker : List (List ℕ)) (now : ℕ) → Holds text c worker conn whole to_client to_worker w

@@ -30,10 +30,14 @@ use Rattle.world_law.proofs.Workers.{Follows}
 use Rattle.two_ends.specs.Flights.{Text, Close, said, flights}
 use Rattle.two_ends.specs.TwoEnds.{IsAmong}
 use Rattle.two_ends.proofs.Minds.{Item, Said, Told, Shut, flown, all_flown, told_items, Mind, with_dispatch, minded, all_minded, SessionKeeps, WorkerKeeps, At, Known, Knows, IsGreeting, Comes, GoesOn, Good}
-use Rattle.two_ends.proofs.Steps.{all_here, flights_join, flown_told, minded_join, good_join, told_good, at_first, at_resumed}
-use Rattle.two_ends.proofs.Stages.{AreStill, AreLater, still_join, later_join, still_later, all_still_minded, AreBeats, Stage, off_here, off_ends}
-use Rattle.two_ends.proofs.Places.{same_number, among_below, found_among}
+use Rattle.two_ends.proofs.Steps.{flights_join, flown_told, minded_join, good_join, told_good, at_first, at_resumed}
+use Rattle.two_ends.proofs.Stages.{AreStill, AreLater, still_join, later_join, still_later, all_still_minded, AreBeats, Stage, off_ends}
+use Rattle.two_ends.proofs.Places.{same_number, among_below, found_among, all_among, off_among}
 use Rattle.two_ends.proofs.Arriving.{released_off, last_among, among_join, one_on, session_still, made_by, gives_by, closed_flies, Leaves}
+
+told_later : (n : ℕ) (ds : List Dispatch) → AreLater (told_items n ds)
+told_later n [] = tt
+told_later n (d ∷ ds) = (tt, told_later (n + 1) ds)
 
 module _ (text : ℕ → Dispatch → List ℕ) (intents conn : ℕ) where
   -- ---- the first frame
@@ -92,10 +96,6 @@ module _ (text : ℕ → Dispatch → List ℕ) (intents conn : ℕ) where
     begins_told : dispatches begins.sent ≡ Ready greeted ∷ greetings
     begins_told = dispatches_told Start (cursors w.logs.seen) (cursors w.logs.seen) (Ready greeted ∷ greetings)
 
-    told_late : (n : ℕ) (ds : List Dispatch) → AreLater (told_items n ds)
-    told_late n [] = tt
-    told_late n (d ∷ ds) = (tt, told_late (n + 1) ds)
-
     pub begins_leaves : viewer.intents ≡ intents → AreOff conn w.core.sessions → AreStill is → AreBeats later → Knows intents w.core.worker w.core.sessions m → IsSound w → w.core.made + 1 < 2 ^ 64
         → SessionKeeps w.core.worker begins → Leaves text intents conn w.core.worker m is later (made_by text conn w (Begins bot viewer)) (gives_by text conn w (Begins bot viewer))
     begins_leaves asked off still beats knows sound few keeps =
@@ -128,11 +128,11 @@ module _ (text : ℕ → Dispatch → List ℕ) (intents conn : ℕ) where
           good = subst (λ (n : Mind). Good intents worker xs n items) (sym same) (comes, rest.0);
           stage = inr (inr (record {
             ends = λ y among on. elim (among_join begins y w.core.sessions among) [
-              | inl before ↦ absurd (true≢false (sym on ∙ off_here conn y w.core.sessions off before))
+              | inl before ↦ absurd (true≢false (sym on ∙ off_among conn y w.core.sessions off before))
               | inr last ↦ subst (λ (y : Session Sent). At intents worker (all_minded m (is ++ items)) y (dispatches y.sent)) (sym last)
                   (subst (λ (n : Mind). At intents worker n begins (dispatches begins.sent)) (sym (minded_join m is items ∙ ap (λ n. all_minded n items) same)) end)
             ];
-            late = later_join is items (still_later is still) (told_late 0 (Ready greeted ∷ greetings));
+            late = later_join is items (still_later is still) (told_later 0 (Ready greeted ∷ greetings));
             beats = beats;
           }));
         }
@@ -184,7 +184,7 @@ module _ (text : ℕ → Dispatch → List ℕ) (intents conn : ℕ) where
         let all : dispatches x.sent ≡ front ++ back = ap (λ (x : Session Sent). dispatches x.sent) (sym own) ∙ known.split in
         let at : At intents worker m x front = subst (λ (x : Session Sent). At intents worker m x front) own known.at in
         let first : At intents worker m here front = record { session = at.session; is = at.is; id = at.id; number = at.number; intents = at.intents; folds = at.folds } in
-        let own_keeps : SessionKeeps worker here = subst (λ n. SessionKeeps n here) worker_same (all_here (SessionKeeps new.core.worker) here xs keeps found.0) in
+        let own_keeps : SessionKeeps worker here = subst (λ n. SessionKeeps n here) worker_same (all_among (SessionKeeps new.core.worker) here xs keeps found.0) in
         let told = told_good intents worker xs here front back [] found.0 (all ∙ ap (λ ds. front ++ ds) (sym (append_none back))) own_keeps m first in
         let rest : drop seq (dispatches x.sent) ≡ back = ap (λ n. drop n (dispatches x.sent)) number ∙ (ap (drop (length front)) all ∙ drop-append_seam front back) in
         let older : List Item = older_items (attached x.condition) in
@@ -238,7 +238,3 @@ module _ (text : ℕ → Dispatch → List ℕ) (intents conn : ℕ) where
             beats = beats;
           }));
         }
-      where
-        told_later : (n : ℕ) (ds : List Dispatch) → AreLater (told_items n ds)
-        told_later n [] = tt
-        told_later n (d ∷ ds) = (tt, told_later (n + 1) ds)

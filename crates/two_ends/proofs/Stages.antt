@@ -1,10 +1,10 @@
 -- How far a client and its worker are on the client's connection.
-use Rattle.std.proofs.Common.{◌≡◌, ℕ, ◌≤◌, List, [], ◌∷◌, ◌++◌, false, Option, Some, length, refl, sym, ap, ◌∙◌, arith, ◌⊎◌, inl, inr}
+use Rattle.std.proofs.Common.{◌≡◌, ℕ, ◌≤◌, List, [], ◌∷◌, ◌++◌, false, Option, Some, length, refl, sym, ap, ◌∙◌, arith, ◌⊎◌}
 use Rattle.std.proofs.lemmas.List.{length-append}
 use Rattle.gateway_frames.specs.declared.out.Out.TheVariants.{Hello, Ack, Invalid, Reconnect, Resumed}
 use Rattle.gateway_frames.specs.declared.frame.Frame.{Frame}
 use Rattle.gateway_frames.specs.declared.frame.Frame.TheVariants as frame
-use Rattle.session_core.specs.State.{Session, is_on}
+use Rattle.session_core.specs.State.{Session}
 use Rattle.session_core.specs.Resume.{session_id}
 use Rattle.client_session.specs.declared.session.Session.{Session as ClientSession}
 use Rattle.client_session.specs.Table.{identify, resume, frame_text}
@@ -13,6 +13,7 @@ use Rattle.world_law.specs.Sent.{Sent, dispatches}
 use Rattle.two_ends.specs.TwoEnds.{IsAmong}
 use Rattle.two_ends.proofs.Minds.{Item, Said, Told, Shut, Mind, all_minded, minded, AtEnds, Grows, Grown}
 use Rattle.two_ends.proofs.Growing.{grown_among}
+use Rattle.two_ends.proofs.Places.{off_among}
 
 -- ---- items
 
@@ -170,13 +171,5 @@ pub record Has (intents worker : ℕ) (m : Mind) (conn : ℕ) (xs : List (Sessio
 abbrev pub Stage : (intents worker : ℕ) → Mind → ℕ → List (Session Sent) → List Item → List (List ℕ) → Type 0
 Stage intents worker m conn xs is texts = Prompts conn xs is texts ⊎ (Asks intents m conn xs is texts ⊎ Has intents worker m conn xs is texts)
 
--- no session is on the connection
-pub off_here : (conn : ℕ) (x : Session Sent) (xs : List (Session Sent)) → AreOff conn xs → IsAmong x xs → is_on conn x.condition ≡ false
-off_here conn x [] off among = absurd among
-off_here conn x (y ∷ ys) off among = elim among [
-  | inl same ↦ ap (λ (z : Session Sent). is_on conn z.condition) same ∙ off.0
-  | inr later ↦ off_here conn x ys off.1 later
-]
-
 pub off_ends : (intents worker conn : ℕ) (m : Mind) (xs : List (Session Sent)) → AreOff conn xs → AtEnds intents worker conn m xs
-off_ends intents worker conn m xs off x among on = absurd (cc (on, off_here conn x xs off among))
+off_ends intents worker conn m xs off x among on = absurd (cc (on, off_among conn x xs off among))

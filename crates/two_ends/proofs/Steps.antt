@@ -2,7 +2,6 @@
 use Rattle.std.proofs.Common.{◌≡◌, ℕ, zero, suc, ◌+◌, ◌≤◌, List, [], ◌∷◌, ◌++◌, true, false, Some, None, if◌then◌else◌, length, take, refl, sym, ap, subst, ◌∙◌, arith, append_assoc, inl, inr}
 use Rattle.std.specs.Prelude.{All}
 use Rattle.std.proofs.lemmas.List.{length-append}
-use Rattle.std.proofs.lemmas.List.Elements.{All-head, All-tail}
 use Rattle.std.proofs.lemmas.Option.{same_Some}
 use Rattle.dispatch_types.specs.declared.dispatch.Dispatch.{Dispatch}
 use Rattle.dispatch_types.specs.declared.dispatch.Dispatch.TheVariants.{Ready, Resumed as ResumedDispatch}
@@ -21,15 +20,9 @@ use Rattle.two_ends.specs.Flights.{Text, flight, flights}
 use Rattle.two_ends.specs.TwoEnds.{IsAmong}
 use Rattle.two_ends.proofs.Minds.{Item, Said, Told, Shut, all_flown, told_items, Mind, with_dispatch, minded, all_minded, Grows, Grown, Keeps, SessionKeeps, At, Known, Knows, IsGreeting, Comes, Fine, Good}
 use Rattle.two_ends.proofs.Growing.{grown_among}
+use Rattle.two_ends.proofs.Places.{all_among}
 
 -- ---- lists
-
-pub all_here : (P : Session Sent → Type 0) (x : Session Sent) (xs : List (Session Sent)) → All P xs → IsAmong x xs → P x
-all_here P x [] all among = absurd among
-all_here P x (y ∷ ys) all among = elim among [
-  | inl same ↦ subst P (sym same) (All-head P y ys all)
-  | inr later ↦ all_here P x ys (All-tail P y ys all) later
-]
 
 pub flights_join : (conn : ℕ) (os more : List Output) → flights conn (os ++ more) ≡ flights conn os ++ flights conn more
 flights_join conn [] more = refl
@@ -109,7 +102,7 @@ module _ (intents worker : ℕ) where
   comes_at : (xs : List (Session Sent)) (m : Mind) (n : ℕ) (d : Dispatch) → All (SessionKeeps worker) xs → (comes : Comes intents worker xs m n d)
       → At intents worker (with_dispatch m d n) comes.session (comes.front ++ d ∷ [])
   comes_at xs m n d keeps comes =
-      let own : SessionKeeps worker comes.session = all_here (SessionKeeps worker) comes.session xs keeps comes.among in
+      let own : SessionKeeps worker comes.session = all_among (SessionKeeps worker) comes.session xs keeps comes.among in
       let Own : Dispatch → Type 0 = Keeps (session_id worker comes.session.number) in
       let kept : Own d = all_at Own comes.front d comes.back (subst (λ (ds : List Dispatch). All Own ds) comes.split own) in
       subst (λ n. At intents worker (with_dispatch m d n) comes.session (comes.front ++ d ∷ [])) (sym comes.number) (elim comes.next [

@@ -26,13 +26,13 @@ use Rattle.two_ends.specs.Events.{Event, Hears, Arrives, Cuts, Learns, Dials, Be
 use Rattle.two_ends.specs.TwoEnds.{SessionIsHeld, EndsHold, TwoEnds}
 use Rattle.two_ends.proofs.Minds.{SessionKeeps, Known}
 use Rattle.two_ends.proofs.Growing.{taken_worker}
-use Rattle.two_ends.proofs.Steps.{all_here, Advances, advances_same}
+use Rattle.two_ends.proofs.Steps.{Advances, advances_same}
 use Rattle.two_ends.proofs.Beyond.{not_beyond}
 use Rattle.two_ends.proofs.Stages.{IsOwn}
 use Rattle.two_ends.proofs.Hearing.{mind, asks_mind, loses_mind}
 use Rattle.two_ends.proofs.Elsewhere.{IsElse}
 use Rattle.two_ends.proofs.Lasting.{Holds, flown_to, any_lasts, text_lasts, open_lasts, hear_lasts, hear_advances, beat_lasts, learn_lasts, cut_lasts}
-use Rattle.two_ends.proofs.Places.{after_input, worker_stepped, worker_number, found_stays, first_worker_at, stays_first, stays_stepped}
+use Rattle.two_ends.proofs.Places.{after_input, worker_stepped, worker_number, found_stays, first_worker_at, stays_first, stays_stepped, all_among}
 
 -- ---- which inputs a step gives
 
@@ -242,7 +242,7 @@ module _ (text : ℕ → Dispatch → List ℕ) (back : ReadsBack text) where
           intents = known.at.intents;
           within = omega (arith, number, ap length known.split, length-append known.front known.back);
           folds = λ g. known.at.folds g ∙ ap (fold e.client.intents g) (sym front);
-          holds = all_here (SessionHolds e.world.logs (cursors w.logs.seen)) known.session w.core.sessions (worker_holds e.world.logs w (stays_here e stand w found)) known.among;
+          holds = all_among (SessionHolds e.world.logs (cursors w.logs.seen)) known.session w.core.sessions (worker_holds e.world.logs w (stays_here e stand w found)) known.among;
         }
       where
         front_taken : (xs ys : List Dispatch) → take (length xs) (xs ++ ys) ≡ xs
