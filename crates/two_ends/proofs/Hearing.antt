@@ -23,7 +23,6 @@ use Rattle.world_law.proofs.Lists.{all_at, append_none}
 use Rattle.two_ends.specs.Flights.{ReadsBack, SessionFits, Fits, said, sent_texts}
 use Rattle.two_ends.specs.TwoEnds.{IsAmong}
 use Rattle.two_ends.proofs.Minds.{Item, Said, Told as ToldItem, Shut, Mind, minded, Known, Knows, Fine}
-
 use Rattle.two_ends.proofs.Stages.{IsStill, AreStill, IsLater, AreBeats, IsOwn, AreOwn, IsFirst, Prompts, Asks, Has, Stage, still_minded, still_later}
 use Rattle.two_ends.proofs.Readings.{told_read, said_read, resumed_read}
 use Rattle.two_ends.proofs.Places.{all_among}
@@ -242,9 +241,22 @@ module _ (intents worker conn : ℕ) (xs : List (Session Sent)) where
       by_session None is = (identify c.token c.intents, (refl, tt))
       by_session (Some s) is =
           let known : Known intents worker xs (mind c) = knows s is in
-          let same : known.at.session ≡ s = same_Some known.at.session s (sym known.at.is ∙ is) in
-          (resume c.token s, (refl, (known.session, (known.among, (ap (λ (s : ClientSession). s.id) (sym same) ∙ known.at.id,
-            omega (arith, ap (λ (s : ClientSession). s.number) same, known.at.number, ap length known.split, length-append known.front known.back))))))
+          let same : known.at.session ≡ s = same_Some known.at.session s (sym known.at.is ∙ is) in (
+            resume c.token s,
+            (
+              refl,
+              (
+                known.session,
+                (
+                  known.among,
+                  (
+                    ap (λ (s : ClientSession). s.id) (sym same) ∙ known.at.id,
+                    omega (arith, ap (λ (s : ClientSession). s.number) same, known.at.number, ap length known.split, length-append known.front known.back),
+                  ),
+                ),
+              ),
+            ),
+          )
 
   -- what a client sends that receives it is its own
   pub heard_own : (c : Client) → c.intents ≡ intents → Knows intents worker xs (mind c) → (received : Received) (now : ℕ) → AreOwn worker xs (sent_texts (acts c (Receives received now)))

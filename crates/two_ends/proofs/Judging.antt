@@ -35,7 +35,6 @@ use Rattle.world_law.proofs.Workers.{Follows}
 use Rattle.two_ends.specs.Flights.{ReadsBack}
 use Rattle.two_ends.specs.TwoEnds.{IsAmong}
 use Rattle.two_ends.proofs.Minds.{Item, Mind, SessionKeeps, WorkerKeeps, Known, Knows}
-
 use Rattle.two_ends.proofs.Stages.{AreStill, IsBeat, AreBeats, IsFirst, Asks, Stage}
 use Rattle.two_ends.proofs.Arriving.{last_among, made_by, gives_by, Leaves, plain_leaves, beat_plain}
 use Rattle.two_ends.proofs.Opening.{spent_leaves, denied_leaves, begins_leaves, goes_on_leaves}

@@ -192,9 +192,9 @@ module _ (text : ℕ → Dispatch → List ℕ) (intents conn : ℕ) where
         let last : ℕ = length (dispatches x.sent) in
         let held : Mind = all_minded m texts in
         let still_held : (g : ℕ) → purge intents g (fold intents g (front ++ back)) ≡ fold intents g (front ++ back) = λ g.
-            subst (λ (ds : List Dispatch). purge intents g (fold intents g ds) ≡ fold intents g ds) all
-            (subst (λ n. purge n g (fold n g (dispatches x.sent)) ≡ fold n g (dispatches x.sent)) at.intents
-            (session_still w x follows (subst (λ (x : Session Sent). IsAmong x w.core.sessions) own known.among) g)) in
+        subst (λ (ds : List Dispatch). purge intents g (fold intents g ds) ≡ fold intents g ds) all
+        (subst (λ n. purge n g (fold n g (dispatches x.sent)) ≡ fold n g (dispatches x.sent)) at.intents
+        (session_still w x follows (subst (λ (x : Session Sent). IsAmong x w.core.sessions) own known.among) g)) in
         let go : GoesOn intents worker xs held last = record {
           session = here;
           among = found.0;
@@ -206,16 +206,16 @@ module _ (text : ℕ → Dispatch → List ℕ) (intents conn : ℕ) where
           still = still_held;
         } in
         let ended : At intents worker (minded held (Said (Resumed last))) here (dispatches here.sent) =
-            subst (At intents worker (minded held (Said (Resumed last))) here) (sym all) (at_resumed intents worker held here (front ++ back) last told.1 (ap length all) still_held) in
+        subst (At intents worker (minded held (Said (Resumed last))) here) (sym all) (at_resumed intents worker held here (front ++ back) last told.1 (ap length all) still_held) in
         let items : List Item = older ++ (texts ++ Said (Resumed last) ∷ []) in
         let same : all_minded m is ≡ m = all_still_minded m is still in
         let quiet : all_minded m older ≡ m = all_still_minded m older (older_still (attached x.condition)) in
         let minds : all_minded m items ≡ minded held (Said (Resumed last)) =
-            minded_join m older (texts ++ Said (Resumed last) ∷ []) ∙ (ap (λ n. all_minded n (texts ++ Said (Resumed last) ∷ [])) quiet ∙ minded_join m texts (Said (Resumed last) ∷ [])) in
+        minded_join m older (texts ++ Said (Resumed last) ∷ []) ∙ (ap (λ n. all_minded n (texts ++ Said (Resumed last) ∷ [])) quiet ∙ minded_join m texts (Said (Resumed last) ∷ [])) in
         let good : Good intents worker xs m items =
-            good_join intents worker xs m older (texts ++ Said (Resumed last) ∷ []) (still_good worker xs m older (older_still (attached x.condition)))
-            (subst (λ (n : Mind). Good intents worker xs n (texts ++ Said (Resumed last) ∷ [])) (sym quiet)
-            (good_join intents worker xs m texts (Said (Resumed last) ∷ []) told.0 (go, tt))) in
+        good_join intents worker xs m older (texts ++ Said (Resumed last) ∷ []) (still_good worker xs m older (older_still (attached x.condition)))
+        (subst (λ (n : Mind). Good intents worker xs n (texts ++ Said (Resumed last) ∷ [])) (sym quiet)
+        (good_join intents worker xs m texts (Said (Resumed last) ∷ []) told.0 (go, tt))) in
         record {
           items = items;
           are =
@@ -223,9 +223,9 @@ module _ (text : ℕ → Dispatch → List ℕ) (intents conn : ℕ) where
               ∙ (flights_join conn (older_sends (attached x.condition)) _
               ∙ (ap (λ fs. fs ++ flights conn (sends text (Attached conn) seq (drop seq (dispatches x.sent)) ++ Says conn (Resumed last) ∷ [])) (older_fly (attached x.condition))
               ∙ (ap (λ fs. all_flown text older ++ fs) (flights_join conn (sends text (Attached conn) seq (drop seq (dispatches x.sent))) (Says conn (Resumed last) ∷ [])
-                ∙ (ap (λ fs. fs ++ flights conn (Says conn (Resumed last) ∷ [])) (ap (λ ds. flights conn (sends text (Attached conn) seq ds)) rest ∙ (flown_told text seq back conn ∙ ap (λ n. all_flown text (told_items n back)) number))
-                ∙ (ap (λ b. all_flown text texts ++ ((if b then Text (said (Resumed last)) ∷ [] else []) ++ [])) (same_id conn)
-                ∙ sym (map_join (flown text) texts (Said (Resumed last) ∷ [])))))
+              ∙ (ap (λ fs. fs ++ flights conn (Says conn (Resumed last) ∷ [])) (ap (λ ds. flights conn (sends text (Attached conn) seq ds)) rest ∙ (flown_told text seq back conn ∙ ap (λ n. all_flown text (told_items n back)) number))
+              ∙ (ap (λ b. all_flown text texts ++ ((if b then Text (said (Resumed last)) ∷ [] else []) ++ [])) (same_id conn)
+              ∙ sym (map_join (flown text) texts (Said (Resumed last) ∷ [])))))
               ∙ sym (map_join (flown text) older (texts ++ Said (Resumed last) ∷ [])))));
           good = subst (λ (n : Mind). Good intents worker xs n items) (sym same) good;
           stage = inr (inr (record {

@@ -251,8 +251,7 @@ module _ (intents worker : ℕ) where
       let Own : Dispatch → Type 0 = Keeps (session_id worker x.number) in
       let kept : Own d = all_at Own front d (ds ++ back) (subst (λ (ds : List Dispatch). All Own ds) split keeps) in
       let now : At intents worker (with_dispatch m d (n + 1)) x (front ++ d ∷ []) = subst (λ k. At intents worker (with_dispatch m d (k + 1)) x (front ++ d ∷ [])) (sym is) (at_next m x front d at kept) in
-      let rest = told_from xs x (front ++ d ∷ []) ds back (n + 1) (omega (arith, is, one_more front d)) among (split ∙ sym (append_assoc front (d ∷ []) (ds ++ back))) keeps (with_dispatch m d (n + 1)) now in
-      (
+      let rest = told_from xs x (front ++ d ∷ []) ds back (n + 1) (omega (arith, is, one_more front d)) among (split ∙ sym (append_assoc front (d ∷ []) (ds ++ back))) keeps (with_dispatch m d (n + 1)) now in (
         (record { session = x; among = among; front = front; back = ds ++ back; split = split; number = ap (λ k. k + 1) is; next = inl at }, rest.0),
         subst (At intents worker (all_minded (with_dispatch m d (n + 1)) (told_items (n + 1) ds)) x) (append_assoc front (d ∷ []) ds) rest.1,
       )

@@ -116,7 +116,7 @@ module _ (text : ℕ → Dispatch → List ℕ) (back : ReadsBack text) where
     -- by the worker as it was
     moved_stands : All (Stays e.world.logs) e.world.workers → (worker_at e.worker e.world ≡ None → e.to_client ≡ [])
         → ((w : Worker) → worker_at e.worker e.world ≡ Some w
-            → Holds text e.client e.worker e.conn e.is_whole (e.to_client ++ (if e.is_whole then flown_to e.conn (outputs_of text w (input_of e.world w step)) else [])) e.to_worker (after_input text w (input_of e.world w step)))
+        → Holds text e.client e.worker e.conn e.is_whole (e.to_client ++ (if e.is_whole then flown_to e.conn (outputs_of text w (input_of e.world w step)) else [])) e.to_worker (after_input text w (input_of e.world w step)))
         → Stand (moved text e step)
     moved_stands stays alone holds = record {
       stays = stays_stepped text step e.world stays;
@@ -149,21 +149,21 @@ module _ (text : ℕ → Dispatch → List ℕ) (back : ReadsBack text) where
     arrived_stands (Some k) [] is are = stand
     arrived_stands (Some k) (t ∷ later) is are =
         moved_stands (record e { to_worker = later }) (Frames e.worker k t) stand.stays stand.alone (λ w found.
-            let old : Holds text e.client e.worker (Some k) e.is_whole e.to_client (t ∷ later) w =
-            subst (λ (conn : Option ℕ). Holds text e.client e.worker conn e.is_whole e.to_client (t ∷ later) w) is
-            (subst (λ (ts : List (List ℕ)). Holds text e.client e.worker e.conn e.is_whole e.to_client ts w) are (stand.ends w found)) in
-            let here : Stays e.world.logs w = stays_here e stand w found in
-            subst (λ (conn : Option ℕ). Holds text e.client e.worker conn e.is_whole (e.to_client ++ (if e.is_whole then flown_to conn (outputs_of text w (input_if e.worker w (Frame k t))) else [])) later (after_input text w (input_if e.worker w (Frame k t)))) (sym is)
-            (subst (λ (o : Option Input). Holds text e.client e.worker (Some k) e.is_whole (e.to_client ++ (if e.is_whole then flown_to (Some k) (outputs_of text w o) else [])) later (after_input text w o)) (sym (own_input e.worker w (Frame k t) old.number))
-            (text_lasts text e.client e.worker e.to_client w here.sound back here.follows (fits_of w found).made k t later e.is_whole old)))
+        let old : Holds text e.client e.worker (Some k) e.is_whole e.to_client (t ∷ later) w =
+        subst (λ (conn : Option ℕ). Holds text e.client e.worker conn e.is_whole e.to_client (t ∷ later) w) is
+        (subst (λ (ts : List (List ℕ)). Holds text e.client e.worker e.conn e.is_whole e.to_client ts w) are (stand.ends w found)) in
+        let here : Stays e.world.logs w = stays_here e stand w found in
+        subst (λ (conn : Option ℕ). Holds text e.client e.worker conn e.is_whole (e.to_client ++ (if e.is_whole then flown_to conn (outputs_of text w (input_if e.worker w (Frame k t))) else [])) later (after_input text w (input_if e.worker w (Frame k t)))) (sym is)
+        (subst (λ (o : Option Input). Holds text e.client e.worker (Some k) e.is_whole (e.to_client ++ (if e.is_whole then flown_to (Some k) (outputs_of text w o) else [])) later (after_input text w o)) (sym (own_input e.worker w (Frame k t) old.number))
+        (text_lasts text e.client e.worker e.to_client w here.sound back here.follows (fits_of w found).made k t later e.is_whole old)))
 
     dialled_stands : (k : ℕ) → IsUnused k (worker_at e.worker e.world) → Stand (after text e (Dials k))
     dialled_stands k unused =
         moved_stands (record e { conn = Some k; is_linked = true; is_whole = true; to_client = []; to_worker = [] }) (Opens e.worker k) stand.stays (λ none. refl) (λ w found.
-            let old : Holds text e.client e.worker e.conn e.is_whole e.to_client e.to_worker w = stand.ends w found in
-            let free = unused_here (worker_at e.worker e.world) w unused found in
-            subst (λ (o : Option Input). Holds text e.client e.worker (Some k) true ([] ++ flown_to (Some k) (outputs_of text w o)) [] (after_input text w o)) (sym (own_input e.worker w (Open k) old.number))
-            (open_lasts text e.client e.worker e.to_client w (stays_here e stand w found).sound k e.conn e.is_whole e.to_worker free.0 free.1 old))
+        let old : Holds text e.client e.worker e.conn e.is_whole e.to_client e.to_worker w = stand.ends w found in
+        let free = unused_here (worker_at e.worker e.world) w unused found in
+        subst (λ (o : Option Input). Holds text e.client e.worker (Some k) true ([] ++ flown_to (Some k) (outputs_of text w o)) [] (after_input text w o)) (sym (own_input e.worker w (Open k) old.number))
+        (open_lasts text e.client e.worker e.to_client w (stays_here e stand w found).sound k e.conn e.is_whole e.to_worker free.0 free.1 old))
       where
         unused_here : (o : Option Worker) (w : Worker) → IsUnused k o → o ≡ Some w → IsUnused k (Some w)
         unused_here o w unused found = subst (IsUnused k) found unused
@@ -194,8 +194,8 @@ module _ (text : ℕ → Dispatch → List ℕ) (back : ReadsBack text) where
     }
     event_stands (Happens step) may =
         moved_stands e step stand.stays stand.alone (λ w found.
-            any_lasts text e.client e.worker e.to_client w (stays_here e stand w found).sound (input_of e.world w step) e.conn e.is_whole e.to_worker
-            (else_input e.world w e.worker e.conn step (stand.ends w found).number may) (stand.ends w found))
+        any_lasts text e.client e.worker e.to_client w (stays_here e stand w found).sound (input_of e.world w step) e.conn e.is_whole e.to_worker
+        (else_input e.world w e.worker e.conn step (stand.ends w found).number may) (stand.ends w found))
 
     -- ---- the client does not go back
 
