@@ -284,6 +284,9 @@ def compare_quotes():
     compare("examples", "examples/README.md", 1, {name for _, (name, _) in rows("examples/README.md", "file")}, files)
     compare("steps in examples", STEPS, 1, {step["step"] for step in steps}, {name for _, (name, *_) in rows(STEPS, "step")})
     edits = {name for _, (name, *_) in rows(STEPS, "edit")}
+    quoted = [json.loads(line) for line in text_of(STEPS).split("\n") if line.startswith('{"step"')]
+    wanted = edits | {name for _, (name, *_) in rows(STEPS, "step")}
+    compare("lines to copy", STEPS, 1, {step[key] for step in quoted for key in ("step", "do") if key in step}, wanted)
     compare("edits in examples", STEPS, 1, {step.get("do") for step in steps} & edits, edits)
 
 def names_of(cell):
