@@ -116,6 +116,7 @@ LINES = [
     # In these nothing is wrong; the bot is sent no more than this.
     ("no look before Identify", OPENED + [BEE, CONN, IDENTIFY], READY % ""),
     ("no look after an edit", OPENED + [BEE, LOOK, CONN, IDENTIFY, edit('"do":"guild_rename","name":"hut"')], CREATE),
+    ("a look that is too late", OPENED + [BEE, LOOK, CONN, IDENTIFY] + [edit('"do":"guild_rename","name":"hut"')] * 4097 + [LOOK], "close 1 4000"),
     ("a look of another worker", OPENED + [BEE, '{"step":"look","worker":1,"guild":"1"}', CONN, IDENTIFY], READY % ""),
 ]
 
