@@ -1,5 +1,6 @@
 """Compares the documents, the READMEs of crates and examples/ with the sources, and plays the examples."""
 import collections
+import functools
 import glob
 import itertools
 import json
@@ -15,6 +16,8 @@ SERVE, CLIENT, README = "docs/SERVE.md", "docs/CLIENT.md", "README.md"
 # The pages that bot authors read.
 FOR_AUTHORS = [README, STEPS, TRANSCRIPT, PAYLOADS, "docs/COOKBOOK.md", "examples/README.md", SERVE, CLIENT, "docs/CLIENTS.md", LOAD]
 MOST_WORDS = 1200
+# The tables of exit statuses, by their pages and heads.
+STATUSES = [(TRANSCRIPT, "status"), (LOAD, "status of a load"), (SERVE, "status of a server"), (CLIENT, "status of a client")]
 # What the page calls a kind of field, by the name of the function that reads it.
 KINDS = {"moment": "time", "kind": "channel type", "thread_kind": "thread type", "overwrite_kind": "overwrite type", "parts": "count"}
 # Which objects stand under these keys, and are these dispatches.
@@ -26,6 +29,7 @@ OBJECTS = {"role": "role roles", "channel": "channels CHANNEL_CREATE CHANNEL_UPD
 OBJECT_OF = {name: kind for kind, names in OBJECTS.items() for name in names.split()}
 failures, counts = [], collections.Counter()
 
+@functools.cache
 def text_of(*patterns):
     """The text of these files, one after another."""
     paths = [path for pattern in patterns for path in sorted(glob.glob(pattern, recursive=True))]
@@ -134,94 +138,106 @@ def variants(path, enum):
 
 def numbered(path, enum):
     """The numbers and the names of an enum's variants, as they are written."""
-    return [(number, re.sub(r"(?<!^)(?=[A-Z])", " ", name).lower()) for name, number in re.findall(rf"{enum}::(\w+) => (\d+),", text_of(path))]
+    found = re.findall(rf"{enum}::(\w+) => (\d+),", text_of(path))
+    return [(number, re.sub(r"(?<!^)(?=[A-Z])", " ", name).lower()) for name, number in found]
+
+def clauses_of(call):
+    """The clauses of each public function of this name, of the crate or the type before it; one without a name is `ensures`."""
+    *owner, name = call.split("::")
+    for path in sorted(glob.glob("crates/*/src/**/*.rt", recursive=True)):
+        text = text_of(path)
+        if not owner or path.split("/")[1] == owner[0] or re.search(rf"^impl\b[^{{]*\b{owner[0]}\b", text, re.M):
+            for head in re.findall(rf"pub fn {name}\b(.*?)^ *\{{\}}?$", text, re.M | re.S):
+                yield set(re.findall(r"ensures (\w+) \{", head)) | set(re.findall(r"(ensures) \{", head))
 
 def compare_kinds():
-    """What the kinds of fields may be, and the frames with their keys."""
-    limits, reader = constants("guild_model"), functions("crates/edit_text/src/steps.rt") | functions("crates/edit_fields/src/fields.rt")
-    below = lambda name: re.search(r"(?:, |< )((?:1 << )?\d+)(?:\)| \{)", reader[name])[1].replace("1 << ", "2^")
-    sources = {
-        "time": [str(limits["END_OF_TIME"])], "ids": [str(limits["MENTIONS"])], "count": ["0", str(limits["PARTS"])],
-        "position": [below("position_at")], "connection": [below("connection_at")], "code": [below("code_at")],
-        "milliseconds": [below("tick_from")], "worker": ["0", str(int(below("worker_at")) - 1)],
-        "channel type": numbered("crates/guild_model/src/channel.rt", "ChannelKind"), "thread type": numbered("crates/guild_model/src/thread.rt", "ThreadKind"),
-        "overwrite type": numbered("crates/guild_model/src/channel.rt", "OverwriteKind"),
-        "status": re.findall(r"Status::\w+ => \"(\w+)\"", text_of("crates/guild_model/src/presence.rt")),
-    }
-    for line, (kind, cell) in rows(STEPS, "kind"):
-        if kind in sources:
-            page = re.findall(r"\"(\w+)\"", cell) or re.findall(r"(\d+) ([a-z]+)", cell) if kind == "status" or kind.endswith("type") else re.findall(r"2\^\d+|\d+", cell.split(" (")[0])
-            compare("kinds of fields", STEPS, line, [item for item in page if item != "1970"], sources.pop(kind))
-    compare("kinds of fields", STEPS, 1, set(sources), set())
+    """What the kinds of fields may be."""
+    limits, channels = constants("guild_model"), "crates/guild_model/src/channel.rt"
+    readers = functions("crates/edit_text/src/steps.rt") | functions("crates/edit_fields/src/fields.rt")
+    below = lambda name: re.search(r"(?:, |< )((?:1 << )?\d+)(?:\)| \{)", readers[name])[1].replace("1 << ", "2^")
+    types = {"channel type": numbered(channels, "ChannelKind"), "overwrite type": numbered(channels, "OverwriteKind"),
+             "thread type": numbered("crates/guild_model/src/thread.rt", "ThreadKind")}
+    names = {"status": re.findall(r"Status::\w+ => \"(\w+)\"", text_of("crates/guild_model/src/presence.rt"))}
+    numbers = {"time": ["1970", str(limits["END_OF_TIME"])], "ids": [str(limits["MENTIONS"])], "count": ["0", str(limits["PARTS"])],
+               "position": [below("position_at")], "connection": [below("connection_at")], "code": [below("code_at")],
+               "milliseconds": [below("tick_from")], "worker": ["0", str(int(below("worker_at")) - 1)]}
+    page = {kind: (line, cell.split(" (")[0]) for line, (kind, cell) in rows(STEPS, "kind")}
+    for sources, form in ((types, r"(\d+) ([a-z]+)"), (names, r"\"(\w+)\""), (numbers, r"2\^\d+|\d+")):
+        for kind, source in sources.items():
+            line, cell = page[kind]
+            compare("kinds of fields", STEPS, line, re.findall(form, cell), source)
+
+def compare_frames():
+    """The opcodes, and the keys that are read of `d`."""
     shapes = functions("crates/gateway_frames/src/shapes.rt")
     readers = dict(re.findall(r"(\d+) => (?:Ok\(Frame::\w+\()?(\w+)\(", text_of("crates/gateway_frames/src/read.rt")))
-    compare("frames", STEPS, 1, {line.split(" ")[0] for _, (line, *_) in rows(STEPS, "op")}, set(readers))
-    keys = lambda name: re.findall(r"object(?:, |\.get\()\"(\w+)\"", shapes[name]) + [key for it in re.findall(r"= (\w+_from)\(alloc, object\)|=> (\w+_from)\(alloc, object\)", shapes[name]) for one in it if one for key in keys(one)]
-    for line, (op, cell, _) in rows(STEPS, "op"):
-        compare("keys of frames", STEPS, line, set(re.findall(r"`(\w+)`", cell)), set(keys(readers[op.split(" ")[0]])))
+    def keys(reader):
+        inner = re.findall(r"(?:=|=>) (\w+_from)\(alloc, object\)", shapes[reader])
+        return set(re.findall(r"object(?:, |\.get\()\"(\w+)\"", shapes[reader])).union(*map(keys, inner))
+    page = {op.split(" ")[0]: (line, set(re.findall(r"`(\w+)`", cell))) for line, (op, cell, _) in rows(STEPS, "op")}
+    compare("frames", STEPS, 1, set(page), set(readers))
+    for op, (line, named) in page.items():
+        compare("keys of frames", STEPS, line, named, keys(readers[op]))
 
 def compare_words():
-    """The words of `serve` and `client`, the forms of lines, what standard error says, and numbers."""
-    limits = constants("serve_words") | constants("intent_set")
-    limits["MOST_FILES"] = int(re.search(r"num_args\(1\.\.=(\d+)\)", text_of("crates/serve_words/src/grammar.rt"))[1])
+    """The words of `serve` and `client`, the forms of lines, and what standard error says."""
+    limits = constants("serve_words") | {"MOST_FILES": int(re.search(r"num_args\(1\.\.=(\d+)\)", text_of("crates/serve_words/src/grammar.rt"))[1])}
     names = {"PORT": "LAST_PORT", "URL": "MOST_URL_BYTES", "TOKEN": "MOST_TOKEN_BYTES"}
     for page in (SERVE, CLIENT):
         for line, (word, cell, _) in rows(page, "word"):
             if word != "INTENTS":
                 compare("words of commands", page, line, int(re.findall(r"\d+", cell)[-1]), limits[names.get(word, f"MOST_{word}")])
-    said = "".join(re.findall(r"\"([a-z ]+ )", text_of("crates/scenario/src/texts.rt"))) + text_of("crates/log_summary/src/lines.rt", "crates/serve_ends/src/*.rt", "crates/client_follow/src/*.rt", "crates/serve_parts/src/*.rt")
+    said = text_of("crates/scenario/src/texts.rt", *(f"crates/{crate}/src/*.rt" for crate in ("log_summary", "serve_ends", "serve_parts", "client_follow")))
     for page in (TRANSCRIPT, LOAD, SERVE, CLIENT):
         for line, (form, _) in rows(page, "line"):
             word = re.match(r"[a-z ]*", form)[0]
-            compare("forms of lines", page, line, form, form if not word or word in said else "no such line in the sources")
-    literals = re.findall(r"\"((?:gate: )[^\"]*)\"", text_of("crates/gateway_main/src/complaint.rt"))
+            compare("forms of lines", page, line, form, form if not word or f'"{word}' in said else "no such line in the sources")
+    ends = re.findall(r"^    ((?:guild|strays) \d.*)$", text_of(SERVE), re.M)
+    compare("forms of lines", SERVE, 1, ends, text_of("examples/clients/edits.out").splitlines())
+    literals = re.findall(r"\"(gate: [^\"]*)\"", text_of("crates/gateway_main/src/complaint.rt"))
     forms = [re.sub(r"\\\{\w*\\\}", ".+", re.escape(literal)) for literal in literals]
     for page in FOR_AUTHORS:
         for number, line in enumerate(text_of(page).split("\n"), 1):
             if line.startswith("gate: "):
-                compare("complaints", page, number, line, line if any(re.fullmatch(form, line) for form in forms) else "nothing that standard error says")
-    compare("forms of lines", SERVE, 1, re.findall(r"^    ((?:guild|strays) \d.*)$", text_of(SERVE), re.M), text_of("examples/clients/edits.out").splitlines())
-    known = {int(value.replace("_", "")) for value in re.findall(r"const \w+: \w+ =\s*([\d_]+);", text_of("crates/*/src/**/*.rt"))}
-    for page in FOR_AUTHORS:
-        for number, line in enumerate(text_of(page).split("\n"), 1):
-            for value in (int(found.replace(",", "")) for found in re.findall(r"(?<![\d,\"\\])\d{1,3}(?:,\d{3})+(?![\d,])", line)):
-                near = value if {value, value - 1, value + 1} & known or value / 2 in known else "no such constant"
-                compare("numbers", page, number, value, near)
-    bits = dict(re.findall(r"const (\w+) = 1 << (\d+)", text_of("crates/intent_set/src/flags.rt")))
-    shown = [(name, 1 << int(bits[name.split(" ")[0]])) for _, (name, *_) in rows(STEPS, "intent")]
-    sums = [sum(value for _, value in shown), sum(value for name, value in shown if "privileged" in name)]
-    compare("numbers", STEPS, 1, list(map(int, re.search(r"together are (\d+), all privileged ones (\d+)", text_of(STEPS)).groups())), sums)
+                known = any(re.fullmatch(form, line) for form in forms)
+                compare("complaints", page, number, line, line if known else "nothing that standard error says")
 
-def compare_readme():
-    """README's length, its first run, the fields of the law, the statuses, and the calls with their clauses."""
-    text = text_of(README)
-    compare("words of README", README, 1, max(len(text.split()), MOST_WORDS), MOST_WORDS)
-    blocks = ["".join(line[4:] for line in block.splitlines(True)) for block in re.findall(r"(?:^    .*\n)+", text, re.M)]
-    for path in ("examples/first.jsonl", "examples/first.out"):
-        compare("first run", README, 1, path, path if text_of(path) in blocks else f"not the whole of {path}")
-    record = re.search(r"record TheLaw .*?\n((?:  .*\n)*)", text_of("crates/world_law/specs/TheLaw.antt"))[1]
-    page = {name for _, (cell, *_) in rows(README, "field") for name in re.findall(r"\w+", cell)}
-    compare("fields of the law", README, 1, page, set(re.findall(r"pub (\w+) :", record)))
-    told = {status for page in (TRANSCRIPT, LOAD, SERVE, CLIENT) for head in ("status", "status of a load", "status of a server", "status of a client")
-            for _, (status, *_) in rows(page, head)}
-    compare("statuses", README, 1, {status for _, (cell, _) in rows(README, "status") for status in cell.split(", ")}, told)
-    for line, (_, call, says) in rows(README, "family"):
-        *owner, name = call.strip("`").split("::")
-        crate = owner[0] if owner and owner[0].islower() else "*"
-        heads = re.findall(rf"pub fn {name}\b(.*?)^ *\{{$", text_of(f"crates/{crate}/src/**/*.rt"), re.M | re.S)
-        wanted = set(re.findall(r"`(\w+)`", says.split(":")[0])) if ":" in says else set()
-        known = any(wanted <= set(re.findall(r"ensures (\w+) \{", head)) if wanted else "ensures" in head for head in heads)
-        compare("clauses of README", README, line, says, says if known else f"no call {call} with such clauses")
-    clauses = {name: " ".join(re.findall(rf"pub fn {name}\b(.*?)^ *\{{$", text_of(f"crates/{crate}/src/**/*.rt"), re.M | re.S))
-               for name, crate in (("gate", "gateway_main"), ("play", "scenario"), ("work", "worker_run"))}
-    for name, clause in (("gate", "law"), ("play", "law"), ("work", "law"), ("play", "plays"), ("gate", "does")):
-        compare("clauses of README", README, 1, clause, clause if f"ensures {clause} {{" in clauses[name] else f"no clause of {name}")
+def compare_numbers():
+    """Numbers with commas are constants, or one more or less, or twice one; counts of things are what the tables have."""
+    constants_of_all = re.findall(r"const \w+: \w+ =\s*([\d_]+);", text_of("crates/*/src/**/*.rt"))
+    known = {int(value.replace("_", "")) for value in constants_of_all}
+    known |= {value + more for value in known for more in (-1, 1)} | {2 * value for value in known}
     sizes = {"kinds of dispatches": len(variants("crates/intent_set/src/kind.rt", "Kind")), "close codes": len(list(rows(TRANSCRIPT, "code"))),
              "steps": len(list(rows(STEPS, "step"))), "edits": len(list(rows(STEPS, "edit")))}
     for page in [*FOR_AUTHORS, "docs/ADDING.md"]:
         for number, line in enumerate(text_of(page).split("\n"), 1):
+            for found in re.findall(r"(?<![\d,\"\\])\d{1,3}(?:,\d{3})+(?![\d,])", line):
+                compare("numbers", page, number, found, found if int(found.replace(",", "")) in known else "no such constant")
             for count, what in re.findall(r"\b(\d+|nine) (kinds of dispatches|close codes|steps|edits)\b", line):
                 compare("numbers", page, number, 9 if count == "nine" else int(count), sizes[what])
+    shown = [(name, int(value)) for _, (name, value, _) in rows(STEPS, "intent")]
+    sums = (sum(value for _, value in shown), sum(value for name, value in shown if "privileged" in name))
+    told = re.search(r"together are (\d+), all privileged ones (\d+)", text_of(STEPS))
+    compare("numbers", STEPS, 1, tuple(map(int, told.groups())), sums)
+
+def compare_readme():
+    """README's length, its first run, the fields of the law, the statuses, the calls with their clauses, and the kit."""
+    text = text_of(README)
+    compare("words of README", README, 1, max(len(text.split()), MOST_WORDS), MOST_WORDS)
+    blocks = [re.sub(r"(?m)^    ", "", block) for block in re.findall(r"(?:^    .*\n)+", text, re.M)]
+    for path in ("examples/first.jsonl", "examples/first.out"):
+        compare("first run", README, 1, path, path if text_of(path) in blocks else f"not the whole of {path}")
+    record = re.search(r"record TheLaw .*?\n((?:  .*\n)*)", text_of("crates/world_law/specs/TheLaw.antt"))[1]
+    fields = {name for _, (cell, *_) in rows(README, "field") for name in re.findall(r"\w+", cell)}
+    compare("fields of the law", README, 1, fields, set(re.findall(r"pub (\w+) :", record)))
+    told = {status for page, head in STATUSES for _, (status, *_) in rows(page, head)}
+    compare("statuses", README, 1, {status for _, (cell, _) in rows(README, "status") for status in cell.split(", ")}, told)
+    calls = [(1, "gateway_main::gate", {"law", "does"}), (1, "scenario::play", {"law", "plays"}), (1, "worker_run::work", {"law"})]
+    for line, (_, call, says) in rows(README, "family"):
+        calls.append((line, call.strip("`"), set(re.findall(r"`(\w+)`", says.split(":")[0])) if ":" in says else {"ensures"}))
+    for line, call, wanted in calls:
+        known = any(wanted <= clauses for clauses in clauses_of(call))
+        compare("clauses of README", README, line, wanted, wanted if known else {f"no call {call} with these clauses"})
     if shutil.which("rt"):
         kit = subprocess.run(["rt", "version"], capture_output=True, text=True).stdout.strip()
         compare("kit", README, 1, re.search(r"`(rattle-kit-[^`]*)`", text)[1], kit)
@@ -243,8 +259,7 @@ def compare_tables():
     compare_rows("close codes", TRANSCRIPT, [(line, (int(code), name)) for line, (code, name, *_) in rows(TRANSCRIPT, "code")], source)
     statuses = functions("crates/gateway_main/src/statuses.rt")
     others = constants("gateway_main")
-    for page, name, head in ((TRANSCRIPT, "play_status", "status"), (LOAD, "load_status", "status of a load"),
-                             (SERVE, "serve_status", "status of a server"), (CLIENT, "follow_status", "status of a client")):
+    for (page, head), name in zip(STATUSES, ("play_status", "load_status", "serve_status", "follow_status")):
         told = [int(others.get(status, status)) for status in re.findall(r"=> (\w+),", statuses[name])]
         compare_rows("statuses", page, [(line, int(status)) for line, (status, *_) in rows(page, head)], sorted({*told, others["BAD_WORDS"]}))
 
@@ -310,10 +325,12 @@ def compare_definitions():
         compare("files of specs", "docs/DEFINITIONS.md", 1, path, path if named else "not named there")
 
 def compare_crates():
-    """Each crate has a README, which names no function and no file that the crate does not have."""
+    """Each crate has a README, which names no function that the crate does not have, and is on the page of layers."""
+    layers = text_of("docs/ARCHITECTURE.md")
     for crate in re.findall(r"^(\w+)(?: \w+)?:", text_of("crates.txt"), re.M):
         path, source = f"crates/{crate}/README.md", text_of(f"crates/{crate}/src/**/*.rt")
         compare("READMEs of crates", path, 1, os.path.exists(path), True)
+        compare("layers", "docs/ARCHITECTURE.md", 1, crate, crate if f"`{crate}`" in layers else "not named there")
         for head in ("function", "call"):
             for line, (cell, *_) in rows(path, head) if os.path.exists(path) else ():
                 for name in names_of(" ".join(re.findall(r"`([^`]+)`", f"`{cell}`"))):
@@ -356,8 +373,9 @@ def play_examples(gate):
     if gate:
         compare("causes", TRANSCRIPT, 1, shown["cause"](text_of("examples/first.jsonl").encode().splitlines(True), 4, gate), 9)
 
-for part in (compare_readme, compare_steps_and_edits, compare_kinds, compare_words, compare_tables, compare_payloads, compare_quotes, compare_definitions, compare_crates, compare_paths, lambda: play_examples(program())):
+for part in (compare_readme, compare_steps_and_edits, compare_kinds, compare_frames, compare_words, compare_numbers, compare_tables, compare_payloads,
+             compare_quotes, compare_definitions, compare_crates, compare_paths, lambda: play_examples(program())):
     part()
 print(*(f"docs: {failure[:900]}\n" for failure in failures), sep="", end="")
-print("docs: " + ", ".join(f"{count} {what}" for what, count in counts.items()) + ("" if counts["causes"] else "; no built program at hand: nothing was played"))
+print(f"docs: {counts.total()} compared: " + ", ".join(f"{count} {what}" for what, count in counts.items()) + ("" if counts["causes"] else "; no built program at hand: nothing was played"))
 sys.exit(bool(failures))
