@@ -344,6 +344,10 @@ def compare_paths():
             for name in re.findall(r"`((?:[\w.]+/)+\w+\.(?:rt|antt|md|sh|py|jsonl))`", line):
                 if not name.startswith(("src/", "specs/", "proofs/", "data/")):
                     compare("files", path, number, name, name if os.path.exists(name) or os.path.exists("crates/" + name) else "no such file")
+    for line, (*_, where) in rows("docs/GLOSSARY.md", "word"):
+        for name, path in re.findall(r"`(\w+)` in `([\w/.]+)`", where):
+            known = re.search(rf"\bpub (?:\w+ )*{name}\b|^\s+{name} :", text_of(f"crates/{path}"), re.M)
+            compare("words", "docs/GLOSSARY.md", line, name, name if known else f"not defined in {path}")
     crate = None
     for line, (cell, files, _) in rows("docs/ADDING.md", "crate"):
         crate = next(iter(re.findall(r"^\w+$", cell.split("`")[0])), None) if cell and not cell.startswith("the ") else crate if not cell else None
