@@ -1,5 +1,6 @@
 """Plays files and words that bot authors get wrong, and compares what the built program says: its status, the
-last line of the transcript and the line on standard error. Without a built program nothing is played."""
+last line of the transcript and the line on standard error. Without a built program nothing is played. With the word
+`say` it prints what was said of each."""
 import base64
 import hashlib
 import os
@@ -181,6 +182,8 @@ failures = []
 
 
 def compare(what, wanted, found):
+    if sys.argv[1:] == ["say"]:
+        print(what, *(str(part).strip() or "nothing" for part in found), sep=" | ")
     if wanted != found:
         failures.append(f"mistakes: {what}: wanted {wanted}, found {found}")
 
