@@ -178,10 +178,11 @@ WORDS = [
     ("a folder", ["run", "examples"], 3, "cannot read examples"),
 ]
 PAGES = {2: "README.md", 3: "docs/TRANSCRIPT.md", 4: "docs/TRANSCRIPT.md", 5: "docs/STEPS.md", 6: "docs/TRANSCRIPT.md"}
-failures = []
+tried, failures = [], []
 
 
 def compare(what, wanted, found):
+    tried.append(what)
     if sys.argv[1:] == ["say"]:
         print(what, *(str(part).strip() or "nothing" for part in found), sep=" | ")
     if wanted != found:
@@ -295,7 +296,13 @@ def try_threads(gate, folder):
         port = str(door.getsockname()[1])
     for words, what, page in ((["load", "7"], "a thread of load 7 did not start", "docs/LOAD.md"),
                               (["serve", port, "1", "1", script], f"a thread of serve {port} did not start", "docs/SERVE.md")):
-        run = subprocess.run([program, *words], capture_output=True, timeout=60, preexec_fn=without_threads)
+        try:
+            run = subprocess.run([program, *words], capture_output=True, timeout=60, preexec_fn=without_threads)
+        except subprocess.SubprocessError as fault:
+            if isinstance(fault, subprocess.TimeoutExpired):
+                raise
+            print(f"mistakes: {what}: not tried, since no process can be had without threads: {fault}")
+            continue
         compare(what, (8, "", said(8, what, page)), (run.returncode, run.stdout.decode(), run.stderr.decode()))
 
 
@@ -353,5 +360,5 @@ try_outside(gate)
 try_load(gate)
 try_client(gate)
 print(*failures, sep="\n", end="\n" if failures else "")
-print(f"mistakes: {len(LINES) + len(WORDS) + 20} tried, {len(failures)} answered otherwise")
+print(f"mistakes: {len(tried)} tried, {len(failures)} answered otherwise")
 sys.exit(bool(failures))
