@@ -9,6 +9,7 @@ import re
 import shutil
 import subprocess
 import sys
+import threading
 
 os.chdir(os.path.join(os.path.dirname(os.path.abspath(__file__)), "../.."))
 STEPS, TRANSCRIPT, PAYLOADS, LOAD = "docs/STEPS.md", "docs/TRANSCRIPT.md", "docs/PAYLOADS.md", "docs/LOAD.md"
@@ -361,6 +362,19 @@ def program():
     newer = [path for path in built if os.path.getmtime(path) > max(map(os.path.getmtime, sources))]
     return os.environ.get("GATE") or next(iter(newer), None)
 
+def follow_pipe(gate):
+    """Writes the first example into a pipe, and reads what each part of it causes before it writes on."""
+    steps = text_of("examples/first.jsonl").splitlines(True)
+    with subprocess.Popen([gate, "run", "-"], stdin=subprocess.PIPE, stdout=subprocess.PIPE) as run:
+        clock = threading.Timer(60, run.kill)
+        clock.start()
+        for part, count in ((steps[:6], 1), (steps[6:7], 2), (steps[7:], 1)):
+            run.stdin.write("".join(part).encode())
+            run.stdin.flush()
+            shown = [run.stdout.readline().decode() for _ in range(count)]
+            compare("lines followed", TRANSCRIPT, 1, shown, [line for line in shown if line in text_of("examples/first.out").splitlines(True)])
+        clock.cancel()
+
 def play_examples(gate):
     """Plays each example, also by the reader that docs/TRANSCRIPT.md shows, and compares what it prints."""
     shown = {}
@@ -375,6 +389,7 @@ def play_examples(gate):
         *read, last = shown["read"](path, gate)
         compare("examples read", TRANSCRIPT, 1, (len(wanted) - 1, status), (len(read), last[2]))
     if gate:
+        follow_pipe(gate)
         compare("causes", TRANSCRIPT, 1, shown["cause"](text_of("examples/first.jsonl").encode().splitlines(True), 4, gate), 9)
 
 for part in (compare_readme, compare_steps_and_edits, compare_kinds, compare_frames, compare_words, compare_numbers, compare_tables, compare_payloads,
