@@ -1,5 +1,5 @@
-"""Serves examples/clients/edits.jsonl to bots that lose their links twice and resume, and to `gate client`, if the built program
-knows `serve`."""
+"""Serves examples/clients/edits.jsonl to bots that lose their links twice and resume, to `gate client`, and to the bot that
+docs/SERVE.md shows, if the built program knows `serve`."""
 import ast
 import collections
 import glob
@@ -152,6 +152,16 @@ def follow(gate):
                 process.kill()
 
 
+def run_page(gate):
+    """The test process that docs/SERVE.md shows."""
+    with open("docs/SERVE.md") as file:
+        code = re.search(r"```python\n(.*?)```", file.read(), re.S)[1]
+    opening, _ = parts(f"{FOLDER}/edits.jsonl")
+    os.environ["GATE"], shown = gate, {"opening": opening}
+    exec(code, shown)
+    compare("the test process of docs/SERVE.md", (0, ["guild", "guild", "strays"]), (shown["status"], [line.split(" ")[0] for line in shown["lines"]]))
+
+
 def out_of_time(*_):
     raise TimeoutError(f"not done after {LIMIT_SECONDS} seconds")
 
@@ -170,6 +180,7 @@ def main():
     try:
         serve(gate, found)
         follow(gate)
+        run_page(gate)
     except (OSError, subprocess.TimeoutExpired) as fault:
         failures.append(f"clients: {fault}")
     signal.alarm(0)

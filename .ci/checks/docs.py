@@ -1,16 +1,24 @@
 """Compares the documents, the READMEs of crates and examples/ with the sources, and plays the examples."""
 import collections
+import functools
 import glob
 import itertools
 import json
 import os
 import re
+import shutil
 import subprocess
 import sys
+import threading
 
 os.chdir(os.path.join(os.path.dirname(os.path.abspath(__file__)), "../.."))
 STEPS, TRANSCRIPT, PAYLOADS, LOAD = "docs/STEPS.md", "docs/TRANSCRIPT.md", "docs/PAYLOADS.md", "docs/LOAD.md"
-SERVE, CLIENT = "docs/SERVE.md", "docs/CLIENT.md"
+SERVE, CLIENT, README = "docs/SERVE.md", "docs/CLIENT.md", "README.md"
+# The pages that bot authors read.
+FOR_AUTHORS = [README, STEPS, TRANSCRIPT, PAYLOADS, "docs/COOKBOOK.md", "examples/README.md", SERVE, CLIENT, "docs/CLIENTS.md", LOAD]
+MOST_WORDS = 1200
+# The tables of exit statuses, by their pages and heads.
+STATUSES = [(TRANSCRIPT, "status"), (LOAD, "status of a load"), (SERVE, "status of a server"), (CLIENT, "status of a client")]
 # What the page calls a kind of field, by the name of the function that reads it.
 KINDS = {"moment": "time", "kind": "channel type", "thread_kind": "thread type", "overwrite_kind": "overwrite type", "parts": "count"}
 # Which objects stand under these keys, and are these dispatches.
@@ -22,6 +30,7 @@ OBJECTS = {"role": "role roles", "channel": "channels CHANNEL_CREATE CHANNEL_UPD
 OBJECT_OF = {name: kind for kind, names in OBJECTS.items() for name in names.split()}
 failures, counts = [], collections.Counter()
 
+@functools.cache
 def text_of(*patterns):
     """The text of these files, one after another."""
     paths = [path for pattern in patterns for path in sorted(glob.glob(pattern, recursive=True))]
@@ -124,6 +133,116 @@ def compare_steps_and_edits():
         for part in sent[name]:
             compare("looks", STEPS, line, tuple(name for name in order if name in part), tuple(part))
 
+def variants(path, enum):
+    """The variants of an enum."""
+    return re.findall(r"^    (\w+)[,({]", re.search(rf"enum {enum} \{{\n(.*?)^\}}", text_of(path), re.M | re.S)[1], re.M)
+
+def numbered(path, enum):
+    """The numbers and the names of an enum's variants, as they are written."""
+    found = re.findall(rf"{enum}::(\w+) => (\d+),", text_of(path))
+    return [(number, re.sub(r"(?<!^)(?=[A-Z])", " ", name).lower()) for name, number in found]
+
+def clauses_of(call):
+    """The clauses of each public function of this name, of the crate or the type before it; one without a name is `ensures`."""
+    *owner, name = call.split("::")
+    for path in sorted(glob.glob("crates/*/src/**/*.rt", recursive=True)):
+        text = text_of(path)
+        if not owner or path.split("/")[1] == owner[0] or re.search(rf"^impl\b[^{{]*\b{owner[0]}\b", text, re.M):
+            for head in re.findall(rf"pub fn {name}\b(.*?)^ *\{{\}}?$", text, re.M | re.S):
+                yield set(re.findall(r"ensures (\w+) \{", head)) | set(re.findall(r"(ensures) \{", head))
+
+def compare_kinds():
+    """What the kinds of fields may be."""
+    limits, channels = constants("guild_model"), "crates/guild_model/src/channel.rt"
+    readers = functions("crates/edit_text/src/steps.rt") | functions("crates/edit_fields/src/fields.rt")
+    below = lambda name: re.search(r"(?:, |< )((?:1 << )?\d+)(?:\)| \{)", readers[name])[1].replace("1 << ", "2^")
+    types = {"channel type": numbered(channels, "ChannelKind"), "overwrite type": numbered(channels, "OverwriteKind"),
+             "thread type": numbered("crates/guild_model/src/thread.rt", "ThreadKind")}
+    names = {"status": re.findall(r"Status::\w+ => \"(\w+)\"", text_of("crates/guild_model/src/presence.rt"))}
+    numbers = {"time": ["1970", str(limits["END_OF_TIME"])], "ids": [str(limits["MENTIONS"])], "count": ["0", str(limits["PARTS"])],
+               "position": [below("position_at")], "connection": [below("connection_at")], "code": [below("code_at")],
+               "milliseconds": [below("tick_from")], "worker": ["0", str(int(below("worker_at")) - 1)]}
+    page = {kind: (line, cell.split(" (")[0]) for line, (kind, cell) in rows(STEPS, "kind")}
+    for sources, form in ((types, r"(\d+) ([a-z]+)"), (names, r"\"(\w+)\""), (numbers, r"2\^\d+|\d+")):
+        for kind, source in sources.items():
+            line, cell = page[kind]
+            compare("kinds of fields", STEPS, line, re.findall(form, cell), source)
+
+def compare_frames():
+    """The opcodes, and the keys that are read of `d`."""
+    shapes = functions("crates/gateway_frames/src/shapes.rt")
+    readers = dict(re.findall(r"(\d+) => (?:Ok\(Frame::\w+\()?(\w+)\(", text_of("crates/gateway_frames/src/read.rt")))
+    def keys(reader):
+        inner = re.findall(r"(?:=|=>) (\w+_from)\(alloc, object\)", shapes[reader])
+        return set(re.findall(r"object(?:, |\.get\()\"(\w+)\"", shapes[reader])).union(*map(keys, inner))
+    page = {op.split(" ")[0]: (line, set(re.findall(r"`(\w+)`", cell))) for line, (op, cell, _) in rows(STEPS, "op")}
+    compare("frames", STEPS, 1, set(page), set(readers))
+    for op, (line, named) in page.items():
+        compare("keys of frames", STEPS, line, named, keys(readers[op]))
+
+def compare_words():
+    """The words of `serve` and `client`, the forms of lines, and what standard error says."""
+    limits = constants("serve_words") | {"MOST_FILES": int(re.search(r"num_args\(1\.\.=(\d+)\)", text_of("crates/serve_words/src/grammar.rt"))[1])}
+    names = {"PORT": "LAST_PORT", "URL": "MOST_URL_BYTES", "TOKEN": "MOST_TOKEN_BYTES"}
+    for page in (SERVE, CLIENT):
+        for line, (word, cell, _) in rows(page, "word"):
+            if word != "INTENTS":
+                compare("words of commands", page, line, int(re.findall(r"\d+", cell)[-1]), limits[names.get(word, f"MOST_{word}")])
+    said = text_of("crates/scenario/src/texts.rt", *(f"crates/{crate}/src/*.rt" for crate in ("log_summary", "serve_ends", "serve_parts", "client_follow")))
+    for page in (TRANSCRIPT, LOAD, SERVE, CLIENT):
+        for line, (form, _) in rows(page, "line"):
+            word = re.match(r"[a-z ]*", form)[0]
+            compare("forms of lines", page, line, form, form if not word or f'"{word}' in said else "no such line in the sources")
+    ends = re.findall(r"^    ((?:guild|strays) \d.*)$", text_of(SERVE), re.M)
+    compare("forms of lines", SERVE, 1, ends, text_of("examples/clients/edits.out").splitlines())
+    literals = re.findall(r"\"(gate: [^\"]*)\"", text_of("crates/gateway_main/src/complaint.rt"))
+    forms = [re.sub(r"\\\{\w*\\\}", ".+", re.escape(literal)) for literal in literals]
+    for page in FOR_AUTHORS:
+        for number, line in enumerate(text_of(page).split("\n"), 1):
+            if line.startswith("gate: "):
+                known = any(re.fullmatch(form, line) for form in forms)
+                compare("complaints", page, number, line, line if known else "nothing that standard error says")
+
+def compare_numbers():
+    """Numbers with commas are constants, or one more or less, or twice one; counts of things are what the tables have."""
+    constants_of_all = re.findall(r"const \w+: \w+ =\s*([\d_]+);", text_of("crates/*/src/**/*.rt"))
+    known = {int(value.replace("_", "")) for value in constants_of_all}
+    known |= {value + more for value in known for more in (-1, 1)} | {2 * value for value in known}
+    sizes = {"kinds of dispatches": len(variants("crates/intent_set/src/kind.rt", "Kind")), "close codes": len(list(rows(TRANSCRIPT, "code"))),
+             "steps": len(list(rows(STEPS, "step"))), "edits": len(list(rows(STEPS, "edit")))}
+    for page in [*FOR_AUTHORS, "docs/ADDING.md"]:
+        for number, line in enumerate(text_of(page).split("\n"), 1):
+            for found in re.findall(r"(?<![\d,\"\\])\d{1,3}(?:,\d{3})+(?![\d,])", line):
+                compare("numbers", page, number, found, found if int(found.replace(",", "")) in known else "no such constant")
+            for count, what in re.findall(r"\b(\d+|nine) (kinds of dispatches|close codes|steps|edits)\b", line):
+                compare("numbers", page, number, 9 if count == "nine" else int(count), sizes[what])
+    shown = [(name, int(value)) for _, (name, value, _) in rows(STEPS, "intent")]
+    sums = (sum(value for _, value in shown), sum(value for name, value in shown if "privileged" in name))
+    told = re.search(r"together are (\d+), all privileged ones (\d+)", text_of(STEPS))
+    compare("numbers", STEPS, 1, tuple(map(int, told.groups())), sums)
+
+def compare_readme():
+    """README's length, its first run, the fields of the law, the statuses, the calls with their clauses, and the kit."""
+    text = text_of(README)
+    compare("words of README", README, 1, max(len(text.split()), MOST_WORDS), MOST_WORDS)
+    blocks = [re.sub(r"(?m)^    ", "", block) for block in re.findall(r"(?:^    .*\n)+", text, re.M)]
+    for path in ("examples/first.jsonl", "examples/first.out"):
+        compare("first run", README, 1, path, path if text_of(path) in blocks else f"not the whole of {path}")
+    record = re.search(r"record TheLaw .*?\n((?:  .*\n)*)", text_of("crates/world_law/specs/TheLaw.antt"))[1]
+    fields = {name for _, (cell, *_) in rows(README, "field") for name in re.findall(r"\w+", cell)}
+    compare("fields of the law", README, 1, fields, set(re.findall(r"pub (\w+) :", record)))
+    told = {status for page, head in STATUSES for _, (status, *_) in rows(page, head)}
+    compare("statuses", README, 1, {status for _, (cell, _) in rows(README, "status") for status in cell.split(", ")}, told)
+    calls = [(1, "gateway_main::gate", {"law", "does"}), (1, "scenario::play", {"law", "plays"}), (1, "worker_run::work", {"law"})]
+    for line, (_, call, says) in rows(README, "family"):
+        calls.append((line, call.strip("`"), set(re.findall(r"`(\w+)`", says.split(":")[0])) if ":" in says else {"ensures"}))
+    for line, call, wanted in calls:
+        known = any(wanted <= clauses for clauses in clauses_of(call))
+        compare("clauses of README", README, line, wanted, wanted if known else {f"no call {call} with these clauses"})
+    if shutil.which("rt"):
+        kit = subprocess.run(["rt", "version"], capture_output=True, text=True).stdout.strip()
+        compare("kit", README, 1, re.search(r"`(rattle-kit-[^`]*)`", text)[1], kit)
+
 def compare_tables():
     for line, (_, value, place) in rows(STEPS, "limit"):
         crate, name = re.findall(r"`(\w+)`", place)
@@ -141,8 +260,7 @@ def compare_tables():
     compare_rows("close codes", TRANSCRIPT, [(line, (int(code), name)) for line, (code, name, *_) in rows(TRANSCRIPT, "code")], source)
     statuses = functions("crates/gateway_main/src/statuses.rt")
     others = constants("gateway_main")
-    for page, name, head in ((TRANSCRIPT, "play_status", "status"), (LOAD, "load_status", "status of a load"),
-                             (SERVE, "serve_status", "status of a server"), (CLIENT, "follow_status", "status of a client")):
+    for (page, head), name in zip(STATUSES, ("play_status", "load_status", "serve_status", "follow_status")):
         told = [int(others.get(status, status)) for status in re.findall(r"=> (\w+),", statuses[name])]
         compare_rows("statuses", page, [(line, int(status)) for line, (status, *_) in rows(page, head)], sorted({*told, others["BAD_WORDS"]}))
 
@@ -181,6 +299,11 @@ def compare_quotes():
     files = {os.path.basename(path).removesuffix(".jsonl") for path in glob.glob("examples/*.jsonl")}
     compare("examples", "examples/README.md", 1, {name for _, (name, _) in rows("examples/README.md", "file")}, files)
     compare("steps in examples", STEPS, 1, {step["step"] for step in steps}, {name for _, (name, *_) in rows(STEPS, "step")})
+    edits = {name for _, (name, *_) in rows(STEPS, "edit")}
+    quoted = [json.loads(line) for line in text_of(STEPS).split("\n") if line.startswith('{"step"')]
+    wanted = edits | {name for _, (name, *_) in rows(STEPS, "step")}
+    compare("lines to copy", STEPS, 1, {step[key] for step in quoted for key in ("step", "do") if key in step}, wanted)
+    compare("edits in examples", STEPS, 1, {step.get("do") for step in steps} & edits, edits)
 
 def names_of(cell):
     """The names of a cell of code, with those in braces."""
@@ -203,10 +326,12 @@ def compare_definitions():
         compare("files of specs", "docs/DEFINITIONS.md", 1, path, path if named else "not named there")
 
 def compare_crates():
-    """Each crate has a README, which names no function and no file that the crate does not have."""
+    """Each crate has a README, which names no function that the crate does not have, and is on the page of layers."""
+    layers = text_of("docs/ARCHITECTURE.md")
     for crate in re.findall(r"^(\w+)(?: \w+)?:", text_of("crates.txt"), re.M):
         path, source = f"crates/{crate}/README.md", text_of(f"crates/{crate}/src/**/*.rt")
         compare("READMEs of crates", path, 1, os.path.exists(path), True)
+        compare("layers", "docs/ARCHITECTURE.md", 1, crate, crate if f"`{crate}`" in layers else "not named there")
         for head in ("function", "call"):
             for line, (cell, *_) in rows(path, head) if os.path.exists(path) else ():
                 for name in names_of(" ".join(re.findall(r"`([^`]+)`", f"`{cell}`"))):
@@ -220,6 +345,10 @@ def compare_paths():
             for name in re.findall(r"`((?:[\w.]+/)+\w+\.(?:rt|antt|md|sh|py|jsonl))`", line):
                 if not name.startswith(("src/", "specs/", "proofs/", "data/")):
                     compare("files", path, number, name, name if os.path.exists(name) or os.path.exists("crates/" + name) else "no such file")
+    for line, (*_, where) in rows("docs/GLOSSARY.md", "word"):
+        for name, path in re.findall(r"`(\w+)` in `([\w/.]+)`", where):
+            known = re.search(rf"\bpub (?:\w+ )*{name}\b|^\s+{name} :", text_of(f"crates/{path}"), re.M)
+            compare("words", "docs/GLOSSARY.md", line, name, name if known else f"not defined in {path}")
     crate = None
     for line, (cell, files, _) in rows("docs/ADDING.md", "crate"):
         crate = next(iter(re.findall(r"^\w+$", cell.split("`")[0])), None) if cell and not cell.startswith("the ") else crate if not cell else None
@@ -232,6 +361,19 @@ def program():
     built = [path for path in ("out/gate", "crates/gateway_main/out/gateway_main") if os.path.isfile(path)]
     newer = [path for path in built if os.path.getmtime(path) > max(map(os.path.getmtime, sources))]
     return os.environ.get("GATE") or next(iter(newer), None)
+
+def follow_pipe(gate):
+    """Writes the first example into a pipe, and reads what each part of it causes before it writes on."""
+    steps = text_of("examples/first.jsonl").splitlines(True)
+    with subprocess.Popen([gate, "run", "-"], stdin=subprocess.PIPE, stdout=subprocess.PIPE) as run:
+        clock = threading.Timer(60, run.kill)
+        clock.start()
+        for part, count in ((steps[:6], 1), (steps[6:7], 2), (steps[7:], 1)):
+            run.stdin.write("".join(part).encode())
+            run.stdin.flush()
+            shown = [run.stdout.readline().decode() for _ in range(count)]
+            compare("lines followed", TRANSCRIPT, 1, shown, [line for line in shown if line in text_of("examples/first.out").splitlines(True)])
+        clock.cancel()
 
 def play_examples(gate):
     """Plays each example, also by the reader that docs/TRANSCRIPT.md shows, and compares what it prints."""
@@ -247,10 +389,12 @@ def play_examples(gate):
         *read, last = shown["read"](path, gate)
         compare("examples read", TRANSCRIPT, 1, (len(wanted) - 1, status), (len(read), last[2]))
     if gate:
+        follow_pipe(gate)
         compare("causes", TRANSCRIPT, 1, shown["cause"](text_of("examples/first.jsonl").encode().splitlines(True), 4, gate), 9)
 
-for part in (compare_steps_and_edits, compare_tables, compare_payloads, compare_quotes, compare_definitions, compare_crates, compare_paths, lambda: play_examples(program())):
+for part in (compare_readme, compare_steps_and_edits, compare_kinds, compare_frames, compare_words, compare_numbers, compare_tables, compare_payloads,
+             compare_quotes, compare_definitions, compare_crates, compare_paths, lambda: play_examples(program())):
     part()
 print(*(f"docs: {failure[:900]}\n" for failure in failures), sep="", end="")
-print("docs: " + ", ".join(f"{count} {what}" for what, count in counts.items()) + ("" if counts["causes"] else "; no built program at hand: nothing was played"))
+print(f"docs: {counts.total()} compared: " + ", ".join(f"{count} {what}" for what, count in counts.items()) + ("" if counts["causes"] else "; no built program at hand: nothing was played"))
 sys.exit(bool(failures))

@@ -1,10 +1,12 @@
 """Plays files and words that bot authors get wrong, and compares what the built program says: its status, the
-last line of the transcript and the line on standard error. Without a built program nothing is played."""
+last line of the transcript and the line on standard error. Without a built program nothing is played. With the word
+`say` it prints what was said of each."""
 import base64
 import hashlib
 import os
 import re
 import resource
+import shutil
 import socket
 import subprocess
 import sys
@@ -115,6 +117,7 @@ LINES = [
     # In these nothing is wrong; the bot is sent no more than this.
     ("no look before Identify", OPENED + [BEE, CONN, IDENTIFY], READY % ""),
     ("no look after an edit", OPENED + [BEE, LOOK, CONN, IDENTIFY, edit('"do":"guild_rename","name":"hut"')], CREATE),
+    ("a look that is too late", OPENED + [BEE, LOOK, CONN, IDENTIFY] + [edit('"do":"guild_rename","name":"hut"')] * 4097 + [LOOK], "close 1 4000"),
     ("a look of another worker", OPENED + [BEE, '{"step":"look","worker":1,"guild":"1"}', CONN, IDENTIFY], READY % ""),
 ]
 
@@ -175,10 +178,13 @@ WORDS = [
     ("a folder", ["run", "examples"], 3, "cannot read examples"),
 ]
 PAGES = {2: "README.md", 3: "docs/TRANSCRIPT.md", 4: "docs/TRANSCRIPT.md", 5: "docs/STEPS.md", 6: "docs/TRANSCRIPT.md"}
-failures = []
+tried, failures = [], []
 
 
 def compare(what, wanted, found):
+    tried.append(what)
+    if sys.argv[1:] == ["say"]:
+        print(what, *(str(part).strip() or "nothing" for part in found), sep=" | ")
     if wanted != found:
         failures.append(f"mistakes: {what}: wanted {wanted}, found {found}")
 
@@ -207,11 +213,26 @@ def try_words(gate):
         compare(what, (status, printed, said(status, text)), (run.returncode, run.stdout.decode(), run.stderr.decode()))
 
 
-def try_serve(gate):
-    """A file of serve that does not exist."""
+def try_serve(gate, folder):
+    """A file of serve that does not exist, a port that another program has, a line that is no step, and one that is none of a script."""
     run = subprocess.run([gate, "serve", "8080", "1", "1", "nosuch.jsonl"], capture_output=True, timeout=60)
     told = said(3, "a file of serve 8080 cannot be read", "docs/SERVE.md")
     compare("a file of serve that does not exist", (3, "", told), (run.returncode, run.stdout.decode(), run.stderr.decode()))
+    with socket.create_server(("127.0.0.1", 0)) as door:
+        port = str(door.getsockname()[1])
+        run = subprocess.run([gate, "serve", port, "1", "1", "examples/clients/edits.jsonl"], capture_output=True, timeout=60)
+        told = said(7, f"a port of serve {port} cannot be listened on, or its door failed", "docs/SERVE.md")
+        compare("a port that another program has", (7, "", told), (run.returncode, run.stdout.decode(), run.stderr.decode()))
+    path = os.path.join(folder, "script.jsonl")
+    for what, line, number, name in (("a comment in a script", "# edits", 1, "NotJson"), ("a look in a script", LOOK, 2, "NoSuchStep")):
+        with open(path, "w") as file:
+            file.writelines(text + "\n" for text in [*OPENED, line])
+        run = subprocess.Popen([gate, "serve", port, "1", "1", path], stdout=subprocess.PIPE, stderr=subprocess.PIPE)
+        first = run.stdout.readline().decode()
+        socket.create_connection(("127.0.0.1", int(port))).close()
+        printed, complaint = (text.decode() for text in run.communicate(timeout=60))
+        wanted = (5, f"worker 0 ws://127.0.0.1:{port}\nstop file 1 line 4 {number} {name}\n", said(5, f"line 4 of {path}: {SAID[name]}"))
+        compare(what, wanted, (run.returncode, first + printed, complaint))
 
 
 def try_outside(gate):
@@ -255,6 +276,36 @@ def try_load(gate):
         compare("a load to a full disk", (4, said(4, "cannot write the summary of load 7", "docs/LOAD.md")), (run.returncode, run.stderr.decode()))
 
 
+def without_threads():
+    """No thread starts in a process of a user that has as many as it may have; the first user of all may have any number."""
+    if os.geteuid() == 0:
+        os.setgid(65534)
+        os.setuid(65534)
+    resource.setrlimit(resource.RLIMIT_NPROC, (1, 1))
+
+
+def try_threads(gate, folder):
+    """A load and a run of serve whose parts cannot start."""
+    open_folder = os.path.join(folder, "open")
+    os.mkdir(open_folder)
+    program = shutil.copy(gate, os.path.join(open_folder, "gate"))
+    script = shutil.copy("examples/clients/edits.jsonl", open_folder)
+    for path in (folder, open_folder, program, script):
+        os.chmod(path, 0o755)
+    with socket.create_server(("127.0.0.1", 0)) as door:
+        port = str(door.getsockname()[1])
+    for words, what, page in ((["load", "7"], "a thread of load 7 did not start", "docs/LOAD.md"),
+                              (["serve", port, "1", "1", script], f"a thread of serve {port} did not start", "docs/SERVE.md")):
+        try:
+            run = subprocess.run([program, *words], capture_output=True, timeout=60, preexec_fn=without_threads)
+        except subprocess.SubprocessError as fault:
+            if isinstance(fault, subprocess.TimeoutExpired):
+                raise
+            print(f"mistakes: {what}: not tried, since no process can be had without threads: {fault}")
+            continue
+        compare(what, (8, "", said(8, what, page)), (run.returncode, run.stdout.decode(), run.stderr.decode()))
+
+
 def answer_once(door, frame):
     """Answers the handshake of one WebSocket client, and sends it this frame."""
     peer, _ = door.accept()
@@ -270,9 +321,15 @@ def answer_once(door, frame):
 
 
 def try_client(gate):
-    """A gateway that closes for good, one that sends what is no payload, and none."""
+    """A dispatch that cannot be written, a gateway that closes for good, one that sends what is no payload, and none."""
     door = socket.create_server(("127.0.0.1", 0))
     url = f"ws://127.0.0.1:{door.getsockname()[1]}"
+    dispatch = b'{"d":{"id":"1","name":"hut","owner_id":"5"},"op":0,"s":1,"t":"GUILD_UPDATE"}'
+    with open("/dev/full", "wb") as full:
+        peer = threading.Thread(target=answer_once, args=(door, b"\x81" + bytes([len(dispatch)]) + dispatch), daemon=True)
+        peer.start()
+        run = subprocess.run([gate, "client", url, "t1", "1", "1"], stdout=full, stderr=subprocess.PIPE, timeout=60)
+        compare("a client to a full disk", (4, said(4, f"cannot write the lines of client {url}", "docs/CLIENT.md")), (run.returncode, run.stderr.decode()))
     for what, frame, status, printed, text in (
             ("a close for good", b"\x88\x02\x0f\xa4", 10, "closed 4004\n", f"client {url} was closed with 4004"),
             ("a text that is no payload", b"\x81\x02{}", 11, "bad text\n", f"client {url} got a text that is no payload"),
@@ -296,11 +353,12 @@ if not gate:
 with tempfile.TemporaryDirectory() as folder:
     try_lines(gate, folder)
     try_little_memory(gate, folder)
+    try_serve(gate, folder)
+    try_threads(gate, folder)
 try_words(gate)
-try_serve(gate)
 try_outside(gate)
 try_load(gate)
 try_client(gate)
 print(*failures, sep="\n", end="\n" if failures else "")
-print(f"mistakes: {len(LINES) + len(WORDS) + 14} tried, {len(failures)} answered otherwise")
+print(f"mistakes: {len(tried)} tried, {len(failures)} answered otherwise")
 sys.exit(bool(failures))
