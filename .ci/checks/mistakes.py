@@ -123,7 +123,7 @@ LINES = [
 
 # What is said of a line, by the name of its fault.
 SAID = {
-    "NotJson": "not JSON in UTF-8",
+    "NotJson": "not JSON in UTF-8 without a byte order mark",
     "NoSuchStep": "no such step or edit, or a bot or guild line after another step",
     "Missing": "a field is missing, or its name is misspelt",
     "WrongType": "not an object, or a field of the wrong type or out of its range",

@@ -14,7 +14,7 @@ use std::io::Eprint;
 // What is wrong with a line.
 fn line_is(fault: LineFault) -> &'static str {
     match fault {
-        LineFault::NotJson => "not JSON in UTF-8",
+        LineFault::NotJson => "not JSON in UTF-8 without a byte order mark",
         LineFault::NoSuchStep => {
             "no such step or edit, or a bot or guild line after another step"
         }
