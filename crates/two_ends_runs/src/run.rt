@@ -170,8 +170,11 @@ impl<R: Wait + Copy + Drop> Run<R> {
         Ok(())
     }
 
+    // The last resume has nothing to bring: only then was the client given all of its session.
     fn play(&mut self, rt: R, edits: Vec<(Snowflake, Edit)>) -> anyhow::Result<()> {
         self.edit_all(rt, edits)?;
+        self.settle(rt)?;
+        self.ends.cut(&mut self.draws)?;
         self.settle(rt)
     }
 

@@ -32,11 +32,13 @@ impl<R: Wait + Copy + Drop> TwoEnds<R> {
         }
     }
 
-    // Whether the client holds the number of the last dispatch that the worker has sent on its connection.
+    // Whether the worker has answered the last resume with RESUMED alone, after Hello, and RESUMED has the
+    // number that the client holds. It is that of the session's last dispatch.
     fn is_at_last(&mut self) -> anyhow::Result<bool> {
-        let last = last_number(self.alloc, self.connection.sent_to_client())?;
         let held = self.held_number()?;
-        Ok(last.is_some() && held == last)
+        let sent = self.connection.sent_to_client();
+        let last = last_number(self.alloc, sent)?;
+        Ok(sent.len() == 2 && last.is_some() && held == last)
     }
 
     /// Whether it has ended right, for a client with these intents: of each guild the client holds exactly
