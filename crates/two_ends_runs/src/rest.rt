@@ -39,7 +39,8 @@ impl Rest {
 
     /// Loses all. How many texts these were.
     pub fn lose_all(&mut self) -> u64 {
-        self.lose(self.incoming.len())
+        let count = self.incoming.len();
+        self.lose(count)
     }
 
     // Loses so many from the end, and counts the texts among them.
