@@ -66,8 +66,11 @@ def bots():
         found["plain.mjs"] = [node]
     else:
         skipped.append("plain.mjs was skipped: there is no node")
-    if subprocess.run([sys.executable, "-c", "import discord"], stderr=subprocess.DEVNULL).returncode == 0:
-        found["discord_py.py"] = [sys.executable]
+    # Debian installs its package for the system's Python, which may be another than the one that runs this.
+    pythons = [sys.executable, *filter(os.path.exists, ["/usr/bin/python3"])]
+    has_it = [python for python in pythons if subprocess.run([python, "-c", "import discord"], stderr=subprocess.DEVNULL).returncode == 0]
+    if has_it:
+        found["discord_py.py"] = has_it[:1]
     else:
         skipped.append("discord_py.py was skipped: discord.py is not installed")
     return found, skipped
