@@ -5,7 +5,7 @@ Goes on where hostile.py ends, with its server, its good client and its end: han
 with reserved bits, of reserved kinds, with lengths up to 2^64 - 1 or longer than they need be, control frames that are too long or in parts,
 closes with codes that may not be sent, parts without a beginning, texts that are no UTF-8, random frames, random gateway frames, PINGS
 (50,000) pings of a peer that reads no answer, and heartbeats past the rate. A peer whose frames break the protocol has to be ended within
-ten seconds; a binary message that is no UTF-8 is answered with 4002, too many heartbeats with 4008. All kinds come in turn for SECONDS
+PATIENCE (10) seconds; a binary message that is no UTF-8 is answered with 4002, too many heartbeats with 4008. All kinds come in turn for SECONDS
 (60), once at least, by a fixed seed (SEED or 1). The peak of memory may not be above MOST_MIB (512)."""
 import json
 import os
@@ -17,13 +17,28 @@ import time
 
 sys.path.insert(0, os.path.dirname(os.path.abspath(__file__)))
 import hostile
-from gateway import BINARY, CLOSE, PING, PONG, TEXT, Wrong, handshake, masked
+from gateway import BINARY, CLOSE, PING, PONG, TEXT, Link, Wrong, handshake, masked
 from hostile import push
 
-END_SECONDS = 10
+# How long an answer may take.
+PATIENCE = float(os.environ.get("PATIENCE", "10"))
 MOST_KIB = int(os.environ.get("MOST_MIB", "512")) << 10
 PEERS = 24
 made = random.Random(os.environ.get("SEED", "1"))
+
+
+class Host(hostile.Host):
+    """The server. What came after a handshake is kept, so that frames are read from their beginning."""
+
+    def __init__(self, *words):
+        self.come = {}
+        super().__init__(*words)
+
+    def upgraded(self):
+        self.left -= 1
+        link = Link(self.url, PATIENCE)
+        self.come[link.socket] = bytes(link.come)
+        return link.socket
 
 
 def noise(size):
@@ -38,9 +53,9 @@ def head(first, size, mask=True, form=None):
     return bytes([first]) + length + (b"\0\0\0\0" if mask else b"")
 
 
-def answered(peer, seconds=END_SECONDS):
+def answered(host, peer):
     """All that the server sends until it ends the connection, and whether it did in time."""
-    come, until = bytearray(), time.monotonic() + seconds
+    come, until = bytearray(host.come.pop(peer)), time.monotonic() + PATIENCE
     peer.setblocking(False)
     while True:
         left = until - time.monotonic()
@@ -78,7 +93,7 @@ def broken(host, pieces, code=None):
         push(peer, piece)
         peers.append((piece, peer))
     for piece, peer in peers:
-        come, ended = answered(peer)
+        come, ended = answered(host, peer)
         if not ended:
             raise Wrong(f"the server did not end a peer that sent {piece[:40]!r}")
         if code and code not in close_codes(come):
@@ -212,7 +227,7 @@ KINDS = [wrong_handshakes, without_masks, reserved, wrong_controls, wrong_parts,
 
 def main(gate=os.path.join(hostile.ROOT, "out/gate"), seconds=60, count=50000):
     seconds, count = float(seconds), int(count)
-    host = hostile.Host(gate, int(1000 + 60 * seconds), 1)
+    host = Host(gate, int(1000 + 60 * seconds), 1)
     until, rounds, highest = time.monotonic() + seconds, 0, 0
     try:
         while not rounds or time.monotonic() < until and host.left > 400:
