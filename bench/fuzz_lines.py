@@ -249,11 +249,10 @@ def good_frames(lines):
 class Fuzz:
     """What one process plays."""
 
-    def __init__(self):
+    def __init__(self, folder):
         self.oracle = rig.needed_oracle()
         self.config = self.oracle.Config(rig.STAGE)
-        self.room = rig.Room()
-        self.player = rig.Player(self.room)
+        self.player = rig.Player(rig.Room(folder), str(os.getpid()))
         self.lines = good_lines(self.oracle)
         self.frames = good_frames(self.lines)
         self.printed = []
@@ -336,7 +335,8 @@ class Fuzz:
 
         def play(row):
             rows.append(row)
-            made = world.step(reader.lines, reader.line(row.encode())) or []
+            step = reader.line(row.encode())
+            made = world.step(reader.lines, step)
             printed.extend(made)
             return made
 
@@ -391,15 +391,21 @@ class Fuzz:
 made = None
 
 
-def begin():
+def begin(folder):
     global made
-    made = Fuzz()
+    try:
+        made = Fuzz(folder)
+    except Exception as fault:
+        # A process that fails here would be begun again and again.
+        made = fault
 
 
 def piece(words):
     kind, seed, count, until = words
     if time.monotonic() > until:
         return kind, None, []
+    if isinstance(made, Exception):
+        return kind, None, [f"{type(made).__name__}: {made}"]
     counts, found = made.piece_of_lines(seed, count) if kind == "lines" else made.piece_of_frames(seed, count)
     return kind, counts, found
 
@@ -414,7 +420,7 @@ def main(lines=1000, frames=10000, seconds=3600, seed=1):
     until = time.monotonic() + float(seconds)
     tasks = [*pieces("lines", seed, int(lines), LINES_OF_A_PIECE, until), *pieces("frames", seed, int(frames), FRAMES_OF_A_FILE, until)]
     counts, bad, left = {"lines": collections.Counter(), "frames": collections.Counter()}, 0, 0
-    with multiprocessing.Pool(os.cpu_count() or 1, begin) as pool:
+    with rig.Room() as room, multiprocessing.Pool(os.cpu_count() or 1, begin, (room.folder,)) as pool:
         for kind, come, found in pool.imap_unordered(piece, tasks):
             left += come is None
             counts[kind] += come or {}

@@ -76,9 +76,13 @@ def complaint(status, file, printed=b""):
 
 
 class Room:
-    """A folder for what is played, in memory if there is such a place, and the library that lets calls fail."""
+    """A folder for what is played, in memory if there is such a place, and the library that lets calls fail. Several processes
+    may share one, by its folder."""
 
-    def __init__(self):
+    def __init__(self, folder=None):
+        if folder:
+            self.folder, self.library = folder, os.path.join(folder, "calls.so")
+            return
         places = [place for place in ("/dev/shm", None) if not place or os.access(place, os.W_OK)]
         self.folder = tempfile.mkdtemp(prefix="faults-", dir=places[0])
         self.library = os.path.join(self.folder, "calls.so")
