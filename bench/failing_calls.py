@@ -110,27 +110,28 @@ def compare_with_reference(oracle, wanted):
 def judged(wanted, ran, player, cut):
     """What is wrong with a play in which a call failed. `cut` plays a front of the file."""
     given = taken = 0
-    failed, late = None, []
+    failed, late, is_cut = None, [], False
     for call in ran.calls:
         if failed:
             late += [call.letter] if call.letter in "rw" and failed.letter in "orw" else []
-        elif call.answer < 0 or call.asked and call.answer == 0 and (call.letter == "w" or given < len(wanted.data)):
+        elif call.letter == "r" and call.answer == 0 and given < len(wanted.data):
+            # The input has ended early. No read may follow, and a write may fail yet.
+            late += ["r"] if is_cut else []
+            is_cut = True
+        elif call.answer < 0 or call.letter == "w" and call.answer == 0:
             failed = call
         elif call.letter == "r":
             given += call.answer
         if call.letter == "w" and call.answer > 0:
             taken += call.answer
-    if failed is None:
+    if failed is None and not is_cut:
         return "no call failed"
-    status, out = wanted.status, wanted.out
-    if failed.letter == "r" and failed.answer == 0:
-        status, out = cut(given)
-        late = [letter for letter in late if letter == "r"]
-    elif failed.letter in "or":
+    status, out = cut(given) if is_cut else (wanted.status, wanted.out)
+    if failed and failed.letter in "or":
         status, out = 3, wanted.out_of(given) if failed.letter == "r" else b""
-    elif failed.letter == "w":
+    elif failed and failed.letter == "w":
         # What was taken is what came out, and it was due when it was taken.
-        status, out = 4, wanted.out_of(given)[:taken] if given < len(wanted.data) else wanted.out[:taken]
+        status, out = 4, (out if is_cut or given == len(wanted.data) else wanted.out_of(given))[:taken]
     said = rig.complaint(status, player.shown, out)
     if any(call.letter == "e" and call.answer <= 0 for call in ran.calls):
         said = b""

@@ -187,7 +187,7 @@ class Mutator:
         if kind == 1:
             text = self.padded(text, most)
         data = text.encode("utf-8", "surrogatepass")
-        for _ in range(self.chance.choice([0, 0, 0, 1, 1, 2])):
+        for _ in range(self.chance.choice([0, 0, 0, 0, 0, 0, 0, 1, 1, 2])):
             data = self.cut(data)
         return data
 

@@ -219,7 +219,7 @@ def pings(host, count):
 
 
 def heartbeats(host):
-    return broken(host, [masked(TEXT, b'{"op":1,"d":null}') * 121 for _ in range(8)], 4008)
+    return broken(host, [masked(TEXT, b'{"op":1,"d":null}') * 300 for _ in range(3)], 4008)
 
 
 KINDS = [wrong_handshakes, without_masks, reserved, wrong_controls, wrong_parts, no_utf8, huge_lengths, many_parts, random_frames, gateway_frames, heartbeats]
