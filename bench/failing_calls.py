@@ -186,9 +186,9 @@ class Trial:
 
         for read_most, write_most, reason in BESIDES:
             known = player.play(read_most=read_most, write_most=write_most)
-            # A closing that "fails" with no error does not.
+            # An opening that is interrupted is tried again, and a closing without an error does not fail.
             numbers = [number for number, call in enumerate(known.calls, 1)
-                       if reason != "nothing" or call.letter == "w" or call.letter == "r" and call.answer > 0]
+                       if reason not in ("nothing", "EINTR") or call.letter == "w" or call.letter == "r" and (call.answer > 0 or reason == "EINTR")]
             if len(numbers) > MOST_CALLS:
                 numbers = sorted(random.Random(wanted.name).sample(numbers, MOST_CALLS))
             for number in numbers:
