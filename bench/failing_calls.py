@@ -219,6 +219,10 @@ class Trial:
         try:
             while True:
                 name, data, standard = tasks.get_nowait()
+                if time.monotonic() > self.until:
+                    with self.lock:
+                        self.left += 1
+                    continue
                 player = rig.Player(room, f"{place}", standard)
                 self.fail_each(player, self.begin(player, name, data, oracle))
                 player.end()
@@ -242,9 +246,9 @@ def main(every=1, seconds=3600, names=None):
     counts = trial.counts
     print(f"failing calls: {counts['whole']} files whole, {counts['short']} plays with short reads and writes; failed: "
           + ", ".join(f"{counts[place]} {name}" for place, name in enumerate(("openings", "reads", "writes", "closings", "lines on standard error")))
-          + (f"; {trial.left} left when the time was up" if trial.left else "") + f"; {len(trial.bad)} not as they should be"
+          + (f"; {trial.left} plays or files left when the time was up" if trial.left else "") + f"; {len(trial.bad)} not as they should be"
           + ("" if oracle else "; the reference was not at hand"))
-    sys.exit(bool(trial.bad) or not counts[1] or not counts[2])
+    sys.exit(bool(trial.bad) or not counts["whole"])
 
 
 if __name__ == "__main__":
