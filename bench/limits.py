@@ -248,7 +248,7 @@ def texts():
                 rows += make(letter * (most // size) + "y" * (most % size + over))
                 many += 1
         rows.append(LOOK)
-    return rows + identify(2), {"GUILD_UPDATE": 5, "19 TooLong 100": 5 * 2 + 2, "19 TooLong 32": 5, "MESSAGE_CREATE": None, "TooLong 2000": 5}
+    return rows + identify(2), {"GUILD_UPDATE": 5, "19 TooLong 100": 5 * 2, "19 TooLong 32": 5, "MESSAGE_CREATE": None, "TooLong 2000": 5}
 
 
 @file()
