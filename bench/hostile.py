@@ -56,6 +56,8 @@ class Good(threading.Thread):
         try:
             while True:
                 dispatch = self.bot.next()
+                if dispatch and dispatch[1] != "GUILD_UPDATE":
+                    continue
                 name, wanted = dispatch[2].get("name"), f"n{self.seen + 1}"
                 if name not in (wanted, "end"):
                     raise Wrong(f"the guild has the name {name} and not {wanted}")
