@@ -15,10 +15,10 @@ else
   echo "faults: there is no gcc: nothing was run"
   exit 0
 fi
-if [ -e "${ORACLE:-../shared/oracle}/gate_oracle.py" ]; then
+if [ -e "${ORACLE:-none}/gate_oracle.py" ]; then
   python3 bench/fuzz_lines.py 600 3000 15
 else
-  echo "faults: the reference is not at hand: no lines and frames were mutated"
+  echo "faults: ORACLE names no reference: no lines and frames were mutated"
 fi
 python3 bench/lost_each.py 12 15
 python3 bench/limits.py 0 15

@@ -2,7 +2,7 @@
 reference that says what is right.
 
 The program is the file that GATE names, or else out/gate or crates/gateway_main/out/gateway_main. The reference is the module
-gate_oracle in the folder ORACLE, by default ../shared/oracle beside the repository."""
+gate_oracle in the folder that ORACLE names."""
 import collections
 import errno
 import os
@@ -15,7 +15,7 @@ import sys
 import tempfile
 
 ROOT = os.path.dirname(os.path.dirname(os.path.dirname(os.path.abspath(__file__))))
-ORACLE = os.environ.get("ORACLE") or os.path.join(ROOT, "../shared/oracle")
+ORACLE = os.environ.get("ORACLE") or os.path.join(ROOT, "none")
 STAGE = "c"  # what the program has of the reference's stages
 REQUEST = struct.Struct("6I200s200s200s")
 CALL = struct.Struct("iii")
