@@ -14,7 +14,6 @@ use std::alloc::{AllocError, Global};
 use thread_sync::{ChannelSight, sight_of};
 
 /// A channel that is deleted.
-#[derive(Drop)]
 pub struct ChannelEnd {
     /// The channel as it was.
     pub channel: Channel,
@@ -24,8 +23,20 @@ pub struct ChannelEnd {
     pub children: Seq<Snowflake>,
 }
 
+impl Drop for ChannelEnd {
+    fn drop(self) {
+        let ChannelEnd {
+            channel,
+            voices,
+            children,
+        } = self;
+        drop(channel);
+        drop(voices);
+        drop(children);
+    }
+}
+
 /// What [`add_dispatches`](crate::add_dispatches) has to know of the record before an edit.
-#[derive(Drop)]
 pub enum ChannelNote {
     /// Nothing: no channel is deleted, and no overwrites change.
     Nothing,
@@ -33,6 +44,16 @@ pub enum ChannelNote {
     Sight(ChannelSight),
     /// The channel that is deleted.
     Leaving(ChannelEnd),
+}
+
+impl Drop for ChannelNote {
+    fn drop(self) {
+        match self {
+            ChannelNote::Nothing => {}
+            ChannelNote::Sight(_) => {}
+            ChannelNote::Leaving(held) => drop(held),
+        }
+    }
 }
 
 fn voices_in(alloc: Global, voices: &[Voice], channel: Snowflake) -> Result<Vec<Voice>, AllocError>

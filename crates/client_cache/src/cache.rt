@@ -21,10 +21,16 @@ use std::marker::Model;
 
 /// What a client holds of its guilds, by the dispatches that it was sent (Gateway Events, Receive
 /// Events).
-#[derive(Drop)]
 pub struct Cache {
     fold: Fold,
     guilds: Guilds,
+}
+
+impl Drop for Cache {
+    fn drop(self) {
+        let Cache { fold: _, guilds } = self;
+        drop(guilds);
+    }
 }
 
 impl Model for Cache {

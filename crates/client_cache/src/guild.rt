@@ -30,8 +30,8 @@ use std::mem::replace;
 pub(crate) fn update_guild(view: &mut OpenView, update: GuildUpdate)
     ensures { view.new ≡ record view.old { name = update.name; owner = update.owner } }
 {
-    view.name = update.name;
     view.owner = update.owner;
+    view.name = update.into_name();
 }
 
 fn channels_of(alloc: Global, objects: Vec<ChannelObject>) -> Result<Vec<Channel>, AllocError>

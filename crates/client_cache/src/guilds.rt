@@ -20,13 +20,25 @@ use std::alloc::{AllocError, Global};
 use std::marker::Model;
 
 /// What a client holds of each guild.
-#[derive(Drop)]
 pub(crate) struct Guilds {
     entries: ById<HeldGuild>,
     /// The guilds that have a view, kept for `Cache::guilds` alone.
     viewed: ById<Snowflake>,
     /// Guilds that may hold threads the bot does not see; all others are purged.
     unsettled: ById<Snowflake>,
+}
+
+impl Drop for Guilds {
+    fn drop(self) {
+        let Guilds {
+            entries,
+            viewed,
+            unsettled,
+        } = self;
+        drop(entries);
+        drop(viewed);
+        drop(unsettled);
+    }
 }
 
 impl Model for Guilds {

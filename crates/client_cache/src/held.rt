@@ -10,11 +10,18 @@ use snowflake_id::Snowflake;
 use std::alloc::Global;
 
 /// What is held of one guild: its view, if there is one, and the users that the client was told of.
-#[derive(Drop)]
 pub struct HeldGuild {
     pub id: Snowflake,
     pub view: Option<GuildView>,
     pub known: ById<Snowflake>,
+}
+
+impl Drop for HeldGuild {
+    fn drop(self) {
+        let HeldGuild { id: _, view, known } = self;
+        drop(view);
+        drop(known);
+    }
 }
 
 impl Keyed for HeldGuild {

@@ -53,7 +53,7 @@ pub(crate) fn add_member(
         ≡ add_member fold.now.intents (member_of add.member) view.old) }
     ensures err { OnErr result (view.new ≡ view.old) }
 {
-    let member = member_of(fold.alloc, add.member)?;
+    let member = member_of(fold.alloc, add.into_member())?;
     set_listed(fold, &mut view.members, member)?;
     view.member_count = view.member_count.map(one_more);
     Ok(())
@@ -69,7 +69,7 @@ pub(crate) fn update_member(
         ≡ update_member fold.now.intents fold.now.bot (member_of update.member) view.old) }
     ensures err { OnErr result (view.new ≡ view.old) }
 {
-    let member = member_of(fold.alloc, update.member)?;
+    let member = member_of(fold.alloc, update.into_member())?;
     if member.user.id != fold.bot {
         return set_listed(fold, &mut view.members, member);
     }

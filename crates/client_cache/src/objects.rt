@@ -74,9 +74,9 @@ pub(crate) fn channel_of(alloc: Global, object: ChannelObject) -> Result<Channel
     Ok(Channel {
         id: object.id,
         kind: object.kind,
-        name: object.name,
         parent: object.parent,
         position: object.position,
+        name: object.into_name(),
         overwrites,
     })
 }
@@ -85,12 +85,14 @@ pub(crate) fn channel_of(alloc: Global, object: ChannelObject) -> Result<Channel
 pub(crate) fn member_of(alloc: Global, object: MemberObject) -> Result<Member, AllocError>
     ensures { IfOk result (λ member. member ≡ member_of object) }
 {
+    let (joined, timeout) = (object.joined, object.timeout);
+    let (user, nick, roles) = object.into_parts();
     Ok(Member {
-        user: object.user,
-        nick: object.nick,
-        roles: ById::of(alloc, object.roles.into_vec())?,
-        joined: object.joined,
-        timeout: object.timeout,
+        user,
+        nick,
+        roles: ById::of(alloc, roles.into_vec())?,
+        joined,
+        timeout,
     })
 }
 

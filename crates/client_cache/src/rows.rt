@@ -72,8 +72,8 @@ impl Fold {
     {
         match dispatch {
             Dispatch::GuildUpdate(update) => update_guild(view, update),
-            Dispatch::GuildRoleCreate(create) => set_role(view, create.role)?,
-            Dispatch::GuildRoleUpdate(update) => set_role(view, update.role)?,
+            Dispatch::GuildRoleCreate(create) => set_role(view, create.into_role())?,
+            Dispatch::GuildRoleUpdate(update) => set_role(view, update.into_role())?,
             Dispatch::GuildRoleDelete(delete) => drop_role(view, delete.role),
             Dispatch::ChannelCreate(channel) => set_channel(self, view, channel)?,
             Dispatch::ChannelUpdate(channel) => set_channel(self, view, channel)?,
@@ -86,7 +86,7 @@ impl Fold {
             Dispatch::GuildMemberAdd(add) => add_member(self, view, add)?,
             Dispatch::GuildMemberUpdate(update) => update_member(self, view, update)?,
             Dispatch::GuildMemberRemove(remove) => remove_member(view, &remove),
-            Dispatch::GuildMembersChunk(chunk) => set_members(self, view, chunk.members)?,
+            Dispatch::GuildMembersChunk(chunk) => set_members(self, view, chunk.into_members())?,
             Dispatch::VoiceStateUpdate(update) => set_voice(view, &update.voice)?,
             Dispatch::PresenceUpdate(presence) => set_presence(view, &presence)?,
             rest @ (Dispatch::Ready(_)

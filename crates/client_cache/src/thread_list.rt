@@ -117,8 +117,8 @@ pub(crate) fn sync_threads(
     ensures ok { OnOk result (view.new ≡ sync_threads fold.now.intents sync view.old) }
     ensures err { OnErr result (view.new ≡ view.old) }
 {
-    let parents = listed_parents(fold.alloc, sync.channels)?;
-    let threads = sync.threads;
-    let members = sync.members.as_slice();
+    let (channels, threads, members) = sync.into_lists();
+    let parents = listed_parents(fold.alloc, channels)?;
+    let members = members.as_slice();
     sync_under(fold, &mut view.threads, &parents, threads, members)
 }

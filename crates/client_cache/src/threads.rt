@@ -19,11 +19,11 @@ pub(crate) fn thread_of(fold: &Fold, mine: Option<ThreadMember>, object: ThreadO
     ThreadView {
         id: object.id,
         kind: object.kind,
-        name: object.name,
         owner: object.owner,
         parent: object.parent,
         mine,
         count: fold.counted(object.count.get()),
+        name: object.into_name(),
     }
 }
 
@@ -38,7 +38,7 @@ pub(crate) fn joined_thread(fold: &Fold, object: JoinedThread) -> ThreadView
         }),
         None => None,
     };
-    thread_of(fold, mine, object.thread)
+    thread_of(fold, mine, object.into_thread())
 }
 
 /// Adds or replaces a thread, with the own membership that is sent (Gateway Events, Thread Create).
@@ -57,7 +57,8 @@ pub(crate) fn create_thread(
         Some(member) => Some(thread_member_of(&member)),
         None => None,
     };
-    view.threads.put(thread_of(fold, mine, create.thread))
+    view.threads
+        .put(thread_of(fold, mine, create.into_thread()))
 }
 
 // The own membership in a thread that may be held.

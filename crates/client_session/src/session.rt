@@ -8,13 +8,20 @@ use dispatch_types::Dispatch;
 use std::alloc::{AllocError, Global};
 
 /// A session that READY began (Gateway Events, Ready).
-#[derive(Drop)]
 pub struct Session {
     pub id: Text,
     /// The URL for a resume.
     pub url: Text,
     /// The number of the last dispatch that was read.
     pub number: u64,
+}
+
+impl Drop for Session {
+    fn drop(self) {
+        let Session { id, url, number: _ } = self;
+        drop(id);
+        drop(url);
+    }
 }
 
 /// The session that a dispatch begins: `Some` exactly if it is READY.

@@ -94,12 +94,18 @@ fn exchange_at<T: Keyed + Drop>(items: &mut Vec<T>, item: T) -> T
 }
 
 /// A list of records, ascending by id.
-#[derive(Drop)]
-pub struct ById<T: Keyed> {
+pub struct ById<T: Keyed + Drop> {
     items: Vec<T>,
 }
 
-impl<T: Keyed> Model for ById<T> {
+impl<T: Keyed + Drop> Drop for ById<T> {
+    fn drop(self) {
+        let ById { items } = self;
+        drop(items);
+    }
+}
+
+impl<T: Keyed + Drop> Model for ById<T> {
     ghost use Rattle.std.specs.Prelude.{List};
 
     ghost Value = { List T };

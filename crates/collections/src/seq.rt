@@ -6,12 +6,18 @@ use std::alloc::{AllocError, Global};
 use std::marker::Model;
 
 /// A list in any order, seen as its items.
-#[derive(Drop)]
-pub struct Seq<T> {
+pub struct Seq<T: Drop> {
     items: Vec<T>,
 }
 
-impl<T> Model for Seq<T> {
+impl<T: Drop> Drop for Seq<T> {
+    fn drop(self) {
+        let Seq { items } = self;
+        drop(items);
+    }
+}
+
+impl<T: Drop> Model for Seq<T> {
     ghost use Rattle.std.specs.Prelude.{List};
 
     ghost Value = { List T };

@@ -7,9 +7,15 @@ use std::alloc::{AllocError, Global};
 use std::marker::Model;
 
 /// A text, seen as its bytes in UTF-8.
-#[derive(Drop)]
 pub struct Text {
     inner: String,
+}
+
+impl Drop for Text {
+    fn drop(self) {
+        let Text { inner } = self;
+        drop(inner);
+    }
 }
 
 impl Model for Text {
@@ -58,6 +64,13 @@ impl Text {
         ensures { result.now ≡ self.now }
     {
         self.inner.as_str()
+    }
+
+    /// Removes all bytes. It does not allocate.
+    pub fn clear(&mut self)
+        ensures { self.new ≡ [] }
+    {
+        self.inner.clear();
     }
 
     /// How many bytes there are.

@@ -20,7 +20,6 @@ pub struct OverwriteObject {
 }
 
 /// The wire form of a channel (Channels Resource, Channel Object).
-#[derive(Drop)]
 pub struct ChannelObject {
     pub guild: Snowflake,
     pub id: Snowflake,
@@ -29,6 +28,22 @@ pub struct ChannelObject {
     pub parent: Option<Snowflake>,
     pub position: u32,
     pub overwrites: Seq<OverwriteObject>,
+}
+
+impl Drop for ChannelObject {
+    fn drop(self) {
+        let ChannelObject {
+            guild: _,
+            id: _,
+            kind: _,
+            name,
+            parent: _,
+            position: _,
+            overwrites,
+        } = self;
+        drop(name);
+        drop(overwrites);
+    }
 }
 
 impl OverwriteObject {
@@ -75,5 +90,22 @@ impl ChannelObject {
             position: channel.position,
             overwrites: Seq::from_vec(overwrites(alloc, &channel.overwrites)?),
         })
+    }
+
+    /// The name.
+    pub fn into_name(self) -> Text
+        ensures { result ≡ self.name }
+    {
+        let ChannelObject {
+            guild: _,
+            id: _,
+            kind: _,
+            name,
+            parent: _,
+            position: _,
+            overwrites,
+        } = self;
+        drop(overwrites);
+        name
     }
 }

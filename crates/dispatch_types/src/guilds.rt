@@ -9,7 +9,6 @@ use guild_model::Role;
 use snowflake_id::Snowflake;
 
 /// A guild that has become available, or that the bot has joined (Gateway Events, Guild Create).
-#[derive(Drop)]
 pub struct GuildCreate {
     pub id: Snowflake,
     pub name: Text,
@@ -24,12 +23,63 @@ pub struct GuildCreate {
     pub presences: Seq<PresenceObject>,
 }
 
+impl Drop for GuildCreate {
+    fn drop(self) {
+        let GuildCreate {
+            id: _,
+            name,
+            owner: _,
+            roles,
+            channels,
+            members,
+            member_count: _,
+            large: _,
+            threads,
+            voices,
+            presences,
+        } = self;
+        drop(name);
+        drop(roles);
+        drop(channels);
+        drop(members);
+        drop(threads);
+        drop(voices);
+        drop(presences);
+    }
+}
+
 /// A guild with a new name or owner (Gateway Events, Guild Update).
-#[derive(Drop)]
 pub struct GuildUpdate {
     pub id: Snowflake,
     pub name: Text,
     pub owner: Snowflake,
+}
+
+impl Drop for GuildUpdate {
+    fn drop(self) {
+        let GuildUpdate {
+            id: _,
+            name,
+            owner: _,
+        } = self;
+        drop(name);
+    }
+}
+
+impl GuildUpdate {
+    ghost use Rattle.std.specs.Prelude.{◌≡◌};
+
+    /// The name.
+    pub fn into_name(self) -> Text
+        ensures { result ≡ self.name }
+    {
+        let GuildUpdate {
+            id: _,
+            name,
+            owner: _,
+        } = self;
+        name
+    }
 }
 
 /// A guild that has become unavailable, or that the bot is no longer in (Gateway Events, Guild

@@ -12,7 +12,6 @@ use snowflake_id::Snowflake;
 use std::alloc::{AllocError, Global};
 
 /// The wire form of a member (Guild Resource, Guild Member Object).
-#[derive(Drop)]
 pub struct MemberObject {
     pub user: User,
     pub nick: Option<Text>,
@@ -20,6 +19,21 @@ pub struct MemberObject {
     pub joined: Moment,
     /// The end of a timeout (`communication_disabled_until`).
     pub timeout: Option<Moment>,
+}
+
+impl Drop for MemberObject {
+    fn drop(self) {
+        let MemberObject {
+            user,
+            nick,
+            roles,
+            joined: _,
+            timeout: _,
+        } = self;
+        drop(user);
+        drop(nick);
+        drop(roles);
+    }
 }
 
 // The held roles.
@@ -43,25 +57,60 @@ impl MemberObject {
             timeout: member.timeout,
         })
     }
+
+    /// The user, the nick and the roles.
+    pub fn into_parts(self) -> (User, Option<Text>, Seq<Snowflake>)
+        ensures { (result.0 ≡ self.user) × (result.1 ≡ self.nick) × (result.2 ≡ self.roles) }
+    {
+        let MemberObject {
+            user,
+            nick,
+            roles,
+            joined: _,
+            timeout: _,
+        } = self;
+        (user, nick, roles)
+    }
 }
 
 /// A member of a guild that is added or updated (Gateway Events, Guild Member Add and Guild Member
 /// Update).
-#[derive(Drop)]
 pub struct GuildMember {
     pub guild: Snowflake,
     pub member: MemberObject,
 }
 
+impl Drop for GuildMember {
+    fn drop(self) {
+        let GuildMember { guild: _, member } = self;
+        drop(member);
+    }
+}
+
+impl GuildMember {
+    /// The member.
+    pub fn into_member(self) -> MemberObject
+        ensures { result ≡ self.member }
+    {
+        let GuildMember { guild: _, member } = self;
+        member
+    }
+}
+
 /// A user that is no longer a member of a guild (Gateway Events, Guild Member Remove).
-#[derive(Drop)]
 pub struct GuildMemberRemove {
     pub guild: Snowflake,
     pub user: User,
 }
 
+impl Drop for GuildMemberRemove {
+    fn drop(self) {
+        let GuildMemberRemove { guild: _, user } = self;
+        drop(user);
+    }
+}
+
 /// Members that a client asked for (Gateway Events, Guild Members Chunk).
-#[derive(Drop)]
 pub struct MembersChunk {
     pub guild: Snowflake,
     pub members: Seq<MemberObject>,
@@ -71,4 +120,43 @@ pub struct MembersChunk {
     /// The ids that are no members'; left out where there are none.
     pub not_found: Seq<Snowflake>,
     pub presences: Option<Seq<PresenceObject>>,
+}
+
+impl Drop for MembersChunk {
+    fn drop(self) {
+        let MembersChunk {
+            guild: _,
+            members,
+            index: _,
+            count: _,
+            nonce,
+            not_found,
+            presences,
+        } = self;
+        drop(members);
+        drop(nonce);
+        drop(not_found);
+        drop(presences);
+    }
+}
+
+impl MembersChunk {
+    /// The members.
+    pub fn into_members(self) -> Seq<MemberObject>
+        ensures { result ≡ self.members }
+    {
+        let MembersChunk {
+            guild: _,
+            members,
+            index: _,
+            count: _,
+            nonce,
+            not_found,
+            presences,
+        } = self;
+        drop(nonce);
+        drop(not_found);
+        drop(presences);
+        members
+    }
 }

@@ -6,7 +6,6 @@ use snowflake_id::Snowflake;
 
 /// The wire form of a message (Message Resource, Message Object). Its time is that of its id; of its
 /// embeds, attachments and components the numbers are kept.
-#[derive(Drop)]
 pub struct MessageObject {
     pub guild: Snowflake,
     pub channel: Snowflake,
@@ -19,8 +18,26 @@ pub struct MessageObject {
     pub components: PartCount,
 }
 
+impl Drop for MessageObject {
+    fn drop(self) {
+        let MessageObject {
+            guild: _,
+            channel: _,
+            id: _,
+            author,
+            content,
+            mentions,
+            embeds: _,
+            attachments: _,
+            components: _,
+        } = self;
+        drop(author);
+        drop(content);
+        drop(mentions);
+    }
+}
+
 /// A reaction of a user to a message (Gateway Events, Message Reaction Add).
-#[derive(Drop)]
 pub struct Reaction {
     pub guild: Snowflake,
     pub channel: Snowflake,
@@ -28,6 +45,19 @@ pub struct Reaction {
     pub user: Snowflake,
     /// The emoji's name.
     pub emoji: Text,
+}
+
+impl Drop for Reaction {
+    fn drop(self) {
+        let Reaction {
+            guild: _,
+            channel: _,
+            message: _,
+            user: _,
+            emoji,
+        } = self;
+        drop(emoji);
+    }
 }
 
 /// A message that is deleted (Gateway Events, Message Delete).

@@ -85,7 +85,6 @@ impl ThreadMemberObject {
 }
 
 /// The wire form of a thread (Threads, Thread Fields).
-#[derive(Drop)]
 pub struct ThreadObject {
     pub guild: Snowflake,
     pub id: Snowflake,
@@ -95,6 +94,22 @@ pub struct ThreadObject {
     pub parent: Snowflake,
     pub archived: bool,
     pub count: ThreadCount,
+}
+
+impl Drop for ThreadObject {
+    fn drop(self) {
+        let ThreadObject {
+            guild: _,
+            id: _,
+            kind: _,
+            name,
+            owner: _,
+            parent: _,
+            archived: _,
+            count: _,
+        } = self;
+        drop(name);
+    }
 }
 
 impl ThreadObject {
@@ -115,22 +130,79 @@ impl ThreadObject {
             count: ThreadCount::of(thread.members.len()),
         })
     }
+
+    /// The name.
+    pub fn into_name(self) -> Text
+        ensures { result ≡ self.name }
+    {
+        let ThreadObject {
+            guild: _,
+            id: _,
+            kind: _,
+            name,
+            owner: _,
+            parent: _,
+            archived: _,
+            count: _,
+        } = self;
+        name
+    }
 }
 
 /// A thread of GUILD_CREATE, with the moment at which the bot joined it, where it is in it.
-#[derive(Drop)]
 pub struct JoinedThread {
     pub thread: ThreadObject,
     pub joined: Option<Moment>,
 }
 
+impl Drop for JoinedThread {
+    fn drop(self) {
+        let JoinedThread { thread, joined: _ } = self;
+        drop(thread);
+    }
+}
+
+impl JoinedThread {
+    /// The thread.
+    pub fn into_thread(self) -> ThreadObject
+        ensures { result ≡ self.thread }
+    {
+        let JoinedThread { thread, joined: _ } = self;
+        thread
+    }
+}
+
 /// A thread that is created or that the bot is added to (Gateway Events, Thread Create).
-#[derive(Drop)]
 pub struct ThreadCreate {
     pub thread: ThreadObject,
     pub newly_created: bool,
     /// The bot's own membership, where it is in the thread.
     pub member: Option<ThreadMemberObject>,
+}
+
+impl Drop for ThreadCreate {
+    fn drop(self) {
+        let ThreadCreate {
+            thread,
+            newly_created: _,
+            member: _,
+        } = self;
+        drop(thread);
+    }
+}
+
+impl ThreadCreate {
+    /// The thread.
+    pub fn into_thread(self) -> ThreadObject
+        ensures { result ≡ self.thread }
+    {
+        let ThreadCreate {
+            thread,
+            newly_created: _,
+            member: _,
+        } = self;
+        thread
+    }
 }
 
 /// A thread that is deleted (Gateway Events, Thread Delete).
@@ -144,7 +216,6 @@ pub struct ThreadDelete {
 
 /// The active threads of channels that the bot has gained access to (Gateway Events, Thread List
 /// Sync).
-#[derive(Drop)]
 pub struct ThreadListSync {
     pub guild: Snowflake,
     /// The parents whose threads are listed.
@@ -154,8 +225,36 @@ pub struct ThreadListSync {
     pub members: Seq<ThreadMemberObject>,
 }
 
+impl Drop for ThreadListSync {
+    fn drop(self) {
+        let ThreadListSync {
+            guild: _,
+            channels,
+            threads,
+            members,
+        } = self;
+        drop(channels);
+        drop(threads);
+        drop(members);
+    }
+}
+
+impl ThreadListSync {
+    /// The parents, the threads and the memberships.
+    pub fn into_lists(self) -> (Seq<Snowflake>, Seq<ThreadObject>, Seq<ThreadMemberObject>)
+        ensures { (result.0 ≡ self.channels) × (result.1 ≡ self.threads) × (result.2 ≡ self.members) }
+    {
+        let ThreadListSync {
+            guild: _,
+            channels,
+            threads,
+            members,
+        } = self;
+        (channels, threads, members)
+    }
+}
+
 /// Users that are added to or removed from a thread (Gateway Events, Thread Members Update).
-#[derive(Drop)]
 pub struct ThreadMembersUpdate {
     pub guild: Snowflake,
     pub id: Snowflake,
@@ -164,4 +263,18 @@ pub struct ThreadMembersUpdate {
     pub added: Seq<ThreadMemberObject>,
     /// Left out where it is empty.
     pub removed: Seq<Snowflake>,
+}
+
+impl Drop for ThreadMembersUpdate {
+    fn drop(self) {
+        let ThreadMembersUpdate {
+            guild: _,
+            id: _,
+            count: _,
+            added,
+            removed,
+        } = self;
+        drop(added);
+        drop(removed);
+    }
 }

@@ -8,7 +8,6 @@ use snowflake_id::Snowflake;
 use std::alloc::{AllocError, Global};
 
 /// A thread as a viewer holds it.
-#[derive(Drop)]
 pub struct ThreadView {
     pub id: Snowflake,
     pub kind: ThreadKind,
@@ -19,6 +18,21 @@ pub struct ThreadView {
     pub mine: Option<ThreadMember>,
     /// How many users are in the thread, cut at 50, where GUILD_MEMBERS tells.
     pub count: Option<u32>,
+}
+
+impl Drop for ThreadView {
+    fn drop(self) {
+        let ThreadView {
+            id: _,
+            kind: _,
+            name,
+            owner: _,
+            parent: _,
+            mine: _,
+            count: _,
+        } = self;
+        drop(name);
+    }
 }
 
 impl Keyed for ThreadView {
@@ -44,7 +58,6 @@ impl Duplicate for ThreadView {
 }
 
 /// What a viewer holds of a guild that is available.
-#[derive(Drop)]
 pub struct OpenView {
     pub name: Text,
     pub owner: Snowflake,
@@ -58,6 +71,31 @@ pub struct OpenView {
     pub threads: ById<ThreadView>,
     pub voices: ById<Voice>,
     pub presences: ById<Presence>,
+}
+
+impl Drop for OpenView {
+    fn drop(self) {
+        let OpenView {
+            name,
+            owner: _,
+            roles,
+            channels,
+            me,
+            members,
+            member_count: _,
+            threads,
+            voices,
+            presences,
+        } = self;
+        drop(name);
+        drop(roles);
+        drop(channels);
+        drop(me);
+        drop(members);
+        drop(threads);
+        drop(voices);
+        drop(presences);
+    }
 }
 
 impl Duplicate for OpenView {
@@ -78,10 +116,18 @@ impl Duplicate for OpenView {
 }
 
 /// What a viewer holds of a guild (Gateway Events, Guild Create).
-#[derive(Drop)]
 pub enum GuildView {
     Unavailable,
     Open(OpenView),
+}
+
+impl Drop for GuildView {
+    fn drop(self) {
+        match self {
+            GuildView::Unavailable => {}
+            GuildView::Open(held) => drop(held),
+        }
+    }
 }
 
 impl GuildView {

@@ -28,7 +28,6 @@ use thread_events::ThreadNote;
 use thread_sync::{ChannelSight, sights_of};
 
 /// What is noted for a viewer that is served before an edit, by the kind of edit.
-#[derive(Drop)]
 pub enum Before {
     /// The edit asks for nothing of the record before it.
     Nothing,
@@ -40,12 +39,31 @@ pub enum Before {
     Message(MessageNote),
 }
 
+impl Drop for Before {
+    fn drop(self) {
+        match self {
+            Before::Nothing => {}
+            Before::Owner(held) => drop(held),
+            Before::RoleMember(held) => drop(held),
+            Before::Channel(held) => drop(held),
+            Before::Thread(held) => drop(held),
+            Before::Message(held) => drop(held),
+        }
+    }
+}
+
 /// What has to be known of the record before an edit.
-#[derive(Drop)]
 pub struct Was {
     /// Whether the viewer was served.
     pub served: bool,
     pub note: Before,
+}
+
+impl Drop for Was {
+    fn drop(self) {
+        let Was { served: _, note } = self;
+        drop(note);
+    }
 }
 
 fn before_edit(

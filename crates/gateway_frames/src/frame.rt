@@ -22,7 +22,6 @@ pub enum Frame {
 }
 
 /// Begins a session (Gateway Events, Identify).
-#[derive(Drop)]
 pub struct Identify {
     /// The bot's token.
     pub token: Text,
@@ -32,6 +31,18 @@ pub struct Identify {
     pub large_threshold: Option<u64>,
     /// The shard's id and the number of shards.
     pub shard: Option<(u64, u64)>,
+}
+
+impl Drop for Identify {
+    fn drop(self) {
+        let Identify {
+            token,
+            intents: _,
+            large_threshold: _,
+            shard: _,
+        } = self;
+        drop(token);
+    }
 }
 
 /// Update Voice State (op 4): joins a voice channel, moves to another, or leaves.
@@ -45,7 +56,6 @@ pub struct VoiceAsk {
 }
 
 /// Resumes a session (Gateway Events, Resume).
-#[derive(Drop)]
 pub struct Resume {
     /// The bot's token.
     pub token: Text,
@@ -53,6 +63,18 @@ pub struct Resume {
     pub session: Text,
     /// The number of the last dispatch that the client has.
     pub seq: u64,
+}
+
+impl Drop for Resume {
+    fn drop(self) {
+        let Resume {
+            token,
+            session,
+            seq: _,
+        } = self;
+        drop(token);
+        drop(session);
+    }
 }
 
 /// Request Guild Members (op 8).

@@ -114,10 +114,17 @@ impl Keyed for Overwrite {
 }
 
 /// A channel's overwrites: those of roles, and those of members.
-#[derive(Drop)]
 pub struct Overwrites {
     pub roles: ById<Overwrite>,
     pub members: ById<Overwrite>,
+}
+
+impl Drop for Overwrites {
+    fn drop(self) {
+        let Overwrites { roles, members } = self;
+        drop(roles);
+        drop(members);
+    }
 }
 
 impl Overwrites {
@@ -142,7 +149,6 @@ impl Duplicate for Overwrites {
 }
 
 /// A channel (Channels Resource, Channel Object).
-#[derive(Drop)]
 pub struct Channel {
     pub id: Snowflake,
     pub kind: ChannelKind,
@@ -151,6 +157,21 @@ pub struct Channel {
     pub parent: Option<Snowflake>,
     pub position: u32,
     pub overwrites: Overwrites,
+}
+
+impl Drop for Channel {
+    fn drop(self) {
+        let Channel {
+            id: _,
+            kind: _,
+            name,
+            parent: _,
+            position: _,
+            overwrites,
+        } = self;
+        drop(name);
+        drop(overwrites);
+    }
 }
 
 impl Keyed for Channel {

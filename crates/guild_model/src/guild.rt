@@ -18,7 +18,6 @@ use std::alloc::{AllocError, Global};
 use std::marker::Model;
 
 /// The record of a guild (Guild Resource, Guild Object). One that is not open has empty lists.
-#[derive(Drop)]
 pub struct Guild {
     pub id: Snowflake,
     pub opened: bool,
@@ -32,6 +31,33 @@ pub struct Guild {
     pub voices: ById<Voice>,
     pub presences: ById<Presence>,
     pub messages: MessageHeads,
+}
+
+impl Drop for Guild {
+    fn drop(self) {
+        let Guild {
+            id: _,
+            opened: _,
+            outage: _,
+            name,
+            owner: _,
+            roles,
+            members,
+            channels,
+            threads,
+            voices,
+            presences,
+            messages,
+        } = self;
+        drop(name);
+        drop(roles);
+        drop(members);
+        drop(channels);
+        drop(threads);
+        drop(voices);
+        drop(presences);
+        drop(messages);
+    }
 }
 
 impl Model for Guild {

@@ -9,7 +9,6 @@ use snowflake_id::Snowflake;
 use std::alloc::{AllocError, Global};
 
 /// A user as a member of a guild (Guild Resource, Guild Member Object).
-#[derive(Drop)]
 pub struct Member {
     pub user: User,
     pub nick: Option<Text>,
@@ -18,6 +17,21 @@ pub struct Member {
     pub joined: Moment,
     /// The end of a timeout (`communication_disabled_until`).
     pub timeout: Option<Moment>,
+}
+
+impl Drop for Member {
+    fn drop(self) {
+        let Member {
+            user,
+            nick,
+            roles,
+            joined: _,
+            timeout: _,
+        } = self;
+        drop(user);
+        drop(nick);
+        drop(roles);
+    }
 }
 
 impl Keyed for Member {

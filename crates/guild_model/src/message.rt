@@ -8,7 +8,6 @@ use snowflake_id::Snowflake;
 use std::alloc::{AllocError, Global};
 
 /// What a guild keeps of a message (Message Resource, Message Object).
-#[derive(Drop)]
 pub struct MessageHead {
     pub id: Snowflake,
     /// The channel or thread that the message stands in.
@@ -16,6 +15,19 @@ pub struct MessageHead {
     pub author: User,
     /// The mentioned users, in the order of the message.
     pub mentions: Seq<Snowflake>,
+}
+
+impl Drop for MessageHead {
+    fn drop(self) {
+        let MessageHead {
+            id: _,
+            channel: _,
+            author,
+            mentions,
+        } = self;
+        drop(author);
+        drop(mentions);
+    }
 }
 
 impl Duplicate for MessageHead {

@@ -8,12 +8,23 @@ use snowflake_id::Snowflake;
 use std::alloc::{AllocError, Global};
 
 /// A role (Permissions, Role Object). The role @everyone has the guild's id.
-#[derive(Drop)]
 pub struct Role {
     pub id: Snowflake,
     pub name: Text,
     pub permissions: Perms,
     pub position: u32,
+}
+
+impl Drop for Role {
+    fn drop(self) {
+        let Role {
+            id: _,
+            name,
+            permissions: _,
+            position: _,
+        } = self;
+        drop(name);
+    }
 }
 
 impl Keyed for Role {

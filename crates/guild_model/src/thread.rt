@@ -72,7 +72,6 @@ impl Keyed for ThreadMember {
 }
 
 /// A thread (Threads, Thread Fields).
-#[derive(Drop)]
 pub struct Thread {
     pub id: Snowflake,
     pub kind: ThreadKind,
@@ -82,6 +81,22 @@ pub struct Thread {
     pub owner: Snowflake,
     pub archived: bool,
     pub members: ById<ThreadMember>,
+}
+
+impl Drop for Thread {
+    fn drop(self) {
+        let Thread {
+            id: _,
+            kind: _,
+            name,
+            parent: _,
+            owner: _,
+            archived: _,
+            members,
+        } = self;
+        drop(name);
+        drop(members);
+    }
 }
 
 impl Keyed for Thread {

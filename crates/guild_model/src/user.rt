@@ -7,11 +7,21 @@ use snowflake_id::Snowflake;
 use std::alloc::{AllocError, Global};
 
 /// A user (User Resource, User Object).
-#[derive(Drop)]
 pub struct User {
     pub id: Snowflake,
     pub name: Text,
     pub bot: bool,
+}
+
+impl Drop for User {
+    fn drop(self) {
+        let User {
+            id: _,
+            name,
+            bot: _,
+        } = self;
+        drop(name);
+    }
 }
 
 impl Keyed for User {

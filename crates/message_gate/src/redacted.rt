@@ -32,29 +32,14 @@ fn is_for(message: &MessageObject, viewer: &Viewer) -> bool
     reads(viewer, message.author.id, is_mentioned)
 }
 
-// The empty text, without memory.
-fn cleared(text: Text) -> Text
-    ensures { result ≡ [] }
-{
-    let mut text = text.into_string();
-    text.clear();
-    Text::from_string(text)
-}
-
-fn emptied(message: MessageObject) -> MessageObject
+fn emptied(mut message: MessageObject) -> MessageObject
     ensures { result ≡ emptied message }
 {
-    MessageObject {
-        guild: message.guild,
-        channel: message.channel,
-        id: message.id,
-        author: message.author,
-        content: cleared(message.content),
-        mentions: message.mentions,
-        embeds: PartCount::NONE,
-        attachments: PartCount::NONE,
-        components: PartCount::NONE,
-    }
+    message.content.clear();
+    message.embeds = PartCount::NONE;
+    message.attachments = PartCount::NONE;
+    message.components = PartCount::NONE;
+    message
 }
 
 /// The message as a viewer is sent it: its content, embeds, attachments and components are empty,

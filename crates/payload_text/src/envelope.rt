@@ -9,17 +9,30 @@ use std::marker::Model;
 use std::sync::Arc;
 
 /// What stands before and after a number in a text.
-#[derive(Drop)]
 pub struct Parts {
     pub head: Text,
     pub tail: Text,
 }
 
+impl Drop for Parts {
+    fn drop(self) {
+        let Parts { head, tail } = self;
+        drop(head);
+        drop(tail);
+    }
+}
+
 /// What stands before and after the sequence number of a dispatch (Gateway, Payload Structure). It is
 /// the same for every session that is sent the dispatch, and all owners share it.
-#[derive(Drop)]
 pub struct Envelope {
     parts: Arc<Parts>,
+}
+
+impl Drop for Envelope {
+    fn drop(self) {
+        let Envelope { parts } = self;
+        drop(parts);
+    }
 }
 
 impl Model for Envelope {

@@ -21,11 +21,21 @@ pub struct Pieces<'a> {
 
 /// The text of a payload, as it goes to a connection and as it is kept for a resume. A clause sees the
 /// text.
-#[derive(Drop)]
 pub struct Payload {
     parts: Arc<Parts>,
     number: Option<u64>,
     len: usize,
+}
+
+impl Drop for Payload {
+    fn drop(self) {
+        let Payload {
+            parts,
+            number: _,
+            len: _,
+        } = self;
+        drop(parts);
+    }
 }
 
 impl Model for Payload {

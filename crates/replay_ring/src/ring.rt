@@ -13,12 +13,23 @@ use std::marker::Model;
 /// The replay buffer of a session (Gateway, Resuming). The texts are numbered from 1, and it holds
 /// the longest suffix of them within two limits. A clause sees it as the number of the last text,
 /// the texts held and the two limits.
-#[derive(Drop)]
 pub struct Ring {
     texts: HeapCircularBuffer<Payload>,
     bytes: usize,
     limit: usize,
     last: u64,
+}
+
+impl Drop for Ring {
+    fn drop(self) {
+        let Ring {
+            texts,
+            bytes: _,
+            limit: _,
+            last: _,
+        } = self;
+        drop(texts);
+    }
 }
 
 impl Model for Ring {

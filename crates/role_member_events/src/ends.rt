@@ -15,7 +15,6 @@ use std::alloc::{AllocError, Global};
 use thread_sync::{ChannelSight, sights_of};
 
 /// A member that is removed.
-#[derive(Drop)]
 pub struct MemberEnd {
     pub user: User,
     /// Whether it had a presence.
@@ -26,8 +25,20 @@ pub struct MemberEnd {
     pub threads: Seq<Snowflake>,
 }
 
+impl Drop for MemberEnd {
+    fn drop(self) {
+        let MemberEnd {
+            user,
+            presence: _,
+            voice: _,
+            threads,
+        } = self;
+        drop(user);
+        drop(threads);
+    }
+}
+
 /// What [`add_dispatches`](crate::add_dispatches) has to know of the record before an edit.
-#[derive(Drop)]
 pub enum RoleMemberNote {
     /// Nothing: no member is removed, and what the viewer may do stays as it is.
     Nothing,
@@ -35,6 +46,16 @@ pub enum RoleMemberNote {
     Sights(ById<ChannelSight>),
     /// The member that is removed.
     Leaving(MemberEnd),
+}
+
+impl Drop for RoleMemberNote {
+    fn drop(self) {
+        match self {
+            RoleMemberNote::Nothing => {}
+            RoleMemberNote::Sights(held) => drop(held),
+            RoleMemberNote::Leaving(held) => drop(held),
+        }
+    }
 }
 
 fn threads_left(

@@ -11,7 +11,6 @@ use snowflake_id::Snowflake;
 use std::alloc::{AllocError, Global};
 
 /// Whom a session is for (Gateway Events, Identify and Ready).
-#[derive(Drop)]
 pub struct Holder {
     /// The id of the session.
     pub id: Text,
@@ -25,6 +24,21 @@ pub struct Holder {
     pub shard: Option<Shard>,
     /// The number of members above which a guild is large.
     pub threshold: u16,
+}
+
+impl Drop for Holder {
+    fn drop(self) {
+        let Holder {
+            id,
+            user: _,
+            name,
+            intents: _,
+            shard: _,
+            threshold: _,
+        } = self;
+        drop(id);
+        drop(name);
+    }
 }
 
 impl Holder {

@@ -10,7 +10,6 @@ use replay_ring::Ring;
 use std::alloc::{AllocError, Global};
 
 /// An open connection.
-#[derive(Drop)]
 pub struct Connection {
     /// The moment of its last heartbeat, at first of its opening, in milliseconds.
     pub last_heartbeat_ms: u64,
@@ -18,6 +17,17 @@ pub struct Connection {
     pub times: Window,
     /// The number of its session.
     pub session: Option<u32>,
+}
+
+impl Drop for Connection {
+    fn drop(self) {
+        let Connection {
+            last_heartbeat_ms: _,
+            times,
+            session: _,
+        } = self;
+        drop(times);
+    }
 }
 
 /// Whether a session has a connection, or since when it has none.
@@ -30,7 +40,6 @@ pub enum Condition {
 }
 
 /// A session that has not ended.
-#[derive(Drop)]
 pub struct Session {
     /// The token of its bot.
     pub token: Text,
@@ -41,6 +50,21 @@ pub struct Session {
     pub condition: Condition,
     /// The buffer for Resume.
     pub sent: Ring,
+}
+
+impl Drop for Session {
+    fn drop(self) {
+        let Session {
+            token,
+            holder,
+            viewer: _,
+            condition: _,
+            sent,
+        } = self;
+        drop(token);
+        drop(holder);
+        drop(sent);
+    }
 }
 
 /// The most dispatches that a session keeps for a resume.

@@ -32,7 +32,6 @@ const MAX_CONNECTIONS: usize = 64;
 const HEARTBEAT_INTERVAL_MS: u64 = 41_250;
 
 /// The connections and sessions of one worker (Gateway, Connection Lifecycle).
-#[derive(Drop)]
 pub struct Sessions {
     alloc: Global,
     worker: u8,
@@ -40,6 +39,22 @@ pub struct Sessions {
     made: u32,
     pub(crate) connections: IndexMap<u32, Connection>,
     pub(crate) sessions: IndexMap<u32, Session>,
+}
+
+impl Drop for Sessions {
+    fn drop(self) {
+        let Sessions {
+            alloc: _,
+            worker: _,
+            bots,
+            made: _,
+            connections,
+            sessions,
+        } = self;
+        drop(bots);
+        drop(connections);
+        drop(sessions);
+    }
 }
 
 impl Model for Sessions {

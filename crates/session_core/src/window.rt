@@ -14,9 +14,15 @@ const MAX_FRAMES: usize = 120;
 const MINUTE_MS: u64 = 60_000;
 
 /// The moments of the latest frames of a connection, seen as their list.
-#[derive(Drop)]
 pub struct Window {
     times: HeapCircularBuffer<u64>,
+}
+
+impl Drop for Window {
+    fn drop(self) {
+        let Window { times } = self;
+        drop(times);
+    }
 }
 
 impl Model for Window {

@@ -25,10 +25,20 @@ use std::alloc::{AllocError, Global};
 use std::marker::Model;
 
 /// Dispatches, and the text of each without its number.
-#[derive(Drop)]
 pub struct SharedDispatches {
     dispatches: Vec<Dispatch>,
     envelopes: Vec<Envelope>,
+}
+
+impl Drop for SharedDispatches {
+    fn drop(self) {
+        let SharedDispatches {
+            dispatches,
+            envelopes,
+        } = self;
+        drop(dispatches);
+        drop(envelopes);
+    }
 }
 
 impl Model for SharedDispatches {
@@ -144,12 +154,19 @@ impl DueLists {
 
 /// What an entry owes to viewers: lists of dispatches, each once, and for each viewer, by its index, the
 /// index of its list.
-#[derive(Drop)]
 pub struct DueDispatches {
     /// The lists, each once.
     pub told: Vec<SharedDispatches>,
     /// For each viewer, by its index, the index of its list.
     pub whose: Vec<usize>,
+}
+
+impl Drop for DueDispatches {
+    fn drop(self) {
+        let DueDispatches { told, whose } = self;
+        drop(told);
+        drop(whose);
+    }
 }
 
 impl DueDispatches {

@@ -9,12 +9,19 @@ use session_core::Sessions;
 use std::alloc::{AllocError, Global};
 
 /// The viewers of sessions, each once, and for each session, by its index, the index of its viewer.
-#[derive(Drop)]
 pub struct Recipients {
     /// The viewers, each once.
     pub viewers: Vec<Viewer>,
     /// For each session, by its index, the index of its viewer.
     pub whose: Vec<usize>,
+}
+
+impl Drop for Recipients {
+    fn drop(self) {
+        let Recipients { viewers, whose } = self;
+        drop(viewers);
+        drop(whose);
+    }
 }
 
 // The index of a viewer in a list, to which it is added if it is not in it.

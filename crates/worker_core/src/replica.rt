@@ -4,10 +4,16 @@ use collections::Keyed;
 use guild_model::Guild;
 
 /// What a worker keeps of a guild: the record after the entries of its log that it has handled.
-#[derive(Drop)]
 pub struct Replica {
     /// The record.
     pub guild: Guild,
+}
+
+impl Drop for Replica {
+    fn drop(self) {
+        let Replica { guild } = self;
+        drop(guild);
+    }
 }
 
 impl Keyed for Replica {

@@ -8,9 +8,15 @@ use std::marker::Model;
 
 /// The edit that a client asks for, in memory of its own, so that an output is small. A clause sees the
 /// edit.
-#[derive(Drop)]
 pub struct WishedEdit {
     inner: Box<Edit>,
+}
+
+impl Drop for WishedEdit {
+    fn drop(self) {
+        let WishedEdit { inner } = self;
+        drop(inner);
+    }
 }
 
 impl Model for WishedEdit {
