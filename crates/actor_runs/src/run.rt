@@ -13,6 +13,7 @@ use std::alloc::{AllocError, Global};
 use std::sync::Wait;
 use std::thread::{self, Threads};
 use std::time::Clock;
+use wake_bell::Bell;
 
 /// What is sent of a load: the edits of its guilds up to one.
 #[derive(Clone, Copy)]
@@ -76,7 +77,7 @@ pub fn run<R: Threads + Wait + Clock + Send + Sync + Drop + Copy>(
         &rt,
         move || -> Result<ActReport<R>, AllocError>
             requires { (taker.post ≡ shared.now) × (taker.taken ≡ []) × AreDistinct (guilds_of writers.items) × AreNew writers.items }
-        { guild_actor::act(&rt, alloc, shared, taker, writers) },
+        { guild_actor::act(&rt, alloc, shared, &Bell::new(), taker, writers) },
         move || -> Vec<Sender>
             requires { All (λ s. (s.pass.post ≡ shared.now) × (s.pass.mark ≡ 0)) senders.items }
         { senders::send_all(&rt, alloc, shared, senders) },

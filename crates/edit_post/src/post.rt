@@ -14,17 +14,19 @@ use crate::take_pass::TakePass;
 use std::alloc::{AllocError, Global};
 use std::marker::Model;
 use std::sync::Wait;
+use wake_bell::Bell;
 
 /// The most requests of a sender.
 const MOST_REQUESTS: u64 = 1 << 57;
 
 /// A queue of requests from up to 16 senders to one actor. Threads share it by reference, and each
 /// call takes the pass of the thread that makes it. A clause sees it as its name: a pass is of this
-/// post exactly if it has the same name.
+/// post exactly if it has the same name. It has a bell, which each send and each end rings.
 pub struct Post<R: Drop> {
     rt: R,
     queue: Queue,
     marks: Marks,
+    bell: Bell,
 }
 
 impl<R: Drop> Model for Post<R> {
@@ -60,7 +62,12 @@ impl<R: Drop> Post<R> {
                 return Err(error);
             }
         };
-        let post = Post { rt, queue, marks };
+        let post = Post {
+            rt,
+            queue,
+            marks,
+            bell: Bell::new(),
+        };
         let mut taker = TakePass::new(pass, seat);
         let mut passes = Vec::new(alloc);
         for sender in 0..senders {
@@ -90,6 +97,11 @@ impl<R: Drop> Post<R> {
         }
     }
 
+    /// The bell at which the actor rests while nothing comes.
+    pub fn bell(&self) -> &Bell {
+        &self.bell
+    }
+
     /// Ends a pass: stores its sender's mark, which is how many requests it sent, and one more. It
     /// does not allocate.
     pub fn end(&self, pass: &mut SendPass)
@@ -99,6 +111,7 @@ impl<R: Drop> Post<R> {
     {
         let sender = usize::from(pass.sender);
         marks::store(&self.marks, &mut pass.seat, sender, pass.next);
+        self.bell.ring();
     }
 
     // Looks at the mark of one sender, if it was not found before. True exactly if it is found now
@@ -162,6 +175,7 @@ impl<R: Wait + Drop> Post<R> {
         match queue::send(&self.rt, &self.queue, &mut pass.pass, request) {
             Ok(()) => {
                 pass.next += 1;
+                self.bell.ring();
                 Ok(())
             }
             Err(request) => Err((request, SendRefused::Memory)),
@@ -204,7 +218,9 @@ impl<R: Drop> Drop for Post<R> {
             rt: _,
             queue,
             marks,
+            bell,
         } = self;
+        drop(bell);
         queue.destroy();
     }
 }

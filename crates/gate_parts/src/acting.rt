@@ -9,13 +9,14 @@ use guild_hub::HubWriter;
 use snowflake_id::Snowflake;
 use std::alloc::{AllocError, Global};
 use std::sync::Wait;
-use std::time::Clock;
+use wake_bell::Bell;
 
-/// Acts on the post at a place.
-pub(crate) fn act_at<R: Wait + Clock + Drop>(
+/// Acts on the post at a place, and rings after each request that it publishes.
+pub(crate) fn act_at<R: Wait + Drop>(
     rt: &R,
     alloc: Global,
     posts: &[Post<R>],
+    shown: &Bell,
     place: usize,
     pass: TakePass,
     writers: Vec<(Snowflake, HubWriter<R>)>,
@@ -23,6 +24,6 @@ pub(crate) fn act_at<R: Wait + Clock + Drop>(
     requires { CanAct posts.now place pass writers.items }
     ensures { IfOk result (ActsAs pass writers.items) }
 {
-    let report = act(rt, alloc, &posts[place], pass, writers)?;
+    let report = act(rt, alloc, &posts[place], shown, pass, writers)?;
     Ok(report)
 }

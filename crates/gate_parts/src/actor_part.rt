@@ -112,7 +112,15 @@ impl<R: Wait + Clock + Drop> ActorPart<R> {
             word: _,
             mut seat,
         } = self;
-        let acted = act_at(&rt, alloc, posts.as_slice(), place, pass, writers);
+        let acted = act_at(
+            &rt,
+            alloc,
+            posts.as_slice(),
+            posts.shown(),
+            place,
+            pass,
+            writers,
+        );
         set_after(&mut seat, acted.is_err());
         ActorDone {
             ending: Ending::Ran(acted),

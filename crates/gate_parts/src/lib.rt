@@ -5,6 +5,7 @@
 
 mod acting;
 mod actor_part;
+mod bell_clock;
 mod ending;
 mod posts;
 mod script_part;

@@ -5,11 +5,20 @@ use edit_post::Post;
 use std::alloc::{AllocError, Global};
 use std::marker::Model;
 use std::sync::Arc;
+use wake_bell::Bell;
 
-/// The posts of all actors, in order. Each part of a run has a share of them.
+// What the parts of a run share.
+#[derive(Drop)]
+struct Office<R: Drop> {
+    posts: Vec<Post<R>>,
+    shown: Bell,
+}
+
+/// The posts of all actors, in order, with a bell that every actor rings. Each part of a run has a share
+/// of them.
 #[derive(Drop)]
 pub struct Posts<R: Drop> {
-    all: Arc<Vec<Post<R>>, Global>,
+    office: Arc<Office<R>, Global>,
 }
 
 impl<R: Drop> Model for Posts<R> {
@@ -19,7 +28,7 @@ impl<R: Drop> Model for Posts<R> {
 
     ghost Value = { List PostId };
 
-    ghost view = { λ p. (arc_value p.all).items };
+    ghost view = { λ p. (arc_value p.office).posts.items };
 }
 
 impl<R: Drop> Posts<R> {
@@ -30,8 +39,12 @@ impl<R: Drop> Posts<R> {
     pub fn new(alloc: Global, posts: Vec<Post<R>>) -> Result<Posts<R>, AllocError>
         ensures { IfOk result (λ made. made ≡ posts.items) }
     {
+        let office = Office {
+            posts,
+            shown: Bell::new(),
+        };
         Ok(Posts {
-            all: Arc::new(alloc, posts)?,
+            office: Arc::new(alloc, office)?,
         })
     }
 
@@ -43,7 +56,7 @@ impl<R: Drop> Posts<R> {
         ensures { IfOk result (λ shared. shared ≡ self.now) }
     {
         Ok(Posts {
-            all: Arc::try_clone(&self.all)?,
+            office: Arc::try_clone(&self.office)?,
         })
     }
 
@@ -51,6 +64,11 @@ impl<R: Drop> Posts<R> {
     pub fn as_slice(&self) -> &[Post<R>]
         ensures { result.now ≡ self.now }
     {
-        self.all.as_slice()
+        self.office.posts.as_slice()
+    }
+
+    /// The bell that each actor rings when it has published, and at which the workers rest.
+    pub fn shown(&self) -> &Bell {
+        &self.office.shown
     }
 }

@@ -1,6 +1,7 @@
 //! A worker's part of a run.
 ghost use Rattle.gate_parts.specs.Ready.{CanWork, CanWork-prop};
 
+use crate::bell_clock::BellClock;
 use crate::ending::Ending;
 use crate::posts::Posts;
 use crate::seats::{finds_stop, set_after};
@@ -160,7 +161,7 @@ where
         }
     }
 
-    // Serves, and sets the flag after a fault.
+    // Serves, with pauses that end when an actor publishes, and sets the flag after a fault.
     fn serve(self) -> WorkerDone<D, C, J>
         ensures ran { has_stopped result.ending ≡ false }
         ensures gives { WorkerGives D.tale D.faults C.tale J.noted self result }
@@ -170,7 +171,7 @@ where
             alloc,
             worker,
             mut door,
-            mut clock,
+            clock,
             mut readers,
             posts,
             mut passes,
@@ -178,12 +179,13 @@ where
             word: _,
             mut seat,
         } = self;
+        let mut bell_clock = BellClock::new(clock, &rt, posts.shown());
         let worked = work(
             &rt,
             alloc,
             worker,
             &mut door,
-            &mut clock,
+            &mut bell_clock,
             &mut readers,
             posts.as_slice(),
             &mut passes,
@@ -193,7 +195,7 @@ where
         WorkerDone {
             ending: Ending::Ran(worked),
             door,
-            clock,
+            clock: bell_clock.into_clock(),
             readers,
             passes,
             notes,

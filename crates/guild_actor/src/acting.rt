@@ -16,17 +16,18 @@ use guild_hub::HubWriter;
 use snowflake_id::Snowflake;
 use std::alloc::{AllocError, Global};
 use std::sync::Wait;
-use std::thread;
-use std::time::{Clock, Duration};
+use std::time::Duration;
+use wake_bell::Bell;
 
-// For so many milliseconds an actor rests that finds nothing to take.
+// For so many milliseconds at most an actor rests that finds nothing to take.
 const REST_MS: u64 = 1;
 
-// Publishes what it takes, in order, until every sender has ended. After an `Err` all requests that
-// were taken are published but for the last.
-fn deliver_all<R: Wait + Clock + Drop>(
+// Publishes what it takes, in order, until every sender has ended, and rings after each. After an `Err`
+// all requests that were taken are published but for the last.
+fn deliver_all<R: Wait + Drop>(
     rt: &R,
     post: &Post<R>,
+    shown: &Bell,
     pass: &mut TakePass,
     desk: &mut Desk<R>,
 ) -> Result<(), AllocError>
@@ -38,13 +39,17 @@ fn deliver_all<R: Wait + Clock + Drop>(
     ensures err { OnErr result ((requests : List Request) × (last : Request) × (pass.new.taken ≡ requests ++ last ∷ []) × (logs_of desk.new.writers ≡ logs_of (held_after desk.old.writers requests).writers)) }
 {
     for _ in rt.forever() {
+        let heard = post.bell().heard();
         match post.take(pass) {
-            Some(request) => desk.deliver(request)?,
+            Some(request) => {
+                desk.deliver(request)?;
+                shown.ring();
+            }
             None => {
                 if post.ended(pass) {
                     return Ok(());
                 }
-                thread::sleep(rt, Duration::from_millis(REST_MS));
+                post.bell().rest(rt, heard, Duration::from_millis(REST_MS));
             }
         }
     }
@@ -52,16 +57,18 @@ fn deliver_all<R: Wait + Clock + Drop>(
 }
 
 /// Publishes what it takes from a post, in order, each request in the log of its guild, until every
-/// sender has ended; then it seals every log. While nothing comes it looks again each millisecond. It
-/// waits for the senders.
+/// sender has ended; then it seals every log. It rings `shown` after each request, and after the seals.
+/// While nothing comes it rests until a sender has sent, and looks again at the latest after a
+/// millisecond. It waits for the senders.
 ///
 /// # Errors
 /// Out of memory. All requests that were taken are then published but for the last, and every log that
 /// is not sealed has ended without a seal.
-pub fn act<R: Wait + Clock + Drop>(
+pub fn act<R: Wait + Drop>(
     rt: &R,
     alloc: Global,
     post: &Post<R>,
+    shown: &Bell,
     mut pass: TakePass,
     writers: Vec<(Snowflake, HubWriter<R>)>,
 ) -> Result<ActReport<R>, AllocError>
@@ -75,7 +82,7 @@ pub fn act<R: Wait + Clock + Drop>(
     ensures full { IfOk result (λ r. r.full ≡ counted (full_of (guilds_of writers.items) r.pass.taken)) }
 {
     let mut desk = Desk::of(alloc, writers)?;
-    deliver_all(rt, post, &mut pass, &mut desk)?;
+    deliver_all(rt, post, shown, &mut pass, &mut desk)?;
     let Desk {
         writers,
         index: _index,
@@ -83,6 +90,7 @@ pub fn act<R: Wait + Clock + Drop>(
         full,
     } = desk;
     let logs = seals::seal_all(alloc, writers)?;
+    shown.ring();
     Ok(ActReport {
         logs,
         strays,

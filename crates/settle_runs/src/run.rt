@@ -14,6 +14,7 @@ use std::alloc::{AllocError, Global};
 use std::sync::Wait;
 use std::thread::{self, Threads};
 use std::time::Clock;
+use wake_bell::Bell;
 
 // The actor takes all that the senders send.
 fn act_and_send<R: Threads + Wait + Clock + Send + Sync + Drop + Copy>(
@@ -36,7 +37,7 @@ fn act_and_send<R: Threads + Wait + Clock + Send + Sync + Drop + Copy>(
         move || -> Result<ActReport<R>, AllocError>
             requires { (taker.post ≡ shared.now) × (taker.taken ≡ []) × AreDistinct (guilds_of writers.items) × AreNew writers.items }
             ensures { IfOk result (λ r. (r.pass.post ≡ shared.entry.now) × HasEnded r.pass × (r.logs.items ≡ map (sealed_log r.pass.taken) writers.items)) }
-        { guild_actor::act(&rt, alloc, shared, taker, writers) },
+        { guild_actor::act(&rt, alloc, shared, &Bell::new(), taker, writers) },
         move || -> Vec<Sender>
             requires { All (λ s. (s.pass.post ≡ shared.now) × (s.pass.mark ≡ 0)) senders.items }
             ensures { All (λ s. (s.pass.post ≡ shared.entry.now) × (s.pass.mark ≢ 0)) result.items }

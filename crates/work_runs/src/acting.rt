@@ -7,6 +7,7 @@ use guild_actor::ActReport;
 use std::alloc::{AllocError, Global};
 use std::sync::Wait;
 use std::time::Clock;
+use wake_bell::Bell;
 
 // How many entries each log has, in words.
 fn told<R: Wait + Drop>(alloc: Global, report: &ActReport<R>) -> Result<String, AllocError> {
@@ -28,6 +29,6 @@ pub fn act<R: Wait + Clock + Drop + Copy>(
     requires { (posts.now ≡ taker.post ∷ []) × (taker.taken ≡ []) }
 {
     let writers = logs::writers(rt, alloc)?;
-    let report = guild_actor::act(&rt, alloc, &posts[0], taker, writers)?;
+    let report = guild_actor::act(&rt, alloc, &posts[0], &Bell::new(), taker, writers)?;
     told(alloc, &report)
 }
