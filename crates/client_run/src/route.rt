@@ -22,11 +22,21 @@ use std::marker::Model;
 const MOST_FAILURES: u64 = 9;
 
 /// Where a client connects next, and how often one after another its dial has failed.
-#[derive(Drop)]
 pub struct Route {
     first: Text,
     target: Target,
     dry_run: u64,
+}
+
+impl Drop for Route {
+    fn drop(self) {
+        let Route {
+            first,
+            target: _,
+            dry_run: _,
+        } = self;
+        drop(first);
+    }
 }
 
 impl Model for Route {

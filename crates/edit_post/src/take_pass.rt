@@ -11,13 +11,26 @@ use std::marker::Model;
 /// The right of the actor to take from its post. A clause sees it as its post, how many senders there
 /// are, what was taken, how many takes found nothing, the mark that was found of each sender, 0 for
 /// none, and each look at a mark.
-#[derive(Drop)]
 pub struct TakePass {
     pub(crate) pass: QueuePass,
     pub(crate) seat: MarkSeat,
     pub(crate) senders: u8,
     pub(crate) counts: [u64; 16],
     pub(crate) found: [u64; 16],
+}
+
+impl Drop for TakePass {
+    fn drop(self) {
+        let TakePass {
+            pass,
+            seat,
+            senders: _,
+            counts: _,
+            found: _,
+        } = self;
+        drop(pass);
+        drop(seat);
+    }
 }
 
 impl Model for TakePass {

@@ -15,12 +15,19 @@ use snowflake_id::Snowflake;
 use std::alloc::{AllocError, Global};
 
 /// What the head of a file declares.
-#[derive(Drop)]
 pub struct Declared {
     /// The bots, in the order of their lines, as often as they stand there.
     pub bots: Vec<Bot>,
     /// The guilds, in the order of their lines, as often as they stand there.
     pub guilds: Vec<Snowflake>,
+}
+
+impl Drop for Declared {
+    fn drop(self) {
+        let Declared { bots, guilds } = self;
+        drop(bots);
+        drop(guilds);
+    }
 }
 
 /// The head of a file, and the script that follows it.

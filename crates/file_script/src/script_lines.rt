@@ -14,13 +14,25 @@ use gate_outside::streams::Source;
 use std::alloc::{AllocError, Global};
 
 /// What is kept of a script's file between its lines.
-#[derive(Drop)]
 pub struct ScriptLines {
     alloc: Global,
     lines: LineReader,
     reader: StepReader,
     // Whether the source has come to its end.
     ended: bool,
+}
+
+impl Drop for ScriptLines {
+    fn drop(self) {
+        let ScriptLines {
+            alloc: _,
+            lines,
+            reader,
+            ended: _,
+        } = self;
+        drop(lines);
+        drop(reader);
+    }
 }
 
 impl ScriptLines {

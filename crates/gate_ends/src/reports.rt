@@ -13,9 +13,7 @@ use std::sync::Wait;
 fn report_of<R: Wait + Drop>(done: ActorDone<R>) -> Result<ActReport<R>, AllocError>
     ensures { IfOk result (λ report. done.ending ≡ Ran (Ok report)) }
 {
-    let ActorDone { ending, seat } = done;
-    drop(seat);
-    result_of(ending)
+    result_of(done.into_ending())
 }
 
 /// The reports of the two last actors.

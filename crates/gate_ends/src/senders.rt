@@ -15,7 +15,6 @@ use std::alloc::{AllocError, Global};
 use std::sync::Wait;
 
 /// The parts of a run that have ended, but for its clients.
-#[derive(Drop)]
 pub struct Senders<R: Wait + Drop, E: Drop> {
     /// The actors.
     pub actors: Vec<ActorDone<R>>,
@@ -23,6 +22,19 @@ pub struct Senders<R: Wait + Drop, E: Drop> {
     pub scripts: Vec<ScriptEnd<E>>,
     /// The workers.
     pub workers: Vec<WorkerEnd>,
+}
+
+impl<R: Wait + Drop, E: Drop> Drop for Senders<R, E> {
+    fn drop(self) {
+        let Senders {
+            actors,
+            scripts,
+            workers,
+        } = self;
+        drop(actors);
+        drop(scripts);
+        drop(workers);
+    }
 }
 
 /// What is settled at the end of a run.

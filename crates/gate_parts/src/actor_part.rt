@@ -38,12 +38,32 @@ pub struct ActorPart<R: Wait + Drop> {
 }
 
 /// An actor's part that has ended.
-#[derive(Drop)]
 pub struct ActorDone<R: Wait + Drop> {
     /// How it ended.
     pub ending: Ending<Result<ActReport<R>, AllocError>>,
     /// Its seat at the stop flag, which has set it after a fault.
     pub seat: StopSeat,
+}
+
+impl<R: Wait + Drop> Drop for ActorDone<R> {
+    fn drop(self) {
+        let ActorDone { ending, seat } = self;
+        drop(ending);
+        drop(seat);
+    }
+}
+
+impl<R: Wait + Drop> ActorDone<R> {
+    ghost use Rattle.std.specs.Prelude.{◌≡◌};
+
+    /// How it ended. The seat is dropped.
+    pub fn into_ending(self) -> Ending<Result<ActReport<R>, AllocError>>
+        ensures { result ≡ self.ending }
+    {
+        let ActorDone { ending, seat } = self;
+        drop(seat);
+        ending
+    }
 }
 
 // One call drops a part, so that no crate above proves the drop of what it holds again.

@@ -8,17 +8,30 @@ use std::sync::Arc;
 use wake_bell::Bell;
 
 // What the parts of a run share.
-#[derive(Drop)]
 struct Office<R: Drop> {
     posts: Vec<Post<R>>,
     shown: Bell,
 }
 
+impl<R: Drop> Drop for Office<R> {
+    fn drop(self) {
+        let Office { posts, shown } = self;
+        drop(posts);
+        drop(shown);
+    }
+}
+
 /// The posts of all actors, in order, with a bell that every actor rings. Each part of a run has a share
 /// of them.
-#[derive(Drop)]
 pub struct Posts<R: Drop> {
     office: Arc<Office<R>, Global>,
+}
+
+impl<R: Drop> Drop for Posts<R> {
+    fn drop(self) {
+        let Posts { office } = self;
+        drop(office);
+    }
 }
 
 impl<R: Drop> Model for Posts<R> {

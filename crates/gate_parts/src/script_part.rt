@@ -38,7 +38,6 @@ pub struct ScriptPart<R: Drop> {
 }
 
 /// A script's part that has ended.
-#[derive(Drop)]
 pub struct ScriptDone {
     /// How it ended.
     pub ending: Ending<Result<(), SendRefused>>,
@@ -46,6 +45,36 @@ pub struct ScriptDone {
     pub passes: Vec<SendPass>,
     /// Its seat at the stop flag, which has set it after a fault.
     pub seat: StopSeat,
+}
+
+impl Drop for ScriptDone {
+    fn drop(self) {
+        let ScriptDone {
+            ending,
+            passes,
+            seat,
+        } = self;
+        drop(ending);
+        drop(passes);
+        drop(seat);
+    }
+}
+
+impl ScriptDone {
+    ghost use Rattle.std.specs.Prelude.{◌≡◌};
+
+    /// How it ended, and its passes. The seat is dropped.
+    pub fn into_parts(self) -> (Ending<Result<(), SendRefused>>, Vec<SendPass>)
+        ensures { (result.0 ≡ self.ending) × (result.1 ≡ self.passes) }
+    {
+        let ScriptDone {
+            ending,
+            passes,
+            seat,
+        } = self;
+        drop(seat);
+        (ending, passes)
+    }
 }
 
 // One call drops a part, so that no crate above proves the drop of what it holds again.

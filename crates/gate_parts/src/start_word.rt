@@ -10,9 +10,15 @@ use std::time::{Clock, Duration};
 const REST_MS: u64 = 1;
 
 /// The word by which all parts of a run begin. Each part has a share of it.
-#[derive(Drop)]
 pub struct StartWord {
     given: Arc<AtomicBool, Global>,
+}
+
+impl Drop for StartWord {
+    fn drop(self) {
+        let StartWord { given } = self;
+        drop(given);
+    }
 }
 
 impl StartWord {

@@ -13,10 +13,19 @@ use std::alloc::{AllocError, Global};
 use std::collections::VecDeque;
 
 /// The record after the first entries of a log, and how many of them were accepted.
-#[derive(Drop)]
 pub struct Front {
     pub record: Guild,
     pub accepted: u64,
+}
+
+impl Drop for Front {
+    fn drop(self) {
+        let Front {
+            record,
+            accepted: _,
+        } = self;
+        drop(record);
+    }
 }
 
 impl Front {

@@ -34,12 +34,23 @@ impl Rule<Item, u64> for History {
 
 /// A hub's log as it was published at some moment. It takes no room but that of three numbers, and a
 /// clause sees the log.
-#[derive(Drop)]
 pub struct Note {
     pub(crate) seen: Seen<Item, u64, History>,
     pub(crate) guild: Snowflake,
     pub(crate) len: u64,
     pub(crate) sealed: bool,
+}
+
+impl Drop for Note {
+    fn drop(self) {
+        let Note {
+            seen,
+            guild: _,
+            len: _,
+            sealed: _,
+        } = self;
+        drop(seen);
+    }
 }
 
 impl Model for Note {

@@ -20,12 +20,25 @@ pub const KEPT: usize = 4096;
 
 /// What readers look at: the record after the entries that are no longer kept, how many of these were
 /// accepted, the entries that are kept, and a note of the whole log.
-#[derive(Drop)]
 pub struct Shown {
     pub front: Front,
     pub entries: VecDeque<Entry>,
     pub note: Note,
     pub alloc: Global,
+}
+
+impl Drop for Shown {
+    fn drop(self) {
+        let Shown {
+            front,
+            entries,
+            note,
+            alloc: _,
+        } = self;
+        drop(front);
+        drop(entries);
+        drop(note);
+    }
 }
 
 /// What the writer does to both copies of what is shown.

@@ -5,7 +5,6 @@ use client_session::Client;
 use stop_flag::StopSeat;
 
 /// A client of a load that has ended.
-#[derive(Drop)]
 pub struct EndedClient {
     /// The client, with what it holds.
     pub client: Client,
@@ -13,4 +12,17 @@ pub struct EndedClient {
     pub seat: StopSeat,
     /// How it ended. After a fault its seat has set the flag.
     pub driven: Result<Driven, DriveFault>,
+}
+
+impl Drop for EndedClient {
+    fn drop(self) {
+        let EndedClient {
+            client,
+            seat,
+            driven,
+        } = self;
+        drop(client);
+        drop(seat);
+        drop(driven);
+    }
 }

@@ -22,12 +22,19 @@ const ID_STEP: u64 = 4_194_304;
 const LAST_NAME: &str = "end";
 
 /// What a client waits for: that it holds each of these guilds with this name.
-#[derive(Drop)]
 pub struct NameGoal {
     /// The ids of the guilds.
     pub guilds: Seq<Snowflake>,
     /// The name.
     pub name: Text,
+}
+
+impl Drop for NameGoal {
+    fn drop(self) {
+        let NameGoal { guilds, name } = self;
+        drop(guilds);
+        drop(name);
+    }
 }
 
 // Whether a view is open with this name.

@@ -30,12 +30,7 @@ impl<C: Drop, R: Wait + Copy + Drop> Ends<C, R> {
         ensures sorts { Sorts (Script done ∷ []) self.old self.new }
         ensures room { (more : ℕ) → HasRoom (more + 1) self.old → HasRoom more self.new }
     {
-        let ScriptDone {
-            ending,
-            passes,
-            seat,
-        } = done;
-        drop(seat);
+        let (ending, passes) = done.into_parts();
         add(&mut self.scripts, ScriptEnd { ending, passes });
     }
 

@@ -19,9 +19,15 @@ use worker_core::Input;
 const KEPT: usize = 4096;
 
 /// The latest entries of a log, seen as a list.
-#[derive(Drop)]
 pub struct Latest {
     entries: VecDeque<Edit>,
+}
+
+impl Drop for Latest {
+    fn drop(self) {
+        let Latest { entries } = self;
+        drop(entries);
+    }
 }
 
 impl Model for Latest {
@@ -34,11 +40,22 @@ impl Model for Latest {
 }
 
 /// A guild's log: the record after all entries, how many they are, and the latest of them.
-#[derive(Drop)]
 pub struct GuildLog {
     pub guild: Guild,
     pub count: usize,
     pub latest: Latest,
+}
+
+impl Drop for GuildLog {
+    fn drop(self) {
+        let GuildLog {
+            guild,
+            count: _,
+            latest,
+        } = self;
+        drop(guild);
+        drop(latest);
+    }
 }
 
 // Makes an accepted edit, which stays as it is.

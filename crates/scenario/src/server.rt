@@ -25,7 +25,6 @@ use worker_core::{Input, Output, StepFault};
 
 /// The bots and guilds of the head lines, the logs, the connection numbers that were used, and the
 /// workers, which exist from the first step on.
-#[derive(Drop)]
 pub struct Server {
     alloc: Global,
     bots: Seq<Bot>,
@@ -35,12 +34,42 @@ pub struct Server {
     slots: Vec<WorkerSlot>,
 }
 
+impl Drop for Server {
+    fn drop(self) {
+        let Server {
+            alloc: _,
+            bots,
+            guilds,
+            logs,
+            used,
+            slots,
+        } = self;
+        drop(bots);
+        drop(guilds);
+        drop(logs);
+        drop(used);
+        drop(slots);
+    }
+}
+
 /// The result of a line: why its edit is refused, if it is, the look, if it lags, and what the worker sends.
-#[derive(Drop)]
 pub struct Answer {
     pub refusal: Option<Verdict>,
     pub lagged: Option<Lagged>,
     pub outputs: Vec<Output>,
+}
+
+impl Drop for Answer {
+    fn drop(self) {
+        let Answer {
+            refusal,
+            lagged,
+            outputs,
+        } = self;
+        drop(refusal);
+        drop(lagged);
+        drop(outputs);
+    }
 }
 
 impl Answer {

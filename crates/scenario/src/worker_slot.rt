@@ -34,10 +34,17 @@ impl Keyed for Cursor {
 }
 
 /// A worker and its cursors.
-#[derive(Drop)]
 pub struct WorkerSlot {
     pub worker: Worker,
     pub cursors: ById<Cursor>,
+}
+
+impl Drop for WorkerSlot {
+    fn drop(self) {
+        let WorkerSlot { worker, cursors } = self;
+        drop(worker);
+        drop(cursors);
+    }
 }
 
 impl WorkerSlot {

@@ -13,8 +13,8 @@ use std::sync::Arc;
 /// have ended.
 #[derive(Drop)]
 pub struct StopFlag {
-    flags: Arc<Flags, Global>,
-    seat: FlagSeat,
+    pub(crate) flags: Arc<Flags, Global>,
+    pub(crate) seat: FlagSeat,
 }
 
 impl Model for StopFlag {
@@ -69,11 +69,6 @@ impl StopFlag {
         ensures joined { self.new ≡ after_join self.old seat }
         ensures fair { IsFair self.new.seats self.new.ended }
     {
-        let StopSeat {
-            flags: _,
-            seat,
-            number: _,
-        } = seat;
-        flags::settle(&self.flags, &mut self.seat, seat);
+        seat.join(self);
     }
 }

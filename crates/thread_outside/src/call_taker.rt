@@ -12,11 +12,19 @@ use std::marker::Model;
 use std::sync::{Arc, Wait};
 
 // The door's end of its queue, which keeps in mind the dials that have ended.
-#[derive(Drop)]
 pub(crate) struct CallTaker {
     calls: Arc<Calls, Global>,
     pass: CallPass,
     ended: Vec<bool>,
+}
+
+impl Drop for CallTaker {
+    fn drop(self) {
+        let CallTaker { calls, pass, ended } = self;
+        drop(calls);
+        drop(pass);
+        drop(ended);
+    }
 }
 
 impl Model for CallTaker {

@@ -13,11 +13,21 @@ use std::marker::Model;
 use std::sync::Wait;
 
 /// One of two ends. What is put at one is taken at the other, which another thread may hold.
-#[derive(Drop)]
 pub struct LaneEnd<R: Wait + Drop> {
     runtime: R,
     alloc: Global,
     ends: Ends,
+}
+
+impl<R: Wait + Drop> Drop for LaneEnd<R> {
+    fn drop(self) {
+        let LaneEnd {
+            runtime: _,
+            alloc: _,
+            ends,
+        } = self;
+        drop(ends);
+    }
 }
 
 impl<R: Wait + Drop> Model for LaneEnd<R> {

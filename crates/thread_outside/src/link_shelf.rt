@@ -8,12 +8,25 @@ use std::marker::Model;
 
 // What came over a link and was given, what went out, and its count of faults, with what lies below
 // it, where it lies on a shelf.
-#[derive(Drop)]
 pub(crate) struct Place {
     pub(crate) gave: Vec<Sending>,
     pub(crate) sent: Vec<Sending>,
     pub(crate) faults: u64,
     below: Option<Box<Place>>,
+}
+
+impl Drop for Place {
+    fn drop(self) {
+        let Place {
+            gave,
+            sent,
+            faults: _,
+            below,
+        } = self;
+        drop(gave);
+        drop(sent);
+        drop(below);
+    }
 }
 
 impl Place {
@@ -32,9 +45,15 @@ impl Place {
 }
 
 /// What is kept of the links that are back, in order.
-#[derive(Drop)]
 pub(crate) struct Shelf {
     top: Option<Box<Place>>,
+}
+
+impl Drop for Shelf {
+    fn drop(self) {
+        let Shelf { top } = self;
+        drop(top);
+    }
 }
 
 impl Model for Shelf {

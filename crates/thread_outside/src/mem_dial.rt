@@ -21,7 +21,6 @@ use std::collections::VecDeque;
 use std::marker::Model;
 
 /// A dial in memory. It tells the URLs, and what it keeps of the links that came back.
-#[derive(Drop)]
 pub struct MemDial<P: Peer + Drop> {
     alloc: Global,
     ends: VecDeque<LinkContent<P>>,
@@ -29,6 +28,23 @@ pub struct MemDial<P: Peer + Drop> {
     dry_run: u64,
     plan: FaultPlan,
     shelf: Shelf,
+}
+
+impl<P: Peer + Drop> Drop for MemDial<P> {
+    fn drop(self) {
+        let MemDial {
+            alloc: _,
+            ends,
+            urls,
+            dry_run: _,
+            plan,
+            shelf,
+        } = self;
+        drop(ends);
+        drop(urls);
+        drop(plan);
+        drop(shelf);
+    }
 }
 
 impl<P: Peer + Drop> Model for MemDial<P> {

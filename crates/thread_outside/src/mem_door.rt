@@ -22,7 +22,6 @@ pub const MOST_LINKS: u32 = 4294967295;
 
 /// A door in memory. It tells how many links it will give, whether somebody waits, and what it keeps
 /// of the links that came back.
-#[derive(Drop)]
 pub struct MemDoor<P: Peer + Drop> {
     alloc: Global,
     callers: VecDeque<Option<LinkContent<P>>>,
@@ -31,6 +30,23 @@ pub struct MemDoor<P: Peer + Drop> {
     ended: bool,
     plan: FaultPlan,
     shelf: Shelf,
+}
+
+impl<P: Peer + Drop> Drop for MemDoor<P> {
+    fn drop(self) {
+        let MemDoor {
+            alloc: _,
+            callers,
+            given: _,
+            most: _,
+            ended: _,
+            plan,
+            shelf,
+        } = self;
+        drop(callers);
+        drop(plan);
+        drop(shelf);
+    }
 }
 
 impl<P: Peer + Drop> Model for MemDoor<P> {

@@ -19,7 +19,6 @@ use std::alloc::{AllocError, Global};
 use std::marker::Model;
 
 /// A link in memory. It tells what it gave and what it was sent.
-#[derive(Drop)]
 pub struct MemLink<P: Peer + Drop> {
     alloc: Global,
     peer: P,
@@ -29,6 +28,26 @@ pub struct MemLink<P: Peer + Drop> {
     sent: Vec<Sending>,
     place: Box<Place>,
     plan: FaultPlan,
+}
+
+impl<P: Peer + Drop> Drop for MemLink<P> {
+    fn drop(self) {
+        let MemLink {
+            alloc: _,
+            peer,
+            own_code: _,
+            gave_text: _,
+            gave,
+            sent,
+            place,
+            plan,
+        } = self;
+        drop(peer);
+        drop(gave);
+        drop(sent);
+        drop(place);
+        drop(plan);
+    }
 }
 
 impl<P: Peer + Drop> Model for MemLink<P> {
@@ -77,10 +96,20 @@ impl<P: Peer + Drop> MemLink<P> {
     pub(crate) fn into_place(self) -> Box<Place>
         ensures { kept_at result.value ≡ kept_link self }
     {
-        let mut place = self.place;
-        place.faults = self.plan.faults();
-        place.gave = self.gave;
-        place.sent = self.sent;
+        let MemLink {
+            alloc: _,
+            peer,
+            own_code: _,
+            gave_text: _,
+            gave,
+            sent,
+            mut place,
+            plan,
+        } = self;
+        drop(peer);
+        place.faults = plan.faults();
+        place.gave = gave;
+        place.sent = sent;
         place
     }
 

@@ -27,12 +27,26 @@ use std::marker::Model;
 
 /// A network in memory: doors, which are given one after another whatever the ports, and a dial. It
 /// tells what was put back.
-#[derive(Drop)]
 pub struct MemNetwork<P: Peer + Drop> {
     doors: VecDeque<DoorContent<P>>,
     plan: FaultPlan,
     shelf: Shelf<MemDoor<P>>,
     dial: MemDial<P>,
+}
+
+impl<P: Peer + Drop> Drop for MemNetwork<P> {
+    fn drop(self) {
+        let MemNetwork {
+            doors,
+            plan,
+            shelf,
+            dial,
+        } = self;
+        drop(doors);
+        drop(plan);
+        drop(shelf);
+        drop(dial);
+    }
 }
 
 impl<P: Peer + Drop> Model for MemNetwork<P> {

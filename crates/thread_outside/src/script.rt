@@ -13,10 +13,16 @@ use std::marker::Model;
 
 /// What waits at each call of `recv`, in order. At a turn of `None` nothing waits, nor after the last
 /// turn. What goes out is heard by nobody.
-#[derive(Drop)]
 pub struct Script {
     alloc: Global,
     turns: VecDeque<Option<Sending>>,
+}
+
+impl Drop for Script {
+    fn drop(self) {
+        let Script { alloc: _, turns } = self;
+        drop(turns);
+    }
 }
 
 impl Model for Script {
