@@ -13,7 +13,7 @@ import threading
 
 os.chdir(os.path.join(os.path.dirname(os.path.abspath(__file__)), "../.."))
 STEPS, TRANSCRIPT, PAYLOADS, LOAD = "docs/STEPS.md", "docs/TRANSCRIPT.md", "docs/PAYLOADS.md", "docs/LOAD.md"
-SERVE, CLIENT, README = "docs/SERVE.md", "docs/CLIENT.md", "README.md"
+SERVE, CLIENT, CLAIMS, README = "docs/SERVE.md", "docs/CLIENT.md", "docs/CLAIMS.md", "README.md"
 # The pages that bot authors read.
 FOR_AUTHORS = [README, STEPS, TRANSCRIPT, PAYLOADS, "docs/COOKBOOK.md", "examples/README.md", SERVE, CLIENT, "docs/CLIENTS.md", LOAD]
 MOST_WORDS = 1200
@@ -325,6 +325,21 @@ def compare_definitions():
         named = file == "Lib.antt" or any(re.search(rf"\b{file[:-5]}\b", line) and (crate in line or file[:-5] + "`" in line) for line in page)
         compare("files of specs", "docs/DEFINITIONS.md", 1, path, path if named else "not named there")
 
+def compare_claims():
+    """Each clause and definition that carries a claim stands in a file that its row names; each law and each clause of README has a row."""
+    together = []
+    for line, (_, names, where) in rows(CLAIMS, "claim"):
+        paths = re.findall(r"`([\w./]+)`", where)
+        source = text_of(*(path if os.path.exists(path) else "crates/" + path for path in paths))
+        for name in re.findall(r"`(\w+)`", names) if any(path.endswith((".rt", ".antt")) for path in paths) else ():
+            known = re.search(rf"\b(?:fn|ensures|record|data) {name}\b|^\s*(?:\w+ )*{name} :|^    {name}\(", source, re.M)
+            compare("claims", CLAIMS, line, name, name if known else f"not in {where}")
+        together.append(set(re.findall(r"`(\w+)`", names)))
+    calls = [(call.strip("`").split("::")[-1], name) for _, (_, call, says) in rows(README, "family") for name in re.findall(r"`(\w+)`", says.split(":")[0])]
+    laws = [("TheLaw", name) for _, (cell, *_) in rows(README, "field") for name in re.findall(r"\w+", cell)]
+    for pair in calls + laws:
+        compare("carried claims", CLAIMS, 1, pair, pair if any(set(pair) <= names for names in together) else "no row")
+
 def compare_crates():
     """Each crate has a README, which names no function that the crate does not have, and is on the page of layers."""
     layers = text_of("docs/ARCHITECTURE.md")
@@ -393,7 +408,7 @@ def play_examples(gate):
         compare("causes", TRANSCRIPT, 1, shown["cause"](text_of("examples/first.jsonl").encode().splitlines(True), 4, gate), 9)
 
 for part in (compare_readme, compare_steps_and_edits, compare_kinds, compare_frames, compare_words, compare_numbers, compare_tables, compare_payloads,
-             compare_quotes, compare_definitions, compare_crates, compare_paths, lambda: play_examples(program())):
+             compare_quotes, compare_definitions, compare_claims, compare_crates, compare_paths, lambda: play_examples(program())):
     part()
 print(*(f"docs: {failure[:900]}\n" for failure in failures), sep="", end="")
 print(f"docs: {counts.total()} compared: " + ", ".join(f"{count} {what}" for what, count in counts.items()) + ("" if counts["causes"] else "; no built program at hand: nothing was played"))
