@@ -30,13 +30,12 @@ use Rattle.world_law.proofs.Folds.{dispatches_told}
 use Rattle.world_law.proofs.Lists.{append_none, map_join}
 use Rattle.world_law.proofs.Sends.{chunk_dispatches}
 use Rattle.two_ends.specs.Flights.{Flight, Text, Close, said, flights}
-use Rattle.two_ends.specs.TwoEnds.{IsAmong}
+use Rattle.two_ends.proofs.Among.{IsAmong, off_among, among_here}
 use Rattle.two_ends.proofs.Minds.{Mind, all_minded, Grows, SessionKeeps, WorkerKeeps, AtEnds}
 use Rattle.two_ends.proofs.Growing.{entered_keeps, looked_grows}
 use Rattle.two_ends.proofs.Steps.{flights_join}
-use Rattle.two_ends.proofs.ElsewhereStays.{among_here, off_alone, alone_split, IsOne, one_or_off, IsFound, found_split, none_changed, differs, on_is, Stays, same_stays, stays_on, off_stays, each_stays, map_stays, more_stays, other_stays, released_own, ending_own, gone_stays, resumed_stays, IsPlain, plainly, none_if, closes_flights, older_flights, texts_off, wishes_off, voice_off}
+use Rattle.two_ends.proofs.ElsewhereStays.{off_alone, alone_split, IsOne, one_or_off, IsFound, found_split, none_changed, differs, on_is, Stays, same_stays, stays_on, off_stays, each_stays, map_stays, more_stays, other_stays, released_own, ending_own, gone_stays, resumed_stays, IsPlain, plainly, none_if, closes_flights, older_flights, texts_off, wishes_off, voice_off}
 use Rattle.two_ends.proofs.ElsewhereTurns.{sends_off, sends_on, Turn, plain_off, turn_off, plain_reaches, turn_reaches, reaches_join}
-use Rattle.two_ends.proofs.Places.{off_among}
 pub use Rattle.two_ends.proofs.ElsewhereTurns.{IsShut, IsLate, AreLate, Reaches}
 
 -- an input is no opening and no frame of a connection

@@ -21,23 +21,10 @@ use Rattle.world_law.specs.Wants.{change_first, wished, presence_wishes, voice_w
 use Rattle.world_law.specs.Frames.{older_sends}
 use Rattle.world_law.specs.Sends.{IsOff, AreOff, IsAlone}
 use Rattle.two_ends.specs.Flights.{Flight, Text, Close, said, flights}
-use Rattle.two_ends.specs.TwoEnds.{IsAmong}
+use Rattle.two_ends.proofs.Among.{IsAmong, off_among, among_here, among_part}
 use Rattle.two_ends.proofs.Steps.{flights_join}
-use Rattle.two_ends.proofs.Places.{off_among}
 
 -- ---- lists of sessions
-
-pub among_here : (x : Session Sent) (front back : List (Session Sent)) → IsAmong x (front ++ x ∷ back)
-among_here x [] back = inl refl
-among_here x (y ∷ front) back = inr (among_here x front back)
-
-pub among_part : (x : Session Sent) (xs ys : List (Session Sent)) → IsAmong x (xs ++ ys) → IsAmong x xs ⊎ IsAmong x ys
-among_part x [] ys among = inr among
-among_part x (y ∷ xs) ys (inl same) = inl (inl same)
-among_part x (y ∷ xs) ys (inr later) = elim (among_part x xs ys later) [
-  | inl here ↦ inl (inr here)
-  | inr there ↦ inr there
-]
 
 off_each : (conn : ℕ) (xs : List (Session Sent)) → ((x : Session Sent) → IsAmong x xs → IsOff conn x) → AreOff conn xs
 off_each conn [] each = tt

@@ -12,11 +12,10 @@ use Rattle.world_law.specs.Sent.{Sent, dispatch_of, dispatches}
 use Rattle.world_law.specs.Sends.{AreOff}
 use Rattle.world_law.proofs.Lists.{all_at, append_none, map_join}
 use Rattle.two_ends.specs.Flights.{Flight, Text, Close, flights}
-use Rattle.two_ends.specs.TwoEnds.{IsAmong}
+use Rattle.two_ends.proofs.Among.{IsAmong, off_among, among_here, among_part}
 use Rattle.two_ends.proofs.Minds.{Item, Said, Told, Shut, flown, all_flown, told_items, Mind, all_minded, Grows, Grown, SessionKeeps, At, AtEnds, Good}
 use Rattle.two_ends.proofs.Steps.{flown_told, good_grown, good_join, minded_join, told_good}
-use Rattle.two_ends.proofs.ElsewhereStays.{among_here, among_part, on_is, off_stays, IsPlain, none_if}
-use Rattle.two_ends.proofs.Places.{off_among}
+use Rattle.two_ends.proofs.ElsewhereStays.{on_is, off_stays, IsPlain, none_if}
 
 -- a connection that no session has, and nothing but closes on its way to it
 pub record IsShut (conn : ℕ) (xs : List (Session Sent)) (fs : List Flight) : Type 0 where

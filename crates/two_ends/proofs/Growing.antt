@@ -26,7 +26,7 @@ use Rattle.world_law.specs.Model.{Logs, Worker, in_model, cursors, seen_with}
 use Rattle.world_law.proofs.Lists.{append_none, map_join}
 use Rattle.world_law.proofs.Folds.{dispatches_told}
 use Rattle.world_law.proofs.Sends.{chunk_dispatches}
-use Rattle.two_ends.specs.TwoEnds.{IsAmong}
+use Rattle.two_ends.proofs.Among.{IsAmong}
 use Rattle.two_ends.proofs.Minds.{Grows, Grown, Keeps, SessionKeeps, WorkerKeeps}
 use Rattle.two_ends.proofs.Kept.{IsLater, AreLater, all_keep_later, due_later, answer_later, first_keep}
 

@@ -21,11 +21,10 @@ use Rattle.world_law.specs.Sent.{Sent, dispatch_of, dispatches}
 use Rattle.world_law.specs.Model.{Worker}
 use Rattle.world_law.proofs.Lists.{all_at, append_none}
 use Rattle.two_ends.specs.Flights.{ReadsBack, SessionFits, Fits, said, sent_texts}
-use Rattle.two_ends.specs.TwoEnds.{IsAmong}
+use Rattle.two_ends.proofs.Among.{IsAmong, all_among}
 use Rattle.two_ends.proofs.Minds.{Item, Said, Told as ToldItem, Shut, Mind, minded, Known, Knows, Fine}
 use Rattle.two_ends.proofs.Stages.{IsStill, AreStill, IsLater, AreBeats, IsOwn, AreOwn, IsFirst, Prompts, Asks, Has, Stage, still_minded, still_later}
 use Rattle.two_ends.proofs.Readings.{told_read, said_read, resumed_read}
-use Rattle.two_ends.proofs.Places.{all_among}
 
 -- what a client has in mind
 abbrev pub mind : Client → Mind

@@ -31,14 +31,15 @@ use Rattle.world_law.specs.Sends.{AreOff}
 use Rattle.world_law.specs.Sent.{Sent, dispatches}
 use Rattle.world_law.proofs.Alone.{IsSound}
 use Rattle.world_law.proofs.GoesOn.{each_resume_holds}
+use Rattle.world_law.proofs.Resumes.{found_meets}
 use Rattle.world_law.proofs.Workers.{Follows}
 use Rattle.two_ends.specs.Flights.{ReadsBack}
-use Rattle.two_ends.specs.TwoEnds.{IsAmong}
+use Rattle.two_ends.proofs.Among.{IsAmong, all_among, found_among, among_here}
 use Rattle.two_ends.proofs.Minds.{Item, Mind, SessionKeeps, WorkerKeeps, Known, Knows}
 use Rattle.two_ends.proofs.Stages.{AreStill, IsBeat, AreBeats, IsFirst, Asks, Stage}
-use Rattle.two_ends.proofs.Arriving.{last_among, made_by, gives_by, Leaves, plain_leaves, beat_plain}
+use Rattle.two_ends.proofs.Arriving.{made_by, gives_by, Leaves, plain_leaves, beat_plain}
 use Rattle.two_ends.proofs.Opening.{spent_leaves, denied_leaves, begins_leaves, goes_on_leaves}
-use Rattle.two_ends.proofs.Places.{same_number, same_session, among_below, found_among, all_among}
+use Rattle.two_ends.proofs.Places.{same_number, same_session, among_below}
 
 -- ---- the first text on its way to the worker is a heartbeat, or the client's first frame
 
@@ -87,9 +88,9 @@ both_true false b e = absurd (cc e)
 pub named_session : (w : Worker) (id : List ℕ) (x : Session Sent) → session_named id w.core ≡ Some x
     → IsAmong x w.core.sessions × ((is_live x.condition ≡ true) × (session_id w.core.worker x.number ≡ id))
 named_session w id x named =
-    let found = found_among (λ (y : Session Sent). is_live y.condition && bytes_eq (session_id w.core.worker y.number) id) w.core.sessions x named in
-    let both = both_true (is_live x.condition) (bytes_eq (session_id w.core.worker x.number) id) found.1 in
-    (found.0, (both.0, (bytes_eq-Decides (session_id w.core.worker x.number) id).0 both.1))
+    let is_named : Session Sent → Bool = λ y. is_live y.condition && bytes_eq (session_id w.core.worker y.number) id in
+    let both = both_true (is_live x.condition) (bytes_eq (session_id w.core.worker x.number) id) (found_meets is_named w.core.sessions x named) in
+    (found_among is_named w.core.sessions x named, (both.0, (bytes_eq-Decides (session_id w.core.worker x.number) id).0 both.1))
 
 none_found : (conn : ℕ) (xs : List (Session Sent)) → AreOff conn xs → find (λ (x : Session Sent). is_on conn x.condition) xs ≡ None
 none_found conn [] off = refl
@@ -124,7 +125,7 @@ module _ (text : ℕ → Dispatch → List ℕ) (w : Worker) (conn : ℕ) (t : L
             let kept : WorkerKeeps (made_by text conn w (Begins bot (viewer_of bot i))) = subst (λ (move : Move). WorkerKeeps (made_by text conn w move)) moves keeps in
             subst LeftBy (sym moves)
             (begins_leaves text intents conn w m is later bot (viewer_of bot i) asked off still beats knows sound few
-            (all_among (SessionKeeps w.core.worker) _ _ kept (last_among _ w.core.sessions)))
+            (all_among (SessionKeeps w.core.worker) _ _ kept (among_here _ w.core.sessions [])))
 
         by_reading : (r : Result AFrame FrameFault) → ((read : AFrame) → r ≡ Ok read → read ≡ frame.Identify i) → move_at (in_model text) w conn t ≡ read_move (replay text) w.core None r → Left
         by_reading (Err fault) reads moves = spent_by (ClosesWith (fault_code fault)) moves (inr (fault_code fault, refl))

@@ -28,12 +28,12 @@ use Rattle.world_law.proofs.Folds.{dispatches_told, same_id}
 use Rattle.world_law.proofs.Lists.{append_none, map_join}
 use Rattle.world_law.proofs.Workers.{Follows}
 use Rattle.two_ends.specs.Flights.{Text, Close, said, flights}
-use Rattle.two_ends.specs.TwoEnds.{IsAmong}
+use Rattle.two_ends.proofs.Among.{IsAmong, all_among, off_among, found_among, among_here, among_part, one_on}
 use Rattle.two_ends.proofs.Minds.{Item, Said, Told, Shut, flown, all_flown, told_items, Mind, with_dispatch, minded, all_minded, SessionKeeps, WorkerKeeps, At, Known, Knows, IsGreeting, Comes, GoesOn, Good}
 use Rattle.two_ends.proofs.Steps.{flights_join, flown_told, minded_join, good_join, told_good, at_first, at_resumed}
 use Rattle.two_ends.proofs.Stages.{AreStill, AreLater, still_join, later_join, still_later, all_still_minded, AreBeats, Stage, off_ends}
-use Rattle.two_ends.proofs.Places.{same_number, among_below, found_among, all_among, off_among}
-use Rattle.two_ends.proofs.Arriving.{released_off, last_among, among_join, one_on, session_still, made_by, gives_by, closed_flies, Leaves}
+use Rattle.two_ends.proofs.Places.{same_number, among_below}
+use Rattle.two_ends.proofs.Arriving.{released_off, session_still, made_by, gives_by, closed_flies, Leaves}
 
 told_later : (n : ℕ) (ds : List Dispatch) → AreLater (told_items n ds)
 told_later n [] = tt
@@ -102,7 +102,7 @@ module _ (text : ℕ → Dispatch → List ℕ) (intents conn : ℕ) where
         let worker : ℕ = w.core.worker in
         let xs : List (Session Sent) = w.core.sessions ++ begins ∷ [] in
         let same : all_minded m is ≡ m = all_still_minded m is still in
-        let here : IsAmong begins xs = last_among begins w.core.sessions in
+        let here : IsAmong begins xs = among_here begins w.core.sessions [] in
         let greeting : IsGreeting intents worker m begins [] (Ready greeted) = record {
           first = refl;
           ready = greeted;
@@ -127,10 +127,13 @@ module _ (text : ℕ → Dispatch → List ℕ) (intents conn : ℕ) where
           are = flown_told text 0 (Ready greeted ∷ greetings) conn;
           good = subst (λ (n : Mind). Good intents worker xs n items) (sym same) (comes, rest.0);
           stage = inr (inr (record {
-            ends = λ y among on. elim (among_join begins y w.core.sessions among) [
+            ends = λ y among on. elim (among_part y w.core.sessions (begins ∷ []) among) [
               | inl before ↦ absurd (true≢false (sym on ∙ off_among conn y w.core.sessions off before))
-              | inr last ↦ subst (λ (y : Session Sent). At intents worker (all_minded m (is ++ items)) y (dispatches y.sent)) (sym last)
-                  (subst (λ (n : Mind). At intents worker n begins (dispatches begins.sent)) (sym (minded_join m is items ∙ ap (λ n. all_minded n items) same)) end)
+              | inr here ↦ elim here [
+                | inl last ↦ subst (λ (y : Session Sent). At intents worker (all_minded m (is ++ items)) y (dispatches y.sent)) (sym last)
+                    (subst (λ (n : Mind). At intents worker n begins (dispatches begins.sent)) (sym (minded_join m is items ∙ ap (λ n. all_minded n items) same)) end)
+                | inr none ↦ absurd none
+              ]
             ];
             late = later_join is items (still_later is still) (told_later 0 (Ready greeted ∷ greetings));
             beats = beats;
@@ -178,14 +181,14 @@ module _ (text : ℕ → Dispatch → List ℕ) (intents conn : ℕ) where
         let worker : ℕ = w.core.worker in
         let xs : List (Session Sent) = new.core.sessions in
         let here : Session Sent = record x { condition = Attached conn } in
-        let found = found_among (is_numbered x.number) xs here goes.here in
+        let found : IsAmong here xs = found_among (is_numbered x.number) xs here goes.here in
         let front : List Dispatch = known.front in
         let back : List Dispatch = known.back in
         let all : dispatches x.sent ≡ front ++ back = ap (λ (x : Session Sent). dispatches x.sent) (sym own) ∙ known.split in
         let at : At intents worker m x front = subst (λ (x : Session Sent). At intents worker m x front) own known.at in
         let first : At intents worker m here front = record { session = at.session; is = at.is; id = at.id; number = at.number; intents = at.intents; folds = at.folds } in
-        let own_keeps : SessionKeeps worker here = subst (λ n. SessionKeeps n here) worker_same (all_among (SessionKeeps new.core.worker) here xs keeps found.0) in
-        let told = told_good intents worker xs here front back [] found.0 (all ∙ ap (λ ds. front ++ ds) (sym (append_none back))) own_keeps m first in
+        let own_keeps : SessionKeeps worker here = subst (λ n. SessionKeeps n here) worker_same (all_among (SessionKeeps new.core.worker) here xs keeps found) in
+        let told = told_good intents worker xs here front back [] found (all ∙ ap (λ ds. front ++ ds) (sym (append_none back))) own_keeps m first in
         let rest : drop seq (dispatches x.sent) ≡ back = ap (λ n. drop n (dispatches x.sent)) number ∙ (ap (drop (length front)) all ∙ drop-append_seam front back) in
         let older : List Item = older_items (attached x.condition) in
         let texts : List Item = told_items (length front) back in
@@ -197,7 +200,7 @@ module _ (text : ℕ → Dispatch → List ℕ) (intents conn : ℕ) where
         (session_still w x follows (subst (λ (x : Session Sent). IsAmong x w.core.sessions) own known.among) g)) in
         let go : GoesOn intents worker xs held last = record {
           session = here;
-          among = found.0;
+          among = found;
           front = front ++ back;
           back = [];
           split = all ∙ sym (append_none (front ++ back));
@@ -230,7 +233,7 @@ module _ (text : ℕ → Dispatch → List ℕ) (intents conn : ℕ) where
           good = subst (λ (n : Mind). Good intents worker xs n items) (sym same) good;
           stage = inr (inr (record {
             ends = λ y among on.
-                let one : y ≡ here = one_on conn xs here y (sound.alone conn) found.0 among (same_id conn) on in
+                let one : y ≡ here = one_on conn xs here y (sound.alone conn) found among (same_id conn) on in
                 subst (λ (y : Session Sent). At intents worker (all_minded m (is ++ items)) y (dispatches y.sent)) (sym one)
                 (subst (λ (n : Mind). At intents worker n here (dispatches here.sent)) (sym (minded_join m is items ∙ (ap (λ n. all_minded n items) same ∙ minds))) ended);
             late = later_join is items (still_later is still) (later_join older (texts ++ Said (Resumed last) ∷ []) (still_later older (older_still (attached x.condition)))

@@ -10,20 +10,19 @@ use Rattle.std.proofs.Math.Seq.{drop-append_seam}
 use Rattle.dispatch_types.specs.declared.dispatch.Dispatch.{Dispatch}
 use Rattle.edit_apply.specs.declared.Edit.{Edit}
 use Rattle.session_core.specs.declared.bot.Bot.{Bot}
-use Rattle.session_core.specs.State.{Session, is_on}
+use Rattle.session_core.specs.State.{Session}
 use Rattle.session_core.specs.Resume.{session_id}
 use Rattle.world_law.specs.TheLaw.{IsOf}
 use Rattle.world_law.specs.Inputs.{Input, Look, Rebase, Open, Frame, Lost, Closed, Tick, taken}
 use Rattle.world_law.specs.World.{World, Step, Edits, Looks, Opens, Frames, Loses, Leaves, Ticks, at_worker, first_of, first_world, lags, look_at, stepped}
 use Rattle.world_law.specs.Model.{Seen, Worker, in_model, first_worker, seen_with}
 use Rattle.world_law.specs.Sent.{Sent}
-use Rattle.world_law.specs.Sends.{AreOff}
 use Rattle.world_law.proofs.Lists.{append_none}
 use Rattle.world_law.proofs.Alone.{Ascend}
 use Rattle.world_law.proofs.Workers.{SessionMeets}
 use Rattle.world_law.proofs.Worlds.{IsFront, Stays, taken_stays}
 use Rattle.two_ends.specs.Ends.{is_worker, worker_at, input_if, input_of}
-use Rattle.two_ends.specs.TwoEnds.{IsAmong}
+use Rattle.two_ends.proofs.Among.{IsAmong}
 
 -- ---- ids
 
@@ -59,25 +58,6 @@ same_session x y above made (z ∷ zs) up (inr a) (inl b) e =
     let head : y.number ≡ z.number = ap (λ (s : Session Sent). s.number) b in
     absurd (omega (arith, head, e, (among_below x z.number made zs up.1 a).0))
 same_session x y above made (z ∷ zs) up (inr a) (inr b) e = same_session x y z.number made zs up.1 a b e
-
-pub found_among : (p : Session Sent → Bool) (xs : List (Session Sent)) (x : Session Sent) → find p xs ≡ Some x → IsAmong x xs × (p x ≡ true)
-found_among p [] x found = absurd (cc found)
-found_among p (y ∷ ys) x found = by_test (p y) refl found (found_among p ys x)
-  where
-    by_test : (b : Bool) → p y ≡ b → (if b then Some y else find p ys) ≡ Some x → (find p ys ≡ Some x → IsAmong x ys × (p x ≡ true))
-        → IsAmong x (y ∷ ys) × (p x ≡ true)
-    by_test true passes here later = let same : y ≡ x = cc in (inl (sym same), subst (λ (z : Session Sent). p z ≡ true) same passes)
-    by_test false fails there later = let rest = later there in (inr rest.0, rest.1)
-
-pub off_among : (conn : ℕ) (x : Session Sent) (xs : List (Session Sent)) → AreOff conn xs → IsAmong x xs → is_on conn x.condition ≡ false
-off_among conn x [] off is = absurd is
-off_among conn x (y ∷ ys) off (inl same) = subst (λ (z : Session Sent). is_on conn z.condition ≡ false) (sym same) off.0
-off_among conn x (y ∷ ys) off (inr later) = off_among conn x ys off.1 later
-
-pub all_among : (P : Session Sent → Type 0) (x : Session Sent) (xs : List (Session Sent)) → All P xs → IsAmong x xs → P x
-all_among P x [] all is = absurd is
-all_among P x (y ∷ ys) all (inl same) = subst P (sym same) (All-head P y ys all)
-all_among P x (y ∷ ys) all (inr later) = all_among P x ys (All-tail P y ys all) later
 
 -- ---- the worker that is found
 

@@ -10,10 +10,9 @@ use Rattle.client_session.specs.declared.session.Session.{Session as ClientSessi
 use Rattle.client_session.specs.Table.{identify, resume, frame_text}
 use Rattle.world_law.specs.Sends.{AreOff}
 use Rattle.world_law.specs.Sent.{Sent, dispatches}
-use Rattle.two_ends.specs.TwoEnds.{IsAmong}
+use Rattle.two_ends.proofs.Among.{IsAmong, off_among}
 use Rattle.two_ends.proofs.Minds.{Item, Said, Told, Shut, Mind, all_minded, minded, AtEnds, Grows, Grown}
 use Rattle.two_ends.proofs.Growing.{grown_among}
-use Rattle.two_ends.proofs.Places.{off_among}
 
 -- ---- items
 

@@ -17,10 +17,9 @@ use Rattle.world_law.specs.Sent.{Sent, dispatches}
 use Rattle.world_law.proofs.Folds.{fold_join, same_id}
 use Rattle.world_law.proofs.Lists.{all_at, append_none}
 use Rattle.two_ends.specs.Flights.{Text, flight, flights}
-use Rattle.two_ends.specs.TwoEnds.{IsAmong}
+use Rattle.two_ends.proofs.Among.{IsAmong, all_among}
 use Rattle.two_ends.proofs.Minds.{Item, Said, Told, Shut, all_flown, told_items, Mind, with_dispatch, minded, all_minded, Grows, Grown, Keeps, SessionKeeps, At, Known, Knows, IsGreeting, Comes, Fine, Good}
 use Rattle.two_ends.proofs.Growing.{grown_among}
-use Rattle.two_ends.proofs.Places.{all_among}
 
 -- ---- lists
 

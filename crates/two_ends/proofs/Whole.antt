@@ -24,6 +24,7 @@ use Rattle.two_ends.specs.Flights.{Flight, Text, Close, flights, ReadsBack, Fits
 use Rattle.two_ends.specs.Ends.{Ends, first_ends, worker_at, input_if, input_of, outputs_of, given_by, flights_of, moved}
 use Rattle.two_ends.specs.Events.{Event, Hears, Arrives, Cuts, Learns, Dials, Beats, Happens, IsHeard, IsElsewhere, IsUnused, WorkerFits, MayHappen, MayAllHappen, heard, arrived, after, after_all}
 use Rattle.two_ends.specs.TwoEnds.{SessionIsHeld, EndsHold, TwoEnds}
+use Rattle.two_ends.proofs.Among.{among_contains, all_among}
 use Rattle.two_ends.proofs.Minds.{SessionKeeps, Known}
 use Rattle.two_ends.proofs.Growing.{taken_worker}
 use Rattle.two_ends.proofs.Steps.{Advances, advances_same}
@@ -32,7 +33,7 @@ use Rattle.two_ends.proofs.Stages.{IsOwn}
 use Rattle.two_ends.proofs.Hearing.{mind, asks_mind, loses_mind}
 use Rattle.two_ends.proofs.Elsewhere.{IsElse}
 use Rattle.two_ends.proofs.Lasting.{Holds, flown_to, any_lasts, text_lasts, open_lasts, hear_lasts, hear_advances, beat_lasts, learn_lasts, cut_lasts}
-use Rattle.two_ends.proofs.Places.{after_input, worker_stepped, worker_number, found_stays, first_worker_at, stays_first, stays_stepped, all_among}
+use Rattle.two_ends.proofs.Places.{after_input, worker_stepped, worker_number, found_stays, first_worker_at, stays_first, stays_stepped}
 
 -- ---- which inputs a step gives
 
@@ -237,7 +238,7 @@ module _ (text : ℕ → Dispatch → List ℕ) (back : ReadsBack text) where
         let front : take s.number (dispatches known.session.sent) ≡ known.front = ap (λ n. take n (dispatches known.session.sent)) number ∙ (ap (take (length known.front)) known.split ∙ front_taken known.front known.back) in
         record {
           session = known.session;
-          among = known.among;
+          among = among_contains known.session w.core.sessions known.among;
           id = ap (λ (s : ClientSession). s.id) (sym same) ∙ (known.at.id ∙ ap (λ n. session_id n known.session.number) (sym old.number));
           intents = known.at.intents;
           within = omega (arith, number, ap length known.split, length-append known.front known.back);
