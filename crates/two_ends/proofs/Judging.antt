@@ -3,7 +3,7 @@ use Rattle.std.proofs.Common.{◌≡◌, ℕ, ◌+◌, ◌-◌, ◌<◌, ◌≤�
 use Rattle.std.specs.Prelude.{◌&&◌, nat_lt, is_some, option_map}
 use Rattle.std.specs.List.{find}
 use Rattle.std.specs.Str.{bytes_eq}
-use Rattle.std.proofs.lemmas.Bool.{true≢false}
+use Rattle.std.proofs.lemmas.Bool.{true≢false, and_parts}
 use Rattle.std.proofs.lemmas.Bool.Decides.{nat_tests}
 use Rattle.std.proofs.lemmas.List.{length-append}
 use Rattle.std.proofs.lemmas.Option.{same_Some}
@@ -80,16 +80,12 @@ resume_holds : (text : ℕ → Dispatch → List ℕ) (w : Worker) (conn : ℕ) 
 unfolding EachResumeHolds
 resume_holds text w conn received r reaches = each_resume_holds text w conn received r reaches
 
-both_true : (a b : Bool) → (a && b) ≡ true → (a ≡ true) × (b ≡ true)
-both_true true b e = (refl, e)
-both_true false b e = absurd (cc e)
-
 -- the live session of an id
 pub named_session : (w : Worker) (id : List ℕ) (x : Session Sent) → session_named id w.core ≡ Some x
     → IsAmong x w.core.sessions × ((is_live x.condition ≡ true) × (session_id w.core.worker x.number ≡ id))
 named_session w id x named =
     let is_named : Session Sent → Bool = λ y. is_live y.condition && bytes_eq (session_id w.core.worker y.number) id in
-    let both = both_true (is_live x.condition) (bytes_eq (session_id w.core.worker x.number) id) (found_meets is_named w.core.sessions x named) in
+    let both = and_parts (is_live x.condition) (bytes_eq (session_id w.core.worker x.number) id) (found_meets is_named w.core.sessions x named) in
     (found_among is_named w.core.sessions x named, (both.0, (bytes_eq-Decides (session_id w.core.worker x.number) id).0 both.1))
 
 none_found : (conn : ℕ) (xs : List (Session Sent)) → AreOff conn xs → find (λ (x : Session Sent). is_on conn x.condition) xs ≡ None

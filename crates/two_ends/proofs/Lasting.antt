@@ -3,6 +3,7 @@ use Rattle.std.proofs.Common.{◌≡◌, ℕ, zero, suc, ◌<◌, ◌^◌, List,
 use Rattle.std.specs.Prelude.{All, nat_lt}
 use Rattle.std.proofs.lemmas.Bool.{true≢false}
 use Rattle.std.proofs.lemmas.Option.{same_Some}
+use Rattle.std.proofs.lemmas.List.{take-map}
 use Rattle.dispatch_types.specs.declared.dispatch.Dispatch.{Dispatch}
 use Rattle.gateway_frames.specs.declared.out.Out.TheVariants as out
 use Rattle.session_core.specs.State.{Session, has_connection, with_connection}
@@ -400,11 +401,6 @@ module _ (text : ℕ → Dispatch → List ℕ) (worker : ℕ) (conn : Option �
   }
 
   -- the link is cut
-  taken_flown : (n : ℕ) (is : List Item) → take n (all_flown text is) ≡ all_flown text (take n is)
-  taken_flown zero is = refl
-  taken_flown (suc n) [] = refl
-  taken_flown (suc n) (i ∷ is) = ap (λ fs. flown text i ∷ fs) (taken_flown n is)
-
   own_taken : (n : ℕ) (texts : List (List ℕ)) → AreOwn worker w.core.sessions texts → AreOwn worker w.core.sessions (take n texts)
   own_taken zero texts own = tt
   own_taken (suc n) [] own = tt
@@ -415,7 +411,7 @@ module _ (text : ℕ → Dispatch → List ℕ) (worker : ℕ) (conn : Option �
   cut_lasts c whole to_client to_worker m n old = record {
     number = old.number;
     items = take m old.items;
-    are = ap (take m) old.are ∙ taken_flown m old.items;
+    are = ap (take m) old.are ∙ take-map (flown text) m old.items;
     good = good_take c.intents worker w.core.sessions (mind c) m old.items old.good;
     knows = old.knows;
     own = own_taken n to_worker old.own;

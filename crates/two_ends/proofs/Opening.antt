@@ -4,6 +4,7 @@ use Rattle.std.specs.Prelude.{◌==◌, flat_map}
 use Rattle.std.proofs.Math.Seq.{drop-append_seam}
 use Rattle.std.proofs.lemmas.Bool.{true≢false}
 use Rattle.std.proofs.lemmas.Option.{same_Some}
+use Rattle.std.proofs.lemmas.Grind.{flat_map-append}
 use Rattle.dispatch_types.specs.declared.dispatch.Dispatch.{Dispatch}
 use Rattle.dispatch_types.specs.declared.dispatch.Dispatch.TheVariants.{Ready}
 use Rattle.dispatch_types.specs.declared.ready.Ready.{Ready as Greeted}
@@ -27,10 +28,10 @@ use Rattle.world_law.proofs.Alone.{IsSound}
 use Rattle.world_law.proofs.Folds.{dispatches_told, same_id}
 use Rattle.world_law.proofs.Lists.{append_none, map_join}
 use Rattle.world_law.proofs.Workers.{Follows}
-use Rattle.two_ends.specs.Flights.{Text, Close, said, flights}
+use Rattle.two_ends.specs.Flights.{Text, Close, said, flights, flight}
 use Rattle.two_ends.proofs.Among.{IsAmong, all_among, off_among, found_among, among_here, among_part, one_on}
 use Rattle.two_ends.proofs.Minds.{Item, Said, Told, Shut, flown, all_flown, told_items, Mind, with_dispatch, minded, all_minded, SessionKeeps, WorkerKeeps, At, Known, Knows, IsGreeting, Comes, GoesOn, Good}
-use Rattle.two_ends.proofs.Steps.{flights_join, flown_told, minded_join, good_join, told_good, at_first, at_resumed}
+use Rattle.two_ends.proofs.Steps.{flown_told, minded_join, good_join, told_good, at_first, at_resumed}
 use Rattle.two_ends.proofs.Stages.{AreStill, AreLater, still_join, later_join, still_later, all_still_minded, AreBeats, Stage, off_ends}
 use Rattle.two_ends.proofs.Places.{same_number, among_below}
 use Rattle.two_ends.proofs.Arriving.{released_off, session_still, made_by, gives_by, closed_flies, Leaves}
@@ -223,9 +224,9 @@ module _ (text : ℕ → Dispatch → List ℕ) (intents conn : ℕ) where
           items = items;
           are =
               ap (flights conn) goes.outputs
-              ∙ (flights_join conn (older_sends (attached x.condition)) _
+              ∙ (flat_map-append (flight conn) (older_sends (attached x.condition)) _
               ∙ (ap (λ fs. fs ++ flights conn (sends text (Attached conn) seq (drop seq (dispatches x.sent)) ++ Says conn (Resumed last) ∷ [])) (older_fly (attached x.condition))
-              ∙ (ap (λ fs. all_flown text older ++ fs) (flights_join conn (sends text (Attached conn) seq (drop seq (dispatches x.sent))) (Says conn (Resumed last) ∷ [])
+              ∙ (ap (λ fs. all_flown text older ++ fs) (flat_map-append (flight conn) (sends text (Attached conn) seq (drop seq (dispatches x.sent))) (Says conn (Resumed last) ∷ [])
               ∙ (ap (λ fs. fs ++ flights conn (Says conn (Resumed last) ∷ [])) (ap (λ ds. flights conn (sends text (Attached conn) seq ds)) rest ∙ (flown_told text seq back conn ∙ ap (λ n. all_flown text (told_items n back)) number))
               ∙ (ap (λ b. all_flown text texts ++ ((if b then Text (said (Resumed last)) ∷ [] else []) ++ [])) (same_id conn)
               ∙ sym (map_join (flown text) texts (Said (Resumed last) ∷ [])))))

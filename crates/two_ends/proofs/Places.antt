@@ -19,6 +19,7 @@ use Rattle.world_law.specs.Model.{Seen, Worker, in_model, first_worker, seen_wit
 use Rattle.world_law.specs.Sent.{Sent}
 use Rattle.world_law.proofs.Lists.{append_none}
 use Rattle.world_law.proofs.Alone.{Ascend}
+use Rattle.world_law.proofs.Resumes.{found_meets}
 use Rattle.world_law.proofs.Workers.{SessionMeets}
 use Rattle.world_law.proofs.Worlds.{IsFront, Stays, taken_stays}
 use Rattle.two_ends.specs.Ends.{is_worker, worker_at, input_if, input_of}
@@ -61,14 +62,6 @@ same_session x y above made (z ∷ zs) up (inr a) (inr b) e = same_session x y z
 
 -- ---- the worker that is found
 
-found_passes : (p : Worker → Bool) (ws : List Worker) (w : Worker) → find p ws ≡ Some w → p w ≡ true
-found_passes p [] w found = absurd (cc found)
-found_passes p (v ∷ vs) w found = by_test (p v) refl found (found_passes p vs w)
-  where
-    by_test : (b : Bool) → p v ≡ b → (if b then Some v else find p vs) ≡ Some w → (find p vs ≡ Some w → p w ≡ true) → p w ≡ true
-    by_test true passes here later = let same : v ≡ w = cc in subst (λ (z : Worker). p z ≡ true) same passes
-    by_test false fails there later = later there
-
 found_of_all : (P : Worker → Type 0) (p : Worker → Bool) (ws : List Worker) (w : Worker) → All P ws → find p ws ≡ Some w → P w
 found_of_all P p [] w all found = absurd (cc found)
 found_of_all P p (v ∷ vs) w all found = by_test (p v) found (found_of_all P p vs w (All-tail P v vs all))
@@ -83,7 +76,7 @@ found_stays P n m w all found = found_of_all P (is_worker n) m.workers w all fou
 
 -- it has the number that was asked for
 pub worker_number : (n : ℕ) (m : World) (w : Worker) → worker_at n m ≡ Some w → w.core.worker ≡ n
-worker_number n m w found = eqb-true w.core.worker n (found_passes (is_worker n) m.workers w found)
+worker_number n m w found = eqb-true w.core.worker n (found_meets (is_worker n) m.workers w found)
 
 -- no session and no connection
 abbrev IsFresh : Worker → Type 0

@@ -5,6 +5,7 @@ use Rattle.std.proofs.lemmas.Bool.{eqb-true}
 use Rattle.std.proofs.lemmas.List.{length-append}
 use Rattle.std.proofs.lemmas.List.Elements.{All-nil}
 use Rattle.std.proofs.lemmas.Option.{same_Some}
+use Rattle.std.proofs.Math.Seq.{take-append_seam}
 use Rattle.dispatch_types.specs.declared.dispatch.Dispatch.{Dispatch}
 use Rattle.dispatch_types.specs.Fold.{fold}
 use Rattle.session_core.specs.declared.bot.Bot.{Bot}
@@ -235,7 +236,7 @@ module _ (text : ℕ → Dispatch → List ℕ) (back : ReadsBack text) where
         let known : Known e.client.intents e.worker w.core.sessions (mind e.client) = old.knows s has in
         let same : known.at.session ≡ s = same_Some known.at.session s (sym known.at.is ∙ has) in
         let number : s.number ≡ length known.front = ap (λ (s : ClientSession). s.number) (sym same) ∙ known.at.number in
-        let front : take s.number (dispatches known.session.sent) ≡ known.front = ap (λ n. take n (dispatches known.session.sent)) number ∙ (ap (take (length known.front)) known.split ∙ front_taken known.front known.back) in
+        let front : take s.number (dispatches known.session.sent) ≡ known.front = ap (λ n. take n (dispatches known.session.sent)) number ∙ (ap (take (length known.front)) known.split ∙ take-append_seam known.front known.back) in
         record {
           session = known.session;
           among = among_contains known.session w.core.sessions known.among;
@@ -245,10 +246,6 @@ module _ (text : ℕ → Dispatch → List ℕ) (back : ReadsBack text) where
           folds = λ g. known.at.folds g ∙ ap (fold e.client.intents g) (sym front);
           holds = all_among (SessionHolds e.world.logs (cursors w.logs.seen)) known.session w.core.sessions (worker_holds e.world.logs w (stays_here e stand w found)) known.among;
         }
-      where
-        front_taken : (xs ys : List Dispatch) → take (length xs) (xs ++ ys) ≡ xs
-        front_taken [] ys = refl
-        front_taken (x ∷ xs) ys = ap (λ zs. x ∷ zs) (front_taken xs ys)
 
     pub ends_hold : EndsHold text e
     ends_hold = record {
