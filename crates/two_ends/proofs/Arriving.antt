@@ -76,9 +76,8 @@ module _ (text : ℕ → Dispatch → List ℕ) (intents conn : ℕ) where
 
   -- items that are still, while no session is on the connection or those on it stay
   module _ (worker : ℕ) (m : Mind) (is : List Item) (later : List (List ℕ)) (xs : List (Session Sent)) (items : List Item) (still : AreStill items) where
-    still_prompts : Prompts conn xs is later → Prompts conn xs (is ++ items) later
+    still_prompts : Prompts is later → Prompts (is ++ items) later
     still_prompts waits = record {
-      off = waits.off;
       prompt = waits.prompt;
       which = waits.which;
       front = waits.front;
@@ -89,9 +88,8 @@ module _ (text : ℕ → Dispatch → List ℕ) (intents conn : ℕ) where
       beats = waits.beats;
     }
 
-    still_asks : Asks intents m conn xs is later → Asks intents m conn xs (is ++ items) later
+    still_asks : Asks intents m is later → Asks intents m (is ++ items) later
     still_asks asks = record {
-      off = asks.off;
       still = still_join is items asks.still still;
       frame = asks.frame;
       first = asks.first;
@@ -111,18 +109,22 @@ module _ (text : ℕ → Dispatch → List ℕ) (intents conn : ℕ) where
 
     pub still_stage : Stage intents worker m conn xs is later → Stage intents worker m conn xs (is ++ items) later
     still_stage stage = elim stage [
-      | inl waits ↦ inl (still_prompts waits)
-      | inr (inl asks) ↦ inr (inl (still_asks asks))
-      | inr (inr has) ↦ inr (inr (still_has has))
+      | inl off ↦ inl (
+        off.0,
+        elim off.1 [
+          | inl waits ↦ inl (still_prompts waits)
+          | inr asks ↦ inr (still_asks asks)
+        ],
+      )
+      | inr has ↦ inr (still_has has)
     ]
 
   -- sessions that have lost the connection
   shut_stage : (worker : ℕ) (m : Mind) (is : List Item) (later : List (List ℕ)) (xs : List (Session Sent)) (now : ℕ) → Stage intents worker m conn xs is later
       → Stage intents worker m conn (map (released conn (Detached now)) xs) is later
   shut_stage worker m is later xs now stage = elim stage [
-    | inl waits ↦ inl (record { off = released_off conn now xs; prompt = waits.prompt; which = waits.which; front = waits.front; back = waits.back; split = waits.split; before = waits.before; later = waits.later; beats = waits.beats })
-    | inr (inl asks) ↦ inr (inl (record { off = released_off conn now xs; still = asks.still; frame = asks.frame; first = asks.first; front = asks.front; back = asks.back; split = asks.split; before = asks.before; later = asks.later }))
-    | inr (inr has) ↦ inr (inr (record { ends = off_ends intents worker conn (all_minded m is) (map (released conn (Detached now)) xs) (released_off conn now xs); late = has.late; beats = has.beats }))
+    | inl off ↦ inl (released_off conn now xs, off.1)
+    | inr has ↦ inr (record { ends = off_ends intents worker conn (all_minded m is) (map (released conn (Detached now)) xs) (released_off conn now xs); late = has.late; beats = has.beats })
   ]
 
   pub plain_leaves : (w : Worker) (worker : ℕ) (m : Mind) (is : List Item) (later : List (List ℕ)) (move : Move) → IsPlain move → Stage intents worker m conn w.core.sessions is later

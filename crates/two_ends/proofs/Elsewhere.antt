@@ -33,10 +33,10 @@ use Rattle.world_law.proofs.Sends.{chunk_dispatches}
 use Rattle.two_ends.specs.Flights.{Flight, Text, Close, said, flights, flight}
 use Rattle.two_ends.proofs.Among.{IsAmong, off_among, among_here}
 use Rattle.two_ends.proofs.Minds.{Mind, all_minded, Grows, SessionKeeps, WorkerKeeps, AtEnds}
-use Rattle.two_ends.proofs.Growing.{entered_keeps, looked_grows}
+use Rattle.two_ends.proofs.Growing.{entered_keeps, looked_grows, framed_goes}
 use Rattle.two_ends.proofs.ElsewhereStays.{off_alone, alone_split, IsOne, one_or_off, IsFound, found_split, none_changed, differs, on_is, Stays, same_stays, stays_on, off_stays, each_stays, map_stays, more_stays, other_stays, released_own, ending_own, gone_stays, resumed_stays, IsPlain, plainly, none_if, closes_flights, older_flights, texts_off, wishes_off, voice_off}
 use Rattle.two_ends.proofs.ElsewhereTurns.{sends_off, sends_on, Turn, plain_off, turn_off, plain_reaches, turn_reaches, reaches_join}
-pub use Rattle.two_ends.proofs.ElsewhereTurns.{IsShut, IsLate, AreLate, Reaches}
+pub use Rattle.two_ends.proofs.ElsewhereTurns.{IsShut, Reaches}
 
 -- an input is no opening and no frame of a connection
 abbrev pub IsElse : ℕ → Input → Type 0
@@ -47,19 +47,6 @@ IsElse conn (Frame c text) = ¬ (c ≡ conn)
 IsElse conn (Lost c) = Unit {0}
 IsElse conn (Closed c code) = Unit {0}
 IsElse conn (Tick now) = Unit {0}
-
--- a frame leaves the number of the worker
-framed_number : (text : ℕ → Dispatch → List ℕ) (w : Worker) (c : ℕ) (move : Move) → (framed (in_model text) w c move).core.worker ≡ w.core.worker
-framed_number text w c Nothing = refl
-framed_number text w c Answers = refl
-framed_number text w c (ClosesWith code) = refl
-framed_number text w c (Begins bot viewer) = refl
-framed_number text w c Denies = refl
-framed_number text w c (Resumes number None seq held) = refl
-framed_number text w c (Resumes number (Some d) seq held) = refl
-framed_number text w c (Wants number (Members ask)) = refl
-framed_number text w c (Wants number (Presence status)) = refl
-framed_number text w c (Wants number (Voice ask)) = refl
 
 module _ (text : ℕ → Dispatch → List ℕ) (conn : ℕ) where
   -- ---- entries of a log
@@ -338,7 +325,7 @@ on_elsewhere text (Frame c received) w conn intents m other sound keeps kept end
     let move : Move = move_at (in_model text) w c received in
     turn_reaches text conn intents w.core.worker m w.core.sessions (framed (in_model text) w c move).core.sessions (flights conn (frame_sends (in_model text) w c move))
     (frame_turn text conn w c move (differs c conn other) (sound.alone conn))
-    (subst (λ (n : ℕ). All (SessionKeeps n) (framed (in_model text) w c move).core.sessions) (framed_number text w c move) kept) ends
+    (subst (λ (n : ℕ). All (SessionKeeps n) (framed (in_model text) w c move).core.sessions) (framed_goes text w c move).worker kept) ends
 on_elsewhere text (Lost c) w conn intents m other sound keeps kept ends =
     plain_reaches text conn intents w.core.worker m w.core.sessions (lost c w.now w.core).sessions [] (plainly conn w.core.sessions (lost c w.now w.core).sessions [] refl (lost_stays text conn w c)) ends
 on_elsewhere text (Closed c code) w conn intents m other sound keeps kept ends =

@@ -43,8 +43,7 @@ use Rattle.two_ends.proofs.Places.{same_number, same_session, among_below}
 
 -- ---- the first text on its way to the worker is a heartbeat, or the client's first frame
 
-pub record Opens (intents : ℕ) (m : Mind) (conn : ℕ) (xs : List (Session Sent)) (is : List Item) (t : List ℕ) (later : List (List ℕ)) : Type 0 where
-  pub off : AreOff conn xs
+pub record Opens (intents : ℕ) (m : Mind) (is : List Item) (t : List ℕ) (later : List (List ℕ)) : Type 0 where
   pub still : AreStill is
   pub frame : AFrame
   pub first : IsFirst intents m frame
@@ -52,25 +51,30 @@ pub record Opens (intents : ℕ) (m : Mind) (conn : ℕ) (xs : List (Session Sen
   pub beats : AreBeats later
 
 module _ (intents worker conn : ℕ) (m : Mind) (xs : List (Session Sent)) (is : List Item) (t : List ℕ) (later : List (List ℕ)) where
-  asks_next : (asks : Asks intents m conn xs is (t ∷ later)) → (front : List (List ℕ)) → asks.front ≡ front → (IsBeat t × Stage intents worker m conn xs is later) ⊎ Opens intents m conn xs is t later
+  asks_next : (asks : Asks intents m is (t ∷ later)) → (front : List (List ℕ)) → asks.front ≡ front → (IsBeat t × Asks intents m is later) ⊎ Opens intents m is t later
   asks_next asks [] e =
       let split : t ∷ later ≡ frame_text asks.frame ∷ asks.back = asks.split ∙ ap (λ (ts : List (List ℕ)). ts ++ frame_text asks.frame ∷ asks.back) e in
       let rest : later ≡ asks.back = cc split in
-      inr (record { off = asks.off; still = asks.still; frame = asks.frame; first = asks.first; text = cc split; beats = subst AreBeats (sym rest) asks.later })
+      inr (record { still = asks.still; frame = asks.frame; first = asks.first; text = cc split; beats = subst AreBeats (sym rest) asks.later })
   asks_next asks (f ∷ front) e =
       let split : t ∷ later ≡ f ∷ (front ++ frame_text asks.frame ∷ asks.back) = asks.split ∙ ap (λ (ts : List (List ℕ)). ts ++ frame_text asks.frame ∷ asks.back) e in
       let beats : AreBeats (f ∷ front) = subst AreBeats e asks.before in
       let same : t ≡ f = cc split in
       inl (
         subst IsBeat (sym same) beats.0,
-        inr (inl (record { off = asks.off; still = asks.still; frame = asks.frame; first = asks.first; front = front; back = asks.back; split = cc split; before = beats.1; later = asks.later })),
+        record { still = asks.still; frame = asks.frame; first = asks.first; front = front; back = asks.back; split = cc split; before = beats.1; later = asks.later },
       )
 
-  pub next_text : Stage intents worker m conn xs is (t ∷ later) → (IsBeat t × Stage intents worker m conn xs is later) ⊎ Opens intents m conn xs is t later
+  pub next_text : Stage intents worker m conn xs is (t ∷ later) → (IsBeat t × Stage intents worker m conn xs is later) ⊎ (AreOff conn xs × Opens intents m is t later)
   next_text stage = elim stage [
-    | inl waits ↦ inl (waits.beats.0, inl (record { off = waits.off; prompt = waits.prompt; which = waits.which; front = waits.front; back = waits.back; split = waits.split; before = waits.before; later = waits.later; beats = waits.beats.1 }))
-    | inr (inl asks) ↦ asks_next asks asks.front refl
-    | inr (inr has) ↦ inl (has.beats.0, inr (inr (record { ends = has.ends; late = has.late; beats = has.beats.1 })))
+    | inl off ↦ elim off.1 [
+      | inl waits ↦ inl (waits.beats.0, inl (off.0, inl (record { prompt = waits.prompt; which = waits.which; front = waits.front; back = waits.back; split = waits.split; before = waits.before; later = waits.later; beats = waits.beats.1 })))
+      | inr asks ↦ elim (asks_next asks asks.front refl) [
+        | inl beat ↦ inl (beat.0, inl (off.0, inr beat.1))
+        | inr opens ↦ inr (off.0, opens)
+      ]
+    ]
+    | inr has ↦ inl (has.beats.0, inr (record { ends = has.ends; late = has.late; beats = has.beats.1 }))
   ]
 
 -- ---- the first frame
@@ -209,10 +213,10 @@ module _ (text : ℕ → Dispatch → List ℕ) (back : ReadsBack text) (w : Wor
       → new.core.worker ≡ w.core.worker → WorkerKeeps new → Leaves text intents conn w.core.worker m is later new (outputs (in_model text) w (Frame conn t))
   text_leaves stage knows sound few follows new_sound same keeps = elim (next_text intents w.core.worker conn m w.core.sessions is t later stage) [
     | inl beat ↦ plain_leaves text intents conn w w.core.worker m is later (move_at (in_model text) w conn t) (beat_plain text back conn w t beat.0) beat.1
-    | inr opens ↦ elim opens.first [
-      | inl identifies ↦ identify_leaves text w conn t back intents m is later opens.off opens.still opens.beats knows sound few keeps
-          (record { token = identifies.0; intents = intents; large_threshold = None; shard = None }) refl (opens.text ∙ ap frame_text identifies.1)
-      | inr resumes ↦ resume_leaves text w conn t back intents m is later opens.off opens.still opens.beats knows sound (omega (arith, few)) follows new_sound same keeps
-          resumes.0 resumes.1.0 resumes.1.1.0 (opens.text ∙ ap frame_text resumes.1.1.1)
+    | inr opens ↦ elim opens.1.first [
+      | inl identifies ↦ identify_leaves text w conn t back intents m is later opens.0 opens.1.still opens.1.beats knows sound few keeps
+          (record { token = identifies.0; intents = intents; large_threshold = None; shard = None }) refl (opens.1.text ∙ ap frame_text identifies.1)
+      | inr resumes ↦ resume_leaves text w conn t back intents m is later opens.0 opens.1.still opens.1.beats knows sound (omega (arith, few)) follows new_sound same keeps
+          resumes.0 resumes.1.0 resumes.1.1.0 (opens.1.text ∙ ap frame_text resumes.1.1.1)
     ]
   ]

@@ -1,12 +1,12 @@
 -- What holds of a client and its worker lasts through every event.
-use Rattle.std.proofs.Common.{◌≡◌, ℕ, zero, suc, ◌<◌, ◌^◌, List, [], ◌∷◌, ◌++◌, Bool, true, false, Option, Some, None, if◌then◌else◌, length, map, take, refl, sym, ap, subst, ◌∙◌, arith, append_assoc, inl, inr}
+use Rattle.std.proofs.Common.{◌≡◌, ℕ, zero, suc, ◌<◌, ◌^◌, List, [], ◌∷◌, ◌++◌, Bool, true, false, Option, Some, None, if◌then◌else◌, length, map, take, refl, sym, ap, subst, ◌∙◌, arith, append_assoc, ◌⊎◌, inl, inr}
 use Rattle.std.specs.Prelude.{All, nat_lt}
 use Rattle.std.proofs.lemmas.Bool.{true≢false}
 use Rattle.std.proofs.lemmas.Option.{same_Some}
 use Rattle.std.proofs.lemmas.List.{take-map}
 use Rattle.dispatch_types.specs.declared.dispatch.Dispatch.{Dispatch}
 use Rattle.gateway_frames.specs.declared.out.Out.TheVariants as out
-use Rattle.session_core.specs.State.{Session, has_connection, with_connection}
+use Rattle.session_core.specs.State.{has_connection, with_connection}
 use Rattle.client_session.specs.declared.received.Received.{Received}
 use Rattle.client_session.specs.Received.{IsTextOf}
 use Rattle.client_session.specs.Step.{Receives, Loses as LosesLink, Asks as IsAsked, acts}
@@ -15,7 +15,6 @@ use Rattle.world_law.specs.Inputs.{Input, Open, Frame, taken, outputs}
 use Rattle.world_law.specs.Model.{Worker, in_model}
 use Rattle.world_law.specs.Outputs.{Output, Says, Closes}
 use Rattle.world_law.specs.Sends.{AreOff}
-use Rattle.world_law.specs.Sent.{Sent}
 use Rattle.world_law.proofs.Alone.{IsSound, taken_sound}
 use Rattle.world_law.proofs.Folds.{same_id}
 use Rattle.world_law.proofs.Lists.{append_none, map_join}
@@ -25,11 +24,11 @@ use Rattle.two_ends.specs.Ends.{outputs_of}
 use Rattle.two_ends.proofs.Minds.{Item, Said, Told as ToldItem, Shut, flown, all_flown, Mind, minded, all_minded, SessionKeeps, WorkerKeeps, AtEnds, Knows, Fine, Good}
 use Rattle.two_ends.proofs.Growing.{taken_grows, taken_worker, taken_keeps}
 use Rattle.two_ends.proofs.Steps.{Advances, advances_item, minded_join, good_join, good_grown, good_take, knows_item, knows_grown}
-use Rattle.two_ends.proofs.Stages.{AreStill, AreLater, later_join, AreBeats, beats_join, AreOwn, own_join, own_grown, Stage, off_ends}
+use Rattle.two_ends.proofs.Stages.{later_join, AreBeats, beats_join, AreOwn, own_join, own_grown, Stage, off_ends, still_good, shut_still, shut_flown, Prompts, Asks}
 use Rattle.two_ends.proofs.Arriving.{still_stage}
 use Rattle.two_ends.proofs.Judging.{text_leaves}
 use Rattle.two_ends.proofs.Hearing.{mind, payload_of, IsTextOfItem, read_item, hears_mind, asks_mind, loses_mind, same_intents, beat_texts, beats_own, heard_stage, heard_own}
-use Rattle.two_ends.proofs.Elsewhere.{IsElse, IsShut, AreLate, Reaches, off_elsewhere, on_elsewhere}
+use Rattle.two_ends.proofs.Elsewhere.{IsElse, IsShut, Reaches, off_elsewhere, on_elsewhere}
 use Rattle.two_ends.proofs.Places.{after_input}
 
 -- ---- what holds
@@ -44,36 +43,6 @@ pub record Holds (text : ℕ → Dispatch → List ℕ) (c : Client) (worker : �
   pub own : AreOwn worker w.core.sessions to_worker
   pub keeps : WorkerKeeps w
   pub stage : (k : ℕ) → conn ≡ Some k → whole ≡ true → Stage c.intents worker (mind c) k w.core.sessions items to_worker
-
--- ---- closes
-
-shuts : List ℕ → List Item
-shuts codes = map (λ code. Shut code) codes
-
-shuts_flown : (text : ℕ → Dispatch → List ℕ) (codes : List ℕ) → map (λ code. Close code) codes ≡ all_flown text (shuts codes)
-unfolding shuts
-shuts_flown text [] = refl
-shuts_flown text (code ∷ codes) = ap (λ fs. Close code ∷ fs) (shuts_flown text codes)
-
-shuts_still : (codes : List ℕ) → AreStill (shuts codes)
-unfolding shuts
-shuts_still [] = tt
-shuts_still (code ∷ codes) = (tt, shuts_still codes)
-
-shuts_good : (intents worker : ℕ) (xs : List (Session Sent)) (m : Mind) (codes : List ℕ) → Good intents worker xs m (shuts codes)
-unfolding shuts
-shuts_good intents worker xs m [] = tt
-shuts_good intents worker xs m (code ∷ codes) = (tt, shuts_good intents worker xs m codes)
-
-late_later : (is : List Item) → AreLate is → AreLater is
-late_later [] late = tt
-late_later (Said (out.Hello interval_ms) ∷ is) late = absurd late.0
-late_later (Said out.Ack ∷ is) late = absurd late.0
-late_later (Said (out.Invalid resumable) ∷ is) late = absurd late.0
-late_later (Said out.Reconnect ∷ is) late = absurd late.0
-late_later (Said (out.Resumed n) ∷ is) late = absurd late.0
-late_later (ToldItem n d ∷ is) late = (tt, late_later is late.1)
-late_later (Shut code ∷ is) late = (tt, late_later is late.1)
 
 -- ---- what a worker takes
 
@@ -105,21 +74,20 @@ module _ (text : ℕ → Dispatch → List ℕ) (c : Client) (worker : ℕ) (to_
         pub good : Good intents worker new.core.sessions (all_minded m is) more
         pub stage : Stage intents worker m k new.core.sessions (is ++ more) to_worker
 
-      shut_goes : AreOff k w.core.sessions → ((off : AreOff k new.core.sessions) → Stage intents worker m k new.core.sessions is to_worker) → Goes
-      shut_goes off stage =
+      shut_goes : AreOff k w.core.sessions → Prompts is to_worker ⊎ Asks intents m is to_worker → Goes
+      shut_goes off waits =
           let shut : IsShut k new.core.sessions (flights k (outputs (in_model text) w i)) = off_elsewhere text i w k elsewhere off in
           record {
-            more = shuts shut.codes;
-            are = shut.shut ∙ shuts_flown text shut.codes;
-            good = shuts_good intents worker new.core.sessions (all_minded m is) shut.codes;
-            stage = still_stage text intents k worker m is to_worker new.core.sessions (shuts shut.codes) (shuts_still shut.codes) (stage shut.off);
+            more = map Shut shut.codes;
+            are = shut.shut ∙ shut_flown text shut.codes;
+            good = still_good intents worker new.core.sessions (all_minded m is) (map Shut shut.codes) (shut_still shut.codes);
+            stage = still_stage text intents k worker m is to_worker new.core.sessions (map Shut shut.codes) (shut_still shut.codes) (inl (shut.off, waits));
           }
 
       pub goes : Stage intents worker m k w.core.sessions is to_worker → Goes
       goes stage = elim stage [
-        | inl waits ↦ shut_goes waits.off (λ off. inl (record { off = off; prompt = waits.prompt; which = waits.which; front = waits.front; back = waits.back; split = waits.split; before = waits.before; later = waits.later; beats = waits.beats }))
-        | inr (inl asks) ↦ shut_goes asks.off (λ off. inr (inl (record { off = off; still = asks.still; frame = asks.frame; first = asks.first; front = asks.front; back = asks.back; split = asks.split; before = asks.before; later = asks.later })))
-        | inr (inr has) ↦
+        | inl off ↦ shut_goes off.0 off.1
+        | inr has ↦
             let reaches : Reaches text intents worker k (all_minded m is) new.core.sessions (flights k (outputs (in_model text) w i)) =
             subst (λ n. Reaches text intents n k (all_minded m is) new.core.sessions (flights k (outputs (in_model text) w i))) number
             (on_elsewhere text i w k intents (all_minded m is) elsewhere sound keeps (taken_keeps text i w keeps)
@@ -128,11 +96,11 @@ module _ (text : ℕ → Dispatch → List ℕ) (c : Client) (worker : ℕ) (to_
               more = reaches.items;
               are = reaches.are;
               good = reaches.good;
-              stage = inr (inr (record {
+              stage = inr (record {
                 ends = subst (λ (n : Mind). AtEnds intents worker k n new.core.sessions) (sym (minded_join m is reaches.items)) reaches.ends;
-                late = later_join is reaches.items has.late (late_later reaches.items reaches.late);
+                late = later_join is reaches.items has.late reaches.late;
                 beats = has.beats;
-              }));
+              });
             }
       ]
 
@@ -247,7 +215,7 @@ module _ (text : ℕ → Dispatch → List ℕ) (c : Client) (worker : ℕ) (to_
         own = tt;
         keeps = old.keeps;
         stage = λ n is whole. subst (λ (n : ℕ). Stage c.intents worker (mind c) n w.core.sessions (Said (out.Hello 41250) ∷ []) []) (same_Some k n is)
-            (inl (record { off = off; prompt = Said (out.Hello 41250); which = inl refl; front = []; back = []; split = refl; before = tt; later = tt; beats = tt }));
+            (inl (off, inl (record { prompt = Said (out.Hello 41250); which = inl refl; front = []; back = []; split = refl; before = tt; later = tt; beats = tt })));
       }
       by_tests false false is = record {
         number = old.number;
@@ -258,7 +226,7 @@ module _ (text : ℕ → Dispatch → List ℕ) (c : Client) (worker : ℕ) (to_
         own = tt;
         keeps = old.keeps;
         stage = λ n is whole. subst (λ (n : ℕ). Stage c.intents worker (mind c) n w.core.sessions (Shut 4000 ∷ []) []) (same_Some k n is)
-            (inr (inr (record { ends = off_ends c.intents worker k (mind c) w.core.sessions off; late = (tt, tt); beats = tt })));
+            (inr (record { ends = off_ends c.intents worker k (mind c) w.core.sessions off; late = (tt, tt); beats = tt }));
       }
 
 -- ---- what the client is told
@@ -368,19 +336,23 @@ module _ (text : ℕ → Dispatch → List ℕ) (worker : ℕ) (conn : Option �
 
       beaten_stage : (k : ℕ) → Stage c.intents worker (mind c) k w.core.sessions old.items to_worker → Stage c.intents worker (mind c) k w.core.sessions old.items (to_worker ++ (if whole then sent_texts (acts c (IsAsked now)) else []))
       beaten_stage k stage = elim stage [
-        | inl waits ↦ inl (record { off = waits.off; prompt = waits.prompt; which = waits.which; front = waits.front; back = waits.back; split = waits.split; before = waits.before; later = waits.later; beats = beats_join to_worker _ waits.beats (beats whole) })
-        | inr (inl asks) ↦ inr (inl (record {
-          off = asks.off;
-          still = asks.still;
-          frame = asks.frame;
-          first = asks.first;
-          front = asks.front;
-          back = asks.back ++ (if whole then sent_texts (acts c (IsAsked now)) else []);
-          split = ap (λ ts. ts ++ (if whole then sent_texts (acts c (IsAsked now)) else [])) asks.split ∙ append_assoc asks.front (_ ∷ asks.back) _;
-          before = asks.before;
-          later = beats_join asks.back _ asks.later (beats whole);
-        }))
-        | inr (inr has) ↦ inr (inr (record { ends = has.ends; late = has.late; beats = beats_join to_worker _ has.beats (beats whole) }))
+        | inl off ↦ inl (
+          off.0,
+          elim off.1 [
+            | inl waits ↦ inl (record { prompt = waits.prompt; which = waits.which; front = waits.front; back = waits.back; split = waits.split; before = waits.before; later = waits.later; beats = beats_join to_worker _ waits.beats (beats whole) })
+            | inr asks ↦ inr (record {
+              still = asks.still;
+              frame = asks.frame;
+              first = asks.first;
+              front = asks.front;
+              back = asks.back ++ (if whole then sent_texts (acts c (IsAsked now)) else []);
+              split = ap (λ ts. ts ++ (if whole then sent_texts (acts c (IsAsked now)) else [])) asks.split ∙ append_assoc asks.front (_ ∷ asks.back) _;
+              before = asks.before;
+              later = beats_join asks.back _ asks.later (beats whole);
+            })
+          ],
+        )
+        | inr has ↦ inr (record { ends = has.ends; late = has.late; beats = beats_join to_worker _ has.beats (beats whole) })
       ]
 
   -- the client learns that its connection has ended

@@ -10,7 +10,7 @@ use Rattle.dispatch_types.specs.declared.dispatch.Dispatch.TheVariants.{Ready}
 use Rattle.dispatch_types.specs.declared.ready.Ready.{Ready as Greeted}
 use Rattle.dispatch_types.specs.declared.viewer.Viewer.{Viewer}
 use Rattle.dispatch_types.specs.Fold.{fold, purge}
-use Rattle.gateway_frames.specs.declared.out.Out.TheVariants.{Hello, Ack, Invalid, Reconnect, Resumed}
+use Rattle.gateway_frames.specs.declared.out.Out.TheVariants.{Invalid, Resumed}
 use Rattle.session_core.specs.declared.bot.Bot.{Bot}
 use Rattle.session_core.specs.State.{Session, Attached, Detached, attached, released}
 use Rattle.session_core.specs.Frames.{Move, Nothing, ClosesWith, Begins}
@@ -30,15 +30,11 @@ use Rattle.world_law.proofs.Lists.{append_none, map_join}
 use Rattle.world_law.proofs.Workers.{Follows}
 use Rattle.two_ends.specs.Flights.{Text, Close, said, flights, flight}
 use Rattle.two_ends.proofs.Among.{IsAmong, all_among, off_among, found_among, among_here, among_part, one_on}
-use Rattle.two_ends.proofs.Minds.{Item, Said, Told, Shut, flown, all_flown, told_items, Mind, with_dispatch, minded, all_minded, SessionKeeps, WorkerKeeps, At, Known, Knows, IsGreeting, Comes, GoesOn, Good}
+use Rattle.two_ends.proofs.Minds.{Item, Said, Shut, flown, all_flown, told_items, Mind, with_dispatch, minded, all_minded, SessionKeeps, WorkerKeeps, At, Known, Knows, IsGreeting, Comes, GoesOn, Good}
 use Rattle.two_ends.proofs.Steps.{flown_told, minded_join, good_join, told_good, at_first, at_resumed}
-use Rattle.two_ends.proofs.Stages.{AreStill, AreLater, still_join, later_join, still_later, all_still_minded, AreBeats, Stage, off_ends}
+use Rattle.two_ends.proofs.Stages.{AreStill, still_join, later_join, still_later, all_still_minded, AreBeats, Stage, off_ends, still_good, told_later}
 use Rattle.two_ends.proofs.Places.{same_number, among_below}
 use Rattle.two_ends.proofs.Arriving.{released_off, session_still, made_by, gives_by, closed_flies, Leaves}
-
-told_later : (n : ℕ) (ds : List Dispatch) → AreLater (told_items n ds)
-told_later n [] = tt
-told_later n (d ∷ ds) = (tt, told_later (n + 1) ds)
 
 module _ (text : ℕ → Dispatch → List ℕ) (intents conn : ℕ) where
   -- ---- the first frame
@@ -46,11 +42,11 @@ module _ (text : ℕ → Dispatch → List ℕ) (intents conn : ℕ) where
   -- what is left where the connection is not open, is closed, or its session cannot be resumed
   spent : (worker : ℕ) (m : Mind) (is items : List Item) (later : List (List ℕ)) (xs : List (Session Sent)) → AreOff conn xs → AreStill is → AreStill items → AreBeats later
       → Stage intents worker m conn xs (is ++ items) later
-  spent worker m is items later xs off still also beats = inr (inr (record {
+  spent worker m is items later xs off still also beats = inr (record {
     ends = off_ends intents worker conn (all_minded m (is ++ items)) xs off;
     late = still_later (is ++ items) (still_join is items still also);
     beats = beats;
-  }))
+  })
 
   pub spent_leaves : (w : Worker) (worker : ℕ) (m : Mind) (is : List Item) (later : List (List ℕ)) (move : Move) → (move ≡ Nothing) ⊎ ((code : ℕ) × (move ≡ ClosesWith code))
       → AreOff conn w.core.sessions → AreStill is → AreBeats later → Leaves text intents conn worker m is later (made_by text conn w move) (gives_by text conn w move)
@@ -70,17 +66,19 @@ module _ (text : ℕ → Dispatch → List ℕ) (intents conn : ℕ) where
     items = Said (Invalid false) ∷ [];
     are = ap (flights conn) denied.0 ∙ ap (λ b. (if b then Text (said (Invalid false)) ∷ [] else []) ++ []) (same_id conn);
     good = (refl, tt);
-    stage = inl (record {
-      off = subst (AreOff conn) (sym denied.1) off;
-      prompt = Said (Invalid false);
-      which = inr refl;
-      front = is;
-      back = [];
-      split = refl;
-      before = still;
-      later = tt;
-      beats = beats;
-    });
+    stage = inl (
+      subst (AreOff conn) (sym denied.1) off,
+      inl (record {
+        prompt = Said (Invalid false);
+        which = inr refl;
+        front = is;
+        back = [];
+        split = refl;
+        before = still;
+        later = tt;
+        beats = beats;
+      }),
+    );
   }
 
   -- a session that begins
@@ -127,7 +125,7 @@ module _ (text : ℕ → Dispatch → List ℕ) (intents conn : ℕ) where
           items = items;
           are = flown_told text 0 (Ready greeted ∷ greetings) conn;
           good = subst (λ (n : Mind). Good intents worker xs n items) (sym same) (comes, rest.0);
-          stage = inr (inr (record {
+          stage = inr (record {
             ends = λ y among on. elim (among_part y w.core.sessions (begins ∷ []) among) [
               | inl before ↦ absurd (true≢false (sym on ∙ off_among conn y w.core.sessions off before))
               | inr here ↦ elim here [
@@ -138,7 +136,7 @@ module _ (text : ℕ → Dispatch → List ℕ) (intents conn : ℕ) where
             ];
             late = later_join is items (still_later is still) (told_later 0 (Ready greeted ∷ greetings));
             beats = beats;
-          }));
+          });
         }
       where
         above : (made n : ℕ) → n ≤ made → n ≡ made + 1 → ⊥
@@ -165,16 +163,6 @@ module _ (text : ℕ → Dispatch → List ℕ) (intents conn : ℕ) where
         by_test : (b : Bool) → AreStill (if b then Shut 4000 ∷ [] else [])
         by_test true = (tt, tt)
         by_test false = tt
-
-    still_good : (worker : ℕ) (xs : List (Session Sent)) (n : Mind) (items : List Item) → AreStill items → Good intents worker xs n items
-    still_good worker xs n [] still = tt
-    still_good worker xs n (Said (Hello interval_ms) ∷ items) still = absurd still.0
-    still_good worker xs n (Said Ack ∷ items) still = (tt, still_good worker xs n items still.1)
-    still_good worker xs n (Said (Invalid resumable) ∷ items) still = absurd still.0
-    still_good worker xs n (Said Reconnect ∷ items) still = absurd still.0
-    still_good worker xs n (Said (Resumed k) ∷ items) still = absurd still.0
-    still_good worker xs n (Told k d ∷ items) still = absurd still.0
-    still_good worker xs n (Shut code ∷ items) still = (tt, still_good worker xs n items still.1)
 
     pub goes_on_leaves : (x : Session Sent) (seq : ℕ) → ResumeGoesOn text w conn seq x new out → (known : Known intents w.core.worker w.core.sessions m) → known.session ≡ x → seq ≡ length known.front
         → AreStill is → AreBeats later → Follows w → IsSound new → new.core.worker ≡ w.core.worker → WorkerKeeps new → Leaves text intents conn w.core.worker m is later new out
@@ -217,7 +205,7 @@ module _ (text : ℕ → Dispatch → List ℕ) (intents conn : ℕ) where
         let minds : all_minded m items ≡ minded held (Said (Resumed last)) =
         minded_join m older (texts ++ Said (Resumed last) ∷ []) ∙ (ap (λ n. all_minded n (texts ++ Said (Resumed last) ∷ [])) quiet ∙ minded_join m texts (Said (Resumed last) ∷ [])) in
         let good : Good intents worker xs m items =
-        good_join intents worker xs m older (texts ++ Said (Resumed last) ∷ []) (still_good worker xs m older (older_still (attached x.condition)))
+        good_join intents worker xs m older (texts ++ Said (Resumed last) ∷ []) (still_good intents worker xs m older (older_still (attached x.condition)))
         (subst (λ (n : Mind). Good intents worker xs n (texts ++ Said (Resumed last) ∷ [])) (sym quiet)
         (good_join intents worker xs m texts (Said (Resumed last) ∷ []) told.0 (go, tt))) in
         record {
@@ -232,7 +220,7 @@ module _ (text : ℕ → Dispatch → List ℕ) (intents conn : ℕ) where
               ∙ sym (map_join (flown text) texts (Said (Resumed last) ∷ [])))))
               ∙ sym (map_join (flown text) older (texts ++ Said (Resumed last) ∷ [])))));
           good = subst (λ (n : Mind). Good intents worker xs n items) (sym same) good;
-          stage = inr (inr (record {
+          stage = inr (record {
             ends = λ y among on.
                 let one : y ≡ here = one_on conn xs here y (sound.alone conn) found among (same_id conn) on in
                 subst (λ (y : Session Sent). At intents worker (all_minded m (is ++ items)) y (dispatches y.sent)) (sym one)
@@ -240,5 +228,5 @@ module _ (text : ℕ → Dispatch → List ℕ) (intents conn : ℕ) where
             late = later_join is items (still_later is still) (later_join older (texts ++ Said (Resumed last) ∷ []) (still_later older (older_still (attached x.condition)))
                 (later_join texts (Said (Resumed last) ∷ []) (told_later (length front) back) (tt, tt)));
             beats = beats;
-          }));
+          });
         }

@@ -78,16 +78,14 @@ found_stays P n m w all found = found_of_all P (is_worker n) m.workers w all fou
 pub worker_number : (n : ℕ) (m : World) (w : Worker) → worker_at n m ≡ Some w → w.core.worker ≡ n
 worker_number n m w found = eqb-true w.core.worker n (found_meets (is_worker n) m.workers w found)
 
--- no session and no connection
+-- no session
 abbrev IsFresh : Worker → Type 0
-IsFresh w = (w.core.sessions ≡ []) × ((w.core.made ≡ 0) × (w.core.connections ≡ []))
+IsFresh w = w.core.sessions ≡ []
 
--- the first world's worker of a number has no session and no connection
-pub first_worker_at : (bots : List Bot) (guilds : List ℕ) (places : List (ℕ × List ℕ)) (n : ℕ) (w : Worker) → worker_at n (first_world bots guilds places) ≡ Some w
-    → (w.core.sessions ≡ []) × ((w.core.made ≡ 0) × (w.core.connections ≡ []))
+-- the first world's worker of a number has none
+pub first_worker_at : (bots : List Bot) (guilds : List ℕ) (places : List (ℕ × List ℕ)) (n : ℕ) (w : Worker) → worker_at n (first_world bots guilds places) ≡ Some w → w.core.sessions ≡ []
 first_worker_at bots guilds places n w found =
-    found_of_all IsFresh (is_worker n) (map (first_of bots guilds) places) w
-    (All-map IsFresh (first_of bots guilds) places (λ k d h. (refl, (refl, refl)))) found
+    found_of_all IsFresh (is_worker n) (map (first_of bots guilds) places) w (All-map IsFresh (first_of bots guilds) places (λ k d h. refl)) found
 
 -- ---- a step
 
@@ -111,16 +109,6 @@ same_found f g same (Some w) = ap Some (same w)
 unmoved : (o : Option Worker) → o ≡ option_map (λ (w : Worker). w) o
 unmoved None = refl
 unmoved (Some w) = refl
-
--- the logs after a step
-abbrev pub logs_after : Seen → Step → Seen
-logs_after logs (Edits g e) = seen_with logs g e
-logs_after logs (Looks n g) = logs
-logs_after logs (Opens n conn) = logs
-logs_after logs (Frames n conn received) = logs
-logs_after logs (Loses n conn) = logs
-logs_after logs (Leaves n conn code) = logs
-logs_after logs (Ticks n now) = logs
 
 module _ (text : ℕ → Dispatch → List ℕ) where
   -- the worker after what it was given
@@ -154,16 +142,6 @@ module _ (text : ℕ → Dispatch → List ℕ) where
   worker_stepped keeps n m (Loses k conn) = moved_at keeps n k (λ (w : Worker). Lost conn) m.workers
   worker_stepped keeps n m (Leaves k conn code) = moved_at keeps n k (λ (w : Worker). Closed conn code) m.workers
   worker_stepped keeps n m (Ticks k now) = moved_at keeps n k (λ (w : Worker). Tick now) m.workers
-
-  -- the logs change with an entry alone
-  pub logs_stepped : (m : World) (step : Step) → (stepped text m step).logs ≡ logs_after m.logs step
-  logs_stepped m (Edits g e) = refl
-  logs_stepped m (Looks n g) = refl
-  logs_stepped m (Opens n conn) = refl
-  logs_stepped m (Frames n conn received) = refl
-  logs_stepped m (Loses n conn) = refl
-  logs_stepped m (Leaves n conn code) = refl
-  logs_stepped m (Ticks n now) = refl
 
 -- ---- what each worker of a world stays
 

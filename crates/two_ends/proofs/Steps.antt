@@ -155,7 +155,7 @@ module _ (intents worker : ℕ) where
 
   -- ---- sessions that grow
 
-  at_grown : (m : Mind) (x y : Session Sent) (front : List Dispatch) → Grows x y → At intents worker m x front → At intents worker m y front
+  pub at_grown : (m : Mind) (x y : Session Sent) (front : List Dispatch) → Grows x y → At intents worker m x front → At intents worker m y front
   at_grown m x y front grows at = record {
     session = at.session;
     is = at.is;

@@ -270,7 +270,7 @@ module _ (text : ℕ → Dispatch → List ℕ) (back : ReadsBack text) where
           good = tt;
           knows = λ s is. absurd (cc is);
           own = tt;
-          keeps = subst (λ (xs : List (Session Sent)). All (SessionKeeps w.core.worker) xs) (sym fresh.0) (All-nil (SessionKeeps w.core.worker));
+          keeps = subst (λ (xs : List (Session Sent)). All (SessionKeeps w.core.worker) xs) (sym fresh) (All-nil (SessionKeeps w.core.worker));
           stage = λ k is whole. absurd (cc is);
         };
     alone = λ none. refl;
