@@ -83,7 +83,7 @@ class Wanted:
         return self.out[:self.after[given]] if given < len(self.after) else self.out
 
 
-def by_reference(oracle, data):
+def line_by_line(oracle, data):
     """What the reference prints for each line, and at which byte the line ends."""
     world, reader, printed, at = oracle.World(oracle.Config(rig.STAGE)), oracle.StepReader(oracle.Config(rig.STAGE)), 0, 0
     yield 0, 0
@@ -98,10 +98,10 @@ def by_reference(oracle, data):
 
 
 def compare_with_reference(oracle, wanted):
-    status, lines = oracle.run_bytes(wanted.data, rig.STAGE)
-    if (status, "".join(line + "\n" for line in lines).encode()) != (wanted.status, wanted.out):
+    status, transcript = rig.by_reference(oracle, wanted.data)
+    if (status, transcript) != (wanted.status, wanted.out):
         yield f"{wanted.name}: the reference prints something else, with the status {status}"
-    for at, printed in by_reference(oracle, wanted.data):
+    for at, printed in line_by_line(oracle, wanted.data):
         if at < len(wanted.after) and wanted.after[at] != printed:
             yield f"{wanted.name}: of {at} bytes {wanted.after[at]} are printed, the reference prints {printed}"
             return
@@ -252,6 +252,4 @@ def main(every=1, seconds=3600, names=None):
 
 
 if __name__ == "__main__":
-    if sys.argv[1:2] == ["--help"]:
-        sys.exit(__doc__)
-    main(*sys.argv[1:4])
+    rig.begin(main, __doc__, 3)

@@ -257,13 +257,12 @@ class Fuzz:
         self.frames = good_frames(self.lines)
         self.printed = []
         for before in BEFORE:
-            status, lines = self.reference("\n".join(before).encode() + b"\n" if before else b"")
-            assert status == 0, lines
-            self.printed.append(lines)
+            status, transcript = self.reference("\n".join(before).encode() + b"\n" if before else b"")
+            assert status == 0, transcript
+            self.printed.append(transcript)
 
     def reference(self, data):
-        status, lines = self.oracle.run_bytes(data, rig.STAGE)
-        return status, "".join(line + "\n" for line in lines).encode()
+        return rig.by_reference(self.oracle, data)
 
     def compare(self, data, wanted):
         """Nothing, or how the play of this file differs."""
@@ -435,6 +434,4 @@ def main(lines=1000, frames=10000, seconds=3600, seed=1):
 
 
 if __name__ == "__main__":
-    if sys.argv[1:2] == ["--help"]:
-        sys.exit(__doc__)
-    main(*sys.argv[1:5])
+    rig.begin(main, __doc__, 4)

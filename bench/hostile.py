@@ -179,7 +179,7 @@ def random_bytes(host):
     for place in range(40):
         peers.append(host.connect() if place % 2 else host.upgraded())
         for _ in range(4):
-            push(peers[-1], random.randbytes(random.randrange(1, 20000)))
+            push(peers[-1], noise(random, random.randrange(1, 20000)))
     time.sleep(0.5)
     return peers
 
@@ -226,6 +226,11 @@ def push(peer, data):
         peer.sendall(data)
     except OSError:
         pass
+
+
+def noise(chance, size):
+    """Bytes of chance."""
+    return bytes(chance.getrandbits(8) for _ in range(size))
 
 
 def is_ended(peer):
@@ -293,11 +298,25 @@ def end(host):
     return right
 
 
+def visited(name, host, visits):
+    """Lets the visits of peers come, then the end, after which the server is gone. Whether all was right."""
+    try:
+        visits()
+        return end(host)
+    except (Wrong, OSError) as fault:
+        print(f"{name}: {fault}")
+        return False
+    finally:
+        if host.server.process.poll() is None:
+            host.server.kill()
+
+
 def main(gate=os.path.join(ROOT, "out/gate"), seconds=600, connections=10000):
     seconds, connections = int(seconds), int(connections)
     host = Host(gate, connections + 2000 + 60 * seconds, HANDSHAKE_SECONDS if seconds > 60 else 1)
-    until, next_unread, many, place = time.monotonic() + seconds, 0, False, 0
-    try:
+
+    def visits():
+        until, next_unread, many, place = time.monotonic() + seconds, 0, False, 0
         while time.monotonic() < until or not many:
             if not many and place >= len(KINDS):
                 many = True
@@ -307,14 +326,8 @@ def main(gate=os.path.join(ROOT, "out/gate"), seconds=600, connections=10000):
                 play(host, never_read)
             play(host, KINDS[place % len(KINDS)])
             place += 1
-        right = end(host)
-    except (Wrong, OSError) as fault:
-        print(f"hostile: {fault}")
-        right = False
-    finally:
-        if host.server.process.poll() is None:
-            host.server.kill()
-    sys.exit(not right)
+
+    sys.exit(not visited("hostile", host, visits))
 
 
 if __name__ == "__main__":

@@ -370,23 +370,15 @@ def main(large=1, seconds=3600, names=None):
             wanted = 5 if out.rsplit("\n", 2)[-2:-1] and out.rsplit("\n", 2)[-2].startswith("stop line ") else 0
             if ran.status != wanted or ran.err != rig.complaint(wanted, player.shown, ran.out):
                 faults.append(f"status {ran.status}, said {ran.err!r}")
-            if oracle:
-                status, lines = oracle.run_bytes(data, rig.STAGE)
-                theirs = "".join(line + "\n" for line in lines).encode()
-                if (status, theirs) != (ran.status, ran.out):
-                    faults.append(f"not as the reference, of status {status}: {rig.first_difference(theirs, ran.out)}")
+            faults += rig.against_reference(oracle, data, ran)
             tried, bad = tried + 1, bad + bool(faults)
             longest = max(map(len, ran.out.split(b"\n")))
             counts["lines"] += len(rows)
             counts["bytes"] += len(ran.out)
             print(f"limits: {name}: {len(rows)} lines, {len(ran.out)} bytes printed, the longest line {longest}, {spent:.2f} s" + "".join("\n  " + fault for fault in faults), flush=True)
         player.end()
-    print(f"limits: {tried} files, {counts['lines']} lines, {counts['bytes']} bytes printed, {bad} not as they should be"
-          + (f"; left when the time was up: {', '.join(left)}" if left else "") + ("" if oracle else "; the reference was not at hand"))
-    sys.exit(bad > 0 or not tried)
+    rig.end(f"limits: {tried} files, {counts['lines']} lines, {counts['bytes']} bytes printed", tried, bad, left, oracle)
 
 
 if __name__ == "__main__":
-    if sys.argv[1:2] == ["--help"]:
-        sys.exit(__doc__)
-    main(*sys.argv[1:4])
+    rig.begin(main, __doc__, 3)

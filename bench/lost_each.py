@@ -206,14 +206,10 @@ def main(every=1, seconds=3600):
             faults = []
             if (ran.status, ran.out, ran.err) != (0, printed, b""):
                 faults.append(f"status {ran.status}, said {ran.err!r}; {rig.first_difference(printed, ran.out)}")
-            if oracle:
-                status, lines = oracle.run_bytes(data, rig.STAGE)
-                wanted = "".join(line + "\n" for line in lines).encode()
-                if (status, wanted) != (ran.status, ran.out):
-                    faults.append(f"not as the reference, of status {status}: {rig.first_difference(wanted, ran.out)}")
-                if len(ran.out) < 6000000 and time.monotonic() < until:
-                    verified += 1
-                    faults += oracle.verify_bytes(data, ran.out.decode(), rig.STAGE)[:3]
+            faults += rig.against_reference(oracle, data, ran)
+            if oracle and len(ran.out) < 6000000 and time.monotonic() < until:
+                verified += 1
+                faults += oracle.verify_bytes(data, ran.out.decode(), rig.STAGE)[:3]
             print(f"lost each: {name}: {len(file.rows)} lines, {file.resumes} resumes, {len(file.out)} lines printed"
                   + "".join("\n  " + str(fault) for fault in faults), flush=True)
             bad += bool(faults)
@@ -223,12 +219,8 @@ def main(every=1, seconds=3600):
         bad += bool(missing)
         if missing:
             print(f"lost each: no file has {', '.join(sorted(missing))}")
-    print(f"lost each: {tried} files with {len(kinds)} kinds of edits, {resumes} resumes, {verified} files verified, {bad} not as they should be"
-          + (f"; left when the time was up: {', '.join(left)}" if left else "") + ("" if oracle else "; the reference was not at hand"))
-    sys.exit(bad > 0 or not tried)
+    rig.end(f"lost each: {tried} files with {len(kinds)} kinds of edits, {resumes} resumes, {verified} files verified", tried, bad, left, oracle)
 
 
 if __name__ == "__main__":
-    if sys.argv[1:2] == ["--help"]:
-        sys.exit(__doc__)
-    main(*sys.argv[1:3])
+    rig.begin(main, __doc__, 2)

@@ -42,7 +42,7 @@ class Host(hostile.Host):
 
 
 def noise(size):
-    return bytes(made.getrandbits(8) for _ in range(size))
+    return hostile.noise(made, size)
 
 
 def head(first, size, mask=True, form=None):
@@ -228,24 +228,22 @@ KINDS = [wrong_handshakes, without_masks, reserved, wrong_controls, wrong_parts,
 def main(gate=os.path.join(hostile.ROOT, "out/gate"), seconds=60, count=50000):
     seconds, count = float(seconds), int(count)
     host = Host(gate, int(1000 + 60 * seconds), 1)
-    until, rounds, highest = time.monotonic() + seconds, 0, 0
-    try:
+    rounds, highest = 0, 0
+
+    def visits():
+        nonlocal rounds, highest
+        until = time.monotonic() + seconds
         while not rounds or time.monotonic() < until and host.left > 400:
             for kind in KINDS:
                 hostile.play(host, kind)
                 highest = max(highest, host.peak_kib())
             hostile.play(host, pings, count)
             highest, rounds = max(highest, host.peak_kib()), rounds + 1
-        right = hostile.end(host)
-        if highest > MOST_KIB:
-            print(f"the peak of memory was {highest / 1024:.1f} MiB")
-            right = False
-    except (Wrong, OSError) as fault:
-        print(f"raw serve: {fault}")
+
+    right = hostile.visited("raw serve", host, visits)
+    if highest > MOST_KIB:
+        print(f"the peak of memory was {highest / 1024:.1f} MiB")
         right = False
-    finally:
-        if host.server.process.poll() is None:
-            host.server.kill()
     print(f"raw serve: {rounds} rounds of {len(KINDS) + 1} kinds, {int(1000 + 60 * seconds) - host.left} connections, peak memory {highest / 1024:.1f} MiB: {'all right' if right else 'not right'}")
     sys.exit(not right)
 

@@ -103,7 +103,7 @@ class Bot:
         compare(f"{self.name}: dispatches", {}, dict((sent - names) + (names - sent)))
         *_, last = self.lines or [""]
         right, _, replayed = last.rpartition(", ")
-        compare(f"{self.name}: last line", f"right: {sent.total() - sent['RESUMED']} dispatches, {CONNECTIONS - 1} drops", right)
+        compare(f"{self.name}: last line", f"right: {sum(sent.values()) - sent['RESUMED']} dispatches, {CONNECTIONS - 1} drops", right)
         compare(f"{self.name}: dispatches were replayed", True, replayed.split(" ")[0] not in ("", "0"))
 
 

@@ -13,7 +13,7 @@ import threading
 
 os.chdir(os.path.join(os.path.dirname(os.path.abspath(__file__)), "../.."))
 STEPS, TRANSCRIPT, PAYLOADS, LOAD = "docs/STEPS.md", "docs/TRANSCRIPT.md", "docs/PAYLOADS.md", "docs/LOAD.md"
-SERVE, CLIENT, README = "docs/SERVE.md", "docs/CLIENT.md", "README.md"
+SERVE, CLIENT, CLAIMS, README = "docs/SERVE.md", "docs/CLIENT.md", "docs/CLAIMS.md", "README.md"
 # The pages that bot authors read.
 FOR_AUTHORS = [README, STEPS, TRANSCRIPT, PAYLOADS, "docs/COOKBOOK.md", "examples/README.md", SERVE, CLIENT, "docs/CLIENTS.md", LOAD]
 MOST_WORDS = 1200
@@ -30,7 +30,7 @@ OBJECTS = {"role": "role roles", "channel": "channels CHANNEL_CREATE CHANNEL_UPD
 OBJECT_OF = {name: kind for kind, names in OBJECTS.items() for name in names.split()}
 failures, counts = [], collections.Counter()
 
-@functools.cache
+@functools.lru_cache(maxsize=None)
 def text_of(*patterns):
     """The text of these files, one after another."""
     paths = [path for pattern in patterns for path in sorted(glob.glob(pattern, recursive=True))]
@@ -101,7 +101,7 @@ def verdicts(name, own, crate, rules, limits):
 def verdicts_of(edit):
     """The verdicts of an edit, but for those that every edit has in a guild that is not open or in an outage."""
     file = "guild" if edit.startswith("guild_") else "reaction" if edit.startswith("reaction_") else edit
-    check = "check" if file != "guild" else "in_service" if edit == "guild_outage" else "check_" + edit.removeprefix("guild_")
+    check = "check" if file != "guild" else "in_service" if edit == "guild_outage" else "check_" + re.sub("^guild_", "", edit)
     paths = [path for path in glob.glob(f"crates/*/src/{file}.rt") if "fn check" in text_of(path)]
     path = (paths or ["crates/edit_apply/src/guild.rt"])[0]
     rules, crate = functions("crates/guild_model/src/rules.rt"), functions(f"{os.path.dirname(path)}/**/*.rt")
@@ -120,7 +120,7 @@ def compare_steps_and_edits():
     for head, named in (("step", r"StepName::\w+ => \"(\w+)\""), ("edit", r"EditName::\w+ => \"(\w+)\"")):
         compare("names", STEPS, 1, {name for _, (name, *_) in rows(STEPS, head)}, set(re.findall(named, text_of("crates/edit_fields/src/names.rt", "crates/edit_text/src/step_name.rt"))))
     edits, sent = edit_readers(), dispatches_by_edit()
-    known = functions("crates/edit_fields/src/edits/*.rt") | functions("crates/edit_text/src/steps.rt") | edits
+    known = {**functions("crates/edit_fields/src/edits/*.rt"), **functions("crates/edit_text/src/steps.rt"), **edits}
     for line, (name, cell, *_) in [*rows(STEPS, "step"), *rows(STEPS, "edit")]:
         page = [re.match(r"`(\w+)` (.+)", field).groups() for field in cell.split(", ") if field.startswith("`")]
         reader = name if name in edits else "edit_line_from" if name == "edit" else f"{name}_from"
@@ -154,7 +154,7 @@ def clauses_of(call):
 def compare_kinds():
     """What the kinds of fields may be."""
     limits, channels = constants("guild_model"), "crates/guild_model/src/channel.rt"
-    readers = functions("crates/edit_text/src/steps.rt") | functions("crates/edit_fields/src/fields.rt")
+    readers = {**functions("crates/edit_text/src/steps.rt"), **functions("crates/edit_fields/src/fields.rt")}
     below = lambda name: re.search(r"(?:, |< )((?:1 << )?\d+)(?:\)| \{)", readers[name])[1].replace("1 << ", "2^")
     types = {"channel type": numbered(channels, "ChannelKind"), "overwrite type": numbered(channels, "OverwriteKind"),
              "thread type": numbered("crates/guild_model/src/thread.rt", "ThreadKind")}
@@ -182,7 +182,7 @@ def compare_frames():
 
 def compare_words():
     """The words of `serve` and `client`, the forms of lines, and what standard error says."""
-    limits = constants("serve_words") | {"MOST_FILES": int(re.search(r"num_args\(1\.\.=(\d+)\)", text_of("crates/serve_words/src/grammar.rt"))[1])}
+    limits = {**constants("serve_words"), "MOST_FILES": int(re.search(r"num_args\(1\.\.=(\d+)\)", text_of("crates/serve_words/src/grammar.rt"))[1])}
     names = {"PORT": "LAST_PORT", "URL": "MOST_URL_BYTES", "TOKEN": "MOST_TOKEN_BYTES"}
     for page in (SERVE, CLIENT):
         for line, (word, cell, _) in rows(page, "word"):
@@ -290,13 +290,13 @@ def compare_quotes():
     steps = [json.loads(line) for line in text_of("examples/*.jsonl").split("\n") if line]
     bare = [{key: value for key, value in step.items() if key != "note"} for step in steps]
     for path in ["README.md", "examples/README.md", *sorted(glob.glob("docs/*.md"))]:
-        for number, line in enumerate((line.removeprefix("    ") for line in text_of(path).split("\n")), 1):
+        for number, line in enumerate((re.sub("^    ", "", line) for line in text_of(path).split("\n")), 1):
             if line.startswith('{"step"'):
                 compare("quotes", path, number, line, line if json.loads(line) in bare else "no such step line in examples/")
             elif re.match(r"(send|close|wish|refused|stop line) \d", line):
                 found = re.search(f"^{'.*'.join(map(re.escape, line.split('..')))}$", text_of("examples/*.out"), re.M)
                 compare("quotes", path, number, line, line if found else "no such line in examples/")
-    files = {os.path.basename(path).removesuffix(".jsonl") for path in glob.glob("examples/*.jsonl")}
+    files = {os.path.splitext(os.path.basename(path))[0] for path in glob.glob("examples/*.jsonl")}
     compare("examples", "examples/README.md", 1, {name for _, (name, _) in rows("examples/README.md", "file")}, files)
     compare("steps in examples", STEPS, 1, {step["step"] for step in steps}, {name for _, (name, *_) in rows(STEPS, "step")})
     edits = {name for _, (name, *_) in rows(STEPS, "edit")}
@@ -324,6 +324,21 @@ def compare_definitions():
         crate, file = path.split("/")[1], os.path.basename(path)
         named = file == "Lib.antt" or any(re.search(rf"\b{file[:-5]}\b", line) and (crate in line or file[:-5] + "`" in line) for line in page)
         compare("files of specs", "docs/DEFINITIONS.md", 1, path, path if named else "not named there")
+
+def compare_claims():
+    """Each clause and definition that carries a claim stands in a file that its row names; each law and each clause of README has a row."""
+    together = []
+    for line, (_, names, where) in rows(CLAIMS, "claim"):
+        paths = re.findall(r"`([\w./]+)`", where)
+        source = text_of(*(path if os.path.exists(path) else "crates/" + path for path in paths))
+        for name in re.findall(r"`(\w+)`", names) if any(path.endswith((".rt", ".antt")) for path in paths) else ():
+            known = re.search(rf"\b(?:fn|ensures|record|data) {name}\b|^\s*(?:\w+ )*{name} :|^    {name}\(", source, re.M)
+            compare("claims", CLAIMS, line, name, name if known else f"not in {where}")
+        together.append(set(re.findall(r"`(\w+)`", names)))
+    calls = [(call.strip("`").split("::")[-1], name) for _, (_, call, says) in rows(README, "family") for name in re.findall(r"`(\w+)`", says.split(":")[0])]
+    laws = [("TheLaw", name) for _, (cell, *_) in rows(README, "field") for name in re.findall(r"\w+", cell)]
+    for pair in calls + laws:
+        compare("carried claims", CLAIMS, 1, pair, pair if any(set(pair) <= names for names in together) else "no row")
 
 def compare_crates():
     """Each crate has a README, which names no function that the crate does not have, and is on the page of layers."""
@@ -380,7 +395,7 @@ def play_examples(gate):
     shown = {}
     exec(re.search(r"```python\n(.*?)```", text_of(TRANSCRIPT), re.S)[1], shown)
     for path in sorted(glob.glob("examples/*.jsonl")) if gate else ():
-        out = path.removesuffix("jsonl") + "out"
+        out = os.path.splitext(path)[0] + ".out"
         wanted = text_of(out).split("\n")
         status = 5 if any(line.startswith("stop ") for line in wanted) else 0
         run = subprocess.run([gate, "run", path], capture_output=True, timeout=60)
@@ -393,8 +408,8 @@ def play_examples(gate):
         compare("causes", TRANSCRIPT, 1, shown["cause"](text_of("examples/first.jsonl").encode().splitlines(True), 4, gate), 9)
 
 for part in (compare_readme, compare_steps_and_edits, compare_kinds, compare_frames, compare_words, compare_numbers, compare_tables, compare_payloads,
-             compare_quotes, compare_definitions, compare_crates, compare_paths, lambda: play_examples(program())):
+             compare_quotes, compare_definitions, compare_claims, compare_crates, compare_paths, lambda: play_examples(program())):
     part()
 print(*(f"docs: {failure[:900]}\n" for failure in failures), sep="", end="")
-print(f"docs: {counts.total()} compared: " + ", ".join(f"{count} {what}" for what, count in counts.items()) + ("" if counts["causes"] else "; no built program at hand: nothing was played"))
+print(f"docs: {sum(counts.values())} compared: " + ", ".join(f"{count} {what}" for what, count in counts.items()) + ("" if counts["causes"] else "; no built program at hand: nothing was played"))
 sys.exit(bool(failures))

@@ -31,11 +31,12 @@ def program():
     return os.path.abspath(built[0]) if built else None
 
 
+def needed(found, otherwise):
+    return found or sys.exit(otherwise)
+
+
 def needed_program():
-    found = program()
-    if not found:
-        sys.exit("no built program at hand: run ./gate run /dev/null, or name it by GATE")
-    return found
+    return needed(program(), "no built program at hand: run ./gate run /dev/null, or name it by GATE")
 
 
 def oracle():
@@ -49,10 +50,13 @@ def oracle():
 
 
 def needed_oracle():
-    found = oracle()
-    if not found:
-        sys.exit("no reference at hand: name the folder of gate_oracle.py by ORACLE")
-    return found
+    return needed(oracle(), "no reference at hand: name the folder of gate_oracle.py by ORACLE")
+
+
+def by_reference(found, data):
+    """The status and the transcript of these lines by the reference, which is at hand."""
+    status, lines = found.run_bytes(data, STAGE)
+    return status, "".join(line + "\n" for line in lines).encode()
 
 
 def said_of_lines():
@@ -162,3 +166,25 @@ def first_difference(wanted, found):
     place = next((place for place, (one, other) in enumerate(zip(ours, theirs)) if one != other), min(len(ours), len(theirs)))
     shown = [rows[place][:300].decode("utf-8", "replace") if place < len(rows) else "(the end)" for rows in (ours, theirs)]
     return f"line {place + 1}: wanted {shown[0]}\n  found {shown[1]}"
+
+
+def against_reference(found, data, ran):
+    """What the reference finds wrong with the play of these lines, as a list of at most one; nothing if it is not at hand."""
+    wanted = by_reference(found, data) if found else (ran.status, ran.out)
+    if wanted == (ran.status, ran.out):
+        return []
+    return [f"not as the reference, of status {wanted[0]}: {first_difference(wanted[1], ran.out)}"]
+
+
+def end(told, tried, bad, left, found):
+    """Says what came of the files that were tried, and which were left, and ends the script: with 0 if some were tried and all were right."""
+    print(f"{told}, {bad} not as they should be" + (f"; left when the time was up: {', '.join(left)}" if left else "")
+          + ("" if found else "; the reference was not at hand"))
+    sys.exit(bad > 0 or not tried)
+
+
+def begin(main, about, most):
+    """Runs a script with its words, at most so many, or says what it is about."""
+    if sys.argv[1:2] == ["--help"]:
+        sys.exit(about)
+    main(*sys.argv[1:most + 1])

@@ -76,7 +76,7 @@ class Link:
         self.socket.settimeout(left)
         try:
             piece = self.socket.recv(65536)
-        except TimeoutError:
+        except socket.timeout:  # which is TimeoutError from Python 3.10 on
             return False
         except OSError:
             raise Closed(1006) from None

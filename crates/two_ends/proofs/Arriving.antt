@@ -1,6 +1,5 @@
 -- What the worker makes of a text of the client on its connection.
 use Rattle.std.proofs.Common.{◌≡◌, ℕ, List, [], ◌∷◌, ◌++◌, Bool, true, false, Option, Some, None, Result, Ok, Err, if◌then◌else◌, map, take, refl, sym, ap, subst, ◌∙◌, append_assoc, ◌⊎◌, inl, inr}
-use Rattle.std.proofs.lemmas.Bool.{true≢false}
 use Rattle.dispatch_types.specs.declared.dispatch.Dispatch.{Dispatch}
 use Rattle.dispatch_types.specs.Fold.{Held, fold, purge}
 use Rattle.edit_apply.specs.declared.Edit.{Edit}
@@ -18,17 +17,16 @@ use Rattle.world_law.specs.Folds.{last_cursors}
 use Rattle.world_law.specs.Frames.{framed, frame_sends, move_at}
 use Rattle.world_law.specs.Model.{Worker, in_model, replay, cursors}
 use Rattle.world_law.specs.Outputs.{Output, Says, Closes}
-use Rattle.world_law.specs.Sends.{IsOff, AreOff, IsAlone}
+use Rattle.world_law.specs.Sends.{IsOff, AreOff}
 use Rattle.world_law.specs.Sent.{Sent, dispatches}
 use Rattle.world_law.proofs.Folds.{same_id}
 use Rattle.world_law.proofs.Logs.{state_id, state_is_well}
 use Rattle.world_law.proofs.Workers.{Follows, SessionMeets}
 use Rattle.two_ends.specs.Flights.{Text, Close, said, flights, ReadsBack}
-use Rattle.two_ends.specs.TwoEnds.{IsAmong}
+use Rattle.two_ends.proofs.Among.{IsAmong, all_among}
 use Rattle.two_ends.proofs.Minds.{Item, Said, Shut, all_flown, Mind, all_minded, AtEnds, Good}
 use Rattle.two_ends.proofs.Steps.{minded_join}
 use Rattle.two_ends.proofs.Stages.{AreStill, still_join, later_join, still_later, all_still_minded, IsBeat, Prompts, Asks, Has, Stage, off_ends}
-use Rattle.two_ends.proofs.Places.{all_among, off_among}
 
 -- ---- lists
 
@@ -39,37 +37,6 @@ released_off conn now (x ∷ xs) = (by_test (is_on conn x.condition) refl, relea
     by_test : (b : Bool) → is_on conn x.condition ≡ b → IsOff conn (if b then record x { condition = Detached now } else x)
     by_test true here = refl
     by_test false off = off
-
-pub last_among : (x : Session Sent) (xs : List (Session Sent)) → IsAmong x (xs ++ x ∷ [])
-last_among x [] = inl refl
-last_among x (y ∷ ys) = inr (last_among x ys)
-
-pub among_join : (x y : Session Sent) (xs : List (Session Sent)) → IsAmong y (xs ++ x ∷ []) → IsAmong y xs ⊎ (y ≡ x)
-among_join x y [] among = elim among [
-  | inl same ↦ inr same
-  | inr none ↦ absurd none
-]
-among_join x y (z ∷ xs) among = elim among [
-  | inl same ↦ inl (inl same)
-  | inr later ↦ elim (among_join x y xs later) [
-    | inl before ↦ inl (inr before)
-    | inr last ↦ inr last
-  ]
-]
-
--- at most one session has a connection
-pub one_on : (conn : ℕ) (xs : List (Session Sent)) (x y : Session Sent) → IsAlone conn xs → IsAmong x xs → IsAmong y xs → is_on conn x.condition ≡ true → is_on conn y.condition ≡ true → y ≡ x
-one_on conn [] x y alone here there on also = absurd here
-one_on conn (z ∷ zs) x y alone here there on also = elim here [
-  | inl same ↦ elim there [
-    | inl other ↦ other ∙ sym same
-    | inr later ↦ absurd (true≢false (sym also ∙ off_among conn y zs (alone.0 (ap (λ (x : Session Sent). is_on conn x.condition) (sym same) ∙ on)) later))
-  ]
-  | inr later ↦ elim there [
-    | inl same ↦ absurd (true≢false (sym on ∙ off_among conn x zs (alone.0 (ap (λ (x : Session Sent). is_on conn x.condition) (sym same) ∙ also)) later))
-    | inr among ↦ one_on conn zs x y alone.1 later among on also
-  ]
-]
 
 -- ---- a session that is held whole leaves no thread over
 
@@ -109,9 +76,8 @@ module _ (text : ℕ → Dispatch → List ℕ) (intents conn : ℕ) where
 
   -- items that are still, while no session is on the connection or those on it stay
   module _ (worker : ℕ) (m : Mind) (is : List Item) (later : List (List ℕ)) (xs : List (Session Sent)) (items : List Item) (still : AreStill items) where
-    still_prompts : Prompts conn xs is later → Prompts conn xs (is ++ items) later
+    still_prompts : Prompts is later → Prompts (is ++ items) later
     still_prompts waits = record {
-      off = waits.off;
       prompt = waits.prompt;
       which = waits.which;
       front = waits.front;
@@ -122,9 +88,8 @@ module _ (text : ℕ → Dispatch → List ℕ) (intents conn : ℕ) where
       beats = waits.beats;
     }
 
-    still_asks : Asks intents m conn xs is later → Asks intents m conn xs (is ++ items) later
+    still_asks : Asks intents m is later → Asks intents m (is ++ items) later
     still_asks asks = record {
-      off = asks.off;
       still = still_join is items asks.still still;
       frame = asks.frame;
       first = asks.first;
@@ -144,18 +109,22 @@ module _ (text : ℕ → Dispatch → List ℕ) (intents conn : ℕ) where
 
     pub still_stage : Stage intents worker m conn xs is later → Stage intents worker m conn xs (is ++ items) later
     still_stage stage = elim stage [
-      | inl waits ↦ inl (still_prompts waits)
-      | inr (inl asks) ↦ inr (inl (still_asks asks))
-      | inr (inr has) ↦ inr (inr (still_has has))
+      | inl off ↦ inl (
+        off.0,
+        elim off.1 [
+          | inl waits ↦ inl (still_prompts waits)
+          | inr asks ↦ inr (still_asks asks)
+        ],
+      )
+      | inr has ↦ inr (still_has has)
     ]
 
   -- sessions that have lost the connection
   shut_stage : (worker : ℕ) (m : Mind) (is : List Item) (later : List (List ℕ)) (xs : List (Session Sent)) (now : ℕ) → Stage intents worker m conn xs is later
       → Stage intents worker m conn (map (released conn (Detached now)) xs) is later
   shut_stage worker m is later xs now stage = elim stage [
-    | inl waits ↦ inl (record { off = released_off conn now xs; prompt = waits.prompt; which = waits.which; front = waits.front; back = waits.back; split = waits.split; before = waits.before; later = waits.later; beats = waits.beats })
-    | inr (inl asks) ↦ inr (inl (record { off = released_off conn now xs; still = asks.still; frame = asks.frame; first = asks.first; front = asks.front; back = asks.back; split = asks.split; before = asks.before; later = asks.later }))
-    | inr (inr has) ↦ inr (inr (record { ends = off_ends intents worker conn (all_minded m is) (map (released conn (Detached now)) xs) (released_off conn now xs); late = has.late; beats = has.beats }))
+    | inl off ↦ inl (released_off conn now xs, off.1)
+    | inr has ↦ inr (record { ends = off_ends intents worker conn (all_minded m is) (map (released conn (Detached now)) xs) (released_off conn now xs); late = has.late; beats = has.beats })
   ]
 
   pub plain_leaves : (w : Worker) (worker : ℕ) (m : Mind) (is : List Item) (later : List (List ℕ)) (move : Move) → IsPlain move → Stage intents worker m conn w.core.sessions is later

@@ -31,7 +31,8 @@ use Rattle.world_law.specs.Sent.{Sent, dispatch_of, dispatches}
 use Rattle.world_law.proofs.Alone.{IsSound}
 use Rattle.world_law.proofs.Replays.{last_is}
 use Rattle.two_ends.specs.Flights.{ReadsBack}
-use Rattle.two_ends.specs.TwoEnds.{IsAmong, IsNotBeyond}
+use Rattle.two_ends.specs.TwoEnds.{IsNotBeyond}
+use Rattle.two_ends.proofs.Among.{IsAmong}
 use Rattle.two_ends.proofs.Stages.{MaySay, IsOwn}
 use Rattle.two_ends.proofs.Judging.{named_session}
 use Rattle.two_ends.proofs.Places.{same_number, same_session, among_below}

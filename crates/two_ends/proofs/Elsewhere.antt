@@ -3,6 +3,7 @@ use Rattle.std.proofs.Common.{◌≡◌, ℕ, ◌+◌, List, [], ◌∷◌, ◌+
 use Rattle.std.specs.Prelude.{◌==◌, All, flat_map, max, nat_lt}
 use Rattle.std.specs.Option.{option_map_or}
 use Rattle.std.proofs.lemmas.Bool.{true≢false}
+use Rattle.std.proofs.lemmas.Grind.{flat_map-append}
 use Rattle.guild_model.specs.Record.{Record}
 use Rattle.dispatch_types.specs.declared.dispatch.Dispatch.{Dispatch}
 use Rattle.edit_apply.specs.declared.Edit.{Edit}
@@ -29,15 +30,13 @@ use Rattle.world_law.proofs.Alone.{IsSound, map_off, entry_keeps}
 use Rattle.world_law.proofs.Folds.{dispatches_told}
 use Rattle.world_law.proofs.Lists.{append_none, map_join}
 use Rattle.world_law.proofs.Sends.{chunk_dispatches}
-use Rattle.two_ends.specs.Flights.{Flight, Text, Close, said, flights}
-use Rattle.two_ends.specs.TwoEnds.{IsAmong}
+use Rattle.two_ends.specs.Flights.{Flight, Text, Close, said, flights, flight}
+use Rattle.two_ends.proofs.Among.{IsAmong, off_among, among_here}
 use Rattle.two_ends.proofs.Minds.{Mind, all_minded, Grows, SessionKeeps, WorkerKeeps, AtEnds}
-use Rattle.two_ends.proofs.Growing.{entered_keeps, looked_grows}
-use Rattle.two_ends.proofs.Steps.{flights_join}
-use Rattle.two_ends.proofs.ElsewhereStays.{among_here, off_alone, alone_split, IsOne, one_or_off, IsFound, found_split, none_changed, differs, on_is, Stays, same_stays, stays_on, off_stays, each_stays, map_stays, more_stays, other_stays, released_own, ending_own, gone_stays, resumed_stays, IsPlain, plainly, none_if, closes_flights, older_flights, texts_off, wishes_off, voice_off}
+use Rattle.two_ends.proofs.Growing.{entered_keeps, looked_grows, framed_goes}
+use Rattle.two_ends.proofs.ElsewhereStays.{off_alone, alone_split, IsOne, one_or_off, IsFound, found_split, none_changed, differs, on_is, Stays, same_stays, stays_on, off_stays, each_stays, map_stays, more_stays, other_stays, released_own, ending_own, gone_stays, resumed_stays, IsPlain, plainly, none_if, closes_flights, older_flights, texts_off, wishes_off, voice_off}
 use Rattle.two_ends.proofs.ElsewhereTurns.{sends_off, sends_on, Turn, plain_off, turn_off, plain_reaches, turn_reaches, reaches_join}
-use Rattle.two_ends.proofs.Places.{off_among}
-pub use Rattle.two_ends.proofs.ElsewhereTurns.{IsShut, IsLate, AreLate, Reaches}
+pub use Rattle.two_ends.proofs.ElsewhereTurns.{IsShut, Reaches}
 
 -- an input is no opening and no frame of a connection
 abbrev pub IsElse : ℕ → Input → Type 0
@@ -48,19 +47,6 @@ IsElse conn (Frame c text) = ¬ (c ≡ conn)
 IsElse conn (Lost c) = Unit {0}
 IsElse conn (Closed c code) = Unit {0}
 IsElse conn (Tick now) = Unit {0}
-
--- a frame leaves the number of the worker
-framed_number : (text : ℕ → Dispatch → List ℕ) (w : Worker) (c : ℕ) (move : Move) → (framed (in_model text) w c move).core.worker ≡ w.core.worker
-framed_number text w c Nothing = refl
-framed_number text w c Answers = refl
-framed_number text w c (ClosesWith code) = refl
-framed_number text w c (Begins bot viewer) = refl
-framed_number text w c Denies = refl
-framed_number text w c (Resumes number None seq held) = refl
-framed_number text w c (Resumes number (Some d) seq held) = refl
-framed_number text w c (Wants number (Members ask)) = refl
-framed_number text w c (Wants number (Presence status)) = refl
-framed_number text w c (Wants number (Voice ask)) = refl
 
 module _ (text : ℕ → Dispatch → List ℕ) (conn : ℕ) where
   -- ---- entries of a log
@@ -102,15 +88,15 @@ module _ (text : ℕ → Dispatch → List ℕ) (conn : ℕ) where
     quiet : (xs : List (Session Sent)) → AreOff conn xs → on_its_way xs ≡ []
     quiet [] off = refl
     quiet (x ∷ xs) off =
-        flights_join conn (entry_sends (in_model text) s e x) (flat_map (entry_sends (in_model text) s e) xs)
+        flat_map-append (flight conn) (entry_sends (in_model text) s e x) (flat_map (entry_sends (in_model text) s e) xs)
         ∙ (ap (λ fs. fs ++ on_its_way xs) (sends_off text conn x.condition (length x.sent.told) (due s e x.viewer) off.0) ∙ quiet xs off.1)
 
     one_told : (front : List (Session Sent)) (x : Session Sent) (back : List (Session Sent)) → AreOff conn front → AreOff conn back → on_its_way (front ++ x ∷ back) ≡ flights conn (entry_sends (in_model text) s e x)
     one_told [] x back front_off back_off =
-        flights_join conn (entry_sends (in_model text) s e x) (flat_map (entry_sends (in_model text) s e) back)
+        flat_map-append (flight conn) (entry_sends (in_model text) s e x) (flat_map (entry_sends (in_model text) s e) back)
         ∙ (ap (λ fs. flights conn (entry_sends (in_model text) s e x) ++ fs) (quiet back back_off) ∙ append_none (flights conn (entry_sends (in_model text) s e x)))
     one_told (y ∷ front) x back front_off back_off =
-        flights_join conn (entry_sends (in_model text) s e y) (flat_map (entry_sends (in_model text) s e) (front ++ x ∷ back))
+        flat_map-append (flight conn) (entry_sends (in_model text) s e y) (flat_map (entry_sends (in_model text) s e) (front ++ x ∷ back))
         ∙ (ap (λ fs. fs ++ on_its_way (front ++ x ∷ back)) (sends_off text conn y.condition (length y.sent.told) (due s e y.viewer) front_off.0) ∙ one_told front x back front_off.1 back_off)
 
     entry_turn : (xs : List (Session Sent)) → IsAlone conn xs → Turn text conn xs (map (after_entry (in_model text) w.logs g s e) xs) (on_its_way xs)
@@ -142,7 +128,7 @@ module _ (text : ℕ → Dispatch → List ℕ) (conn : ℕ) where
       let next : Worker = entered (in_model text) w g s e in
       let rest = look_off es next g (after s e) (entry_off w g s e w.core.sessions off) in (
         rest.0,
-        flights_join conn (flat_map (entry_sends (in_model text) s e) w.core.sessions) (look_sends (in_model text) next g (after s e) es)
+        flat_map-append (flight conn) (flat_map (entry_sends (in_model text) s e) w.core.sessions) (look_sends (in_model text) next g (after s e) es)
             ∙ (ap (λ fs. fs ++ flights conn (look_sends (in_model text) next g (after s e) es)) (quiet w g s e w.core.sessions off) ∙ rest.1),
       )
 
@@ -159,7 +145,7 @@ module _ (text : ℕ → Dispatch → List ℕ) (conn : ℕ) where
       turn_reaches text conn intents w.core.worker m w.core.sessions next.core.sessions (flights conn here) (entry_turn w g s e w.core.sessions alone) kept ends in
       let rest : Reaches text intents w.core.worker conn (all_minded m first.items) last.core.sessions (flights conn later) =
       look_reaches intents es next g (after s e) (all_minded m first.items) (entry_alone w g s e w.core.sessions alone) kept first.ends in
-      subst (λ (fs : List Flight). Reaches text intents w.core.worker conn m last.core.sessions fs) (sym (flights_join conn here later))
+      subst (λ (fs : List Flight). Reaches text intents w.core.worker conn m last.core.sessions fs) (sym (flat_map-append (flight conn) here later))
       (reaches_join text conn intents w.core.worker m next.core.sessions last.core.sessions (flights conn here) (flights conn later) (looked_grows text es next g (after s e)) first rest)
 
   -- ---- a frame of another connection
@@ -236,7 +222,7 @@ module _ (text : ℕ → Dispatch → List ℕ) (conn : ℕ) where
       inl (record {
         codes = shut.0;
         shut =
-            flights_join conn (older_sends older) texts
+            flat_map-append (flight conn) (older_sends older) texts
             ∙ (ap (λ fs. flights conn (older_sends older) ++ fs) (texts_off conn c differ (texts_after held seq) (Resumed held.last)) ∙ (append_none (flights conn (older_sends older)) ∙ shut.1));
         stays = resumed_stays conn c w.now number differ older w.core;
       })
@@ -339,7 +325,7 @@ on_elsewhere text (Frame c received) w conn intents m other sound keeps kept end
     let move : Move = move_at (in_model text) w c received in
     turn_reaches text conn intents w.core.worker m w.core.sessions (framed (in_model text) w c move).core.sessions (flights conn (frame_sends (in_model text) w c move))
     (frame_turn text conn w c move (differs c conn other) (sound.alone conn))
-    (subst (λ (n : ℕ). All (SessionKeeps n) (framed (in_model text) w c move).core.sessions) (framed_number text w c move) kept) ends
+    (subst (λ (n : ℕ). All (SessionKeeps n) (framed (in_model text) w c move).core.sessions) (framed_goes text w c move).worker kept) ends
 on_elsewhere text (Lost c) w conn intents m other sound keeps kept ends =
     plain_reaches text conn intents w.core.worker m w.core.sessions (lost c w.now w.core).sessions [] (plainly conn w.core.sessions (lost c w.now w.core).sessions [] refl (lost_stays text conn w c)) ends
 on_elsewhere text (Closed c code) w conn intents m other sound keeps kept ends =

@@ -4,6 +4,7 @@ use Rattle.std.specs.Prelude.{◌==◌, ◌&&◌, flat_map}
 use Rattle.std.specs.List.{find}
 use Rattle.std.proofs.lemmas.Bool.{eqb-true, true≢false}
 use Rattle.std.proofs.lemmas.Option.{same_Some}
+use Rattle.std.proofs.lemmas.Grind.{flat_map-append}
 use Rattle.guild_model.specs.Record.{Record}
 use Rattle.guild_model.specs.declared.presence.Status.{Status}
 use Rattle.dispatch_types.specs.declared.viewer.Viewer.{Viewer}
@@ -20,24 +21,10 @@ use Rattle.world_law.specs.Sent.{Sent, ended_at}
 use Rattle.world_law.specs.Wants.{change_first, wished, presence_wishes, voice_wishes}
 use Rattle.world_law.specs.Frames.{older_sends}
 use Rattle.world_law.specs.Sends.{IsOff, AreOff, IsAlone}
-use Rattle.two_ends.specs.Flights.{Flight, Text, Close, said, flights}
-use Rattle.two_ends.specs.TwoEnds.{IsAmong}
-use Rattle.two_ends.proofs.Steps.{flights_join}
-use Rattle.two_ends.proofs.Places.{off_among}
+use Rattle.two_ends.specs.Flights.{Flight, Text, Close, said, flights, flight}
+use Rattle.two_ends.proofs.Among.{IsAmong, off_among, among_here, among_part}
 
 -- ---- lists of sessions
-
-pub among_here : (x : Session Sent) (front back : List (Session Sent)) → IsAmong x (front ++ x ∷ back)
-among_here x [] back = inl refl
-among_here x (y ∷ front) back = inr (among_here x front back)
-
-pub among_part : (x : Session Sent) (xs ys : List (Session Sent)) → IsAmong x (xs ++ ys) → IsAmong x xs ⊎ IsAmong x ys
-among_part x [] ys among = inr among
-among_part x (y ∷ xs) ys (inl same) = inl (inl same)
-among_part x (y ∷ xs) ys (inr later) = elim (among_part x xs ys later) [
-  | inl here ↦ inl (inr here)
-  | inr there ↦ inr there
-]
 
 off_each : (conn : ℕ) (xs : List (Session Sent)) → ((x : Session Sent) → IsAmong x xs → IsOff conn x) → AreOff conn xs
 off_each conn [] each = tt
@@ -261,7 +248,7 @@ module _ (conn : ℕ) where
   pub wishes_off : (viewer : Viewer) (status : Status) (records : List Record) → flights conn (presence_wishes viewer status records) ≡ []
   wishes_off viewer status [] = refl
   wishes_off viewer status (s ∷ records) =
-      flights_join conn (wished s.id (presence_wish s viewer status)) (presence_wishes viewer status records)
+      flat_map-append (flight conn) (wished s.id (presence_wish s viewer status)) (presence_wishes viewer status records)
       ∙ (ap (λ fs. fs ++ flights conn (presence_wishes viewer status records)) (wished_off s.id (presence_wish s viewer status)) ∙ wishes_off viewer status records)
 
   pub voice_off : (viewer : Viewer) (ask : VoiceAsk) (o : Option Record) → flights conn (voice_wishes viewer ask o) ≡ []

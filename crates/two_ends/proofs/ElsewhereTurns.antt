@@ -3,20 +3,18 @@ use Rattle.std.proofs.Common.{◌≡◌, ℕ, ◌+◌, List, [], ◌∷◌, ◌+
 use Rattle.std.specs.Prelude.{◌==◌, All}
 use Rattle.std.proofs.lemmas.Bool.{true≢false}
 use Rattle.std.proofs.lemmas.List.{length-map}
-use Rattle.dispatch_types.specs.declared.viewer.Viewer.{Viewer}
 use Rattle.dispatch_types.specs.declared.dispatch.Dispatch.{Dispatch}
 use Rattle.session_core.specs.State.{Session, Condition, Attached, Detached, Ended, is_on}
-use Rattle.session_core.specs.Resume.{session_id}
 use Rattle.world_law.specs.Outputs.{sends}
 use Rattle.world_law.specs.Sent.{Sent, dispatch_of, dispatches}
 use Rattle.world_law.specs.Sends.{AreOff}
 use Rattle.world_law.proofs.Lists.{all_at, append_none, map_join}
 use Rattle.two_ends.specs.Flights.{Flight, Text, Close, flights}
-use Rattle.two_ends.specs.TwoEnds.{IsAmong}
-use Rattle.two_ends.proofs.Minds.{Item, Said, Told, Shut, flown, all_flown, told_items, Mind, all_minded, Grows, Grown, SessionKeeps, At, AtEnds, Good}
-use Rattle.two_ends.proofs.Steps.{flown_told, good_grown, good_join, minded_join, told_good}
-use Rattle.two_ends.proofs.ElsewhereStays.{among_here, among_part, on_is, off_stays, IsPlain, none_if}
-use Rattle.two_ends.proofs.Places.{off_among}
+use Rattle.two_ends.proofs.Among.{IsAmong, off_among, among_here, among_part}
+use Rattle.two_ends.proofs.Minds.{Item, Shut, flown, all_flown, told_items, Mind, all_minded, Grows, Grown, SessionKeeps, At, AtEnds, Good}
+use Rattle.two_ends.proofs.Steps.{flown_told, good_grown, good_join, minded_join, told_good, at_grown}
+use Rattle.two_ends.proofs.ElsewhereStays.{on_is, off_stays, IsPlain, none_if}
+use Rattle.two_ends.proofs.Stages.{still_good, told_later, shut_still, shut_flown, AreStill, AreLater, still_later, later_join, all_still_minded}
 
 -- a connection that no session has, and nothing but closes on its way to it
 pub record IsShut (conn : ℕ) (xs : List (Session Sent)) (fs : List Flight) : Type 0 where
@@ -24,49 +22,13 @@ pub record IsShut (conn : ℕ) (xs : List (Session Sent)) (fs : List Flight) : T
   pub codes : List ℕ
   pub shut : fs ≡ map Close codes
 
--- dispatches and closes alone
-abbrev pub IsLate : Item → Type 0
-IsLate (Said out) = ⊥
-IsLate (Told n d) = Unit {0}
-IsLate (Shut code) = Unit {0}
-
-abbrev pub AreLate : List Item → Type 0
-AreLate [] = Unit {0}
-AreLate (i ∷ is) = IsLate i × AreLate is
-
 -- what is on its way may come to the client, which then holds each session on the connection whole
 pub record Reaches (text : ℕ → Dispatch → List ℕ) (intents worker conn : ℕ) (m : Mind) (xs : List (Session Sent)) (fs : List Flight) : Type 0 where
   pub items : List Item
   pub are : fs ≡ all_flown text items
   pub good : Good intents worker xs m items
   pub ends : AtEnds intents worker conn (all_minded m items) xs
-  pub late : AreLate items
-
--- ---- lists of items
-
-late_join : (is js : List Item) → AreLate is → AreLate js → AreLate (is ++ js)
-late_join [] js first later = later
-late_join (i ∷ is) js first later = (first.0, late_join is js first.1 later)
-
-late_told : (n : ℕ) (ds : List Dispatch) → AreLate (told_items n ds)
-late_told n [] = tt
-late_told n (d ∷ ds) = (tt, late_told (n + 1) ds)
-
-late_shut : (codes : List ℕ) → AreLate (map Shut codes)
-late_shut [] = tt
-late_shut (code ∷ codes) = (tt, late_shut codes)
-
-flown_shut : (text : ℕ → Dispatch → List ℕ) (codes : List ℕ) → map Close codes ≡ all_flown text (map Shut codes)
-flown_shut text [] = refl
-flown_shut text (code ∷ codes) = ap (λ fs. Close code ∷ fs) (flown_shut text codes)
-
-minded_shut : (m : Mind) (codes : List ℕ) → all_minded m (map Shut codes) ≡ m
-minded_shut m [] = refl
-minded_shut m (code ∷ codes) = minded_shut m codes
-
-good_shut : (intents worker : ℕ) (xs : List (Session Sent)) (m : Mind) (codes : List ℕ) → Good intents worker xs m (map Shut codes)
-good_shut intents worker xs m [] = tt
-good_shut intents worker xs m (code ∷ codes) = (tt, good_shut intents worker xs m codes)
+  pub late : AreLater items
 
 module _ (text : ℕ → Dispatch → List ℕ) (conn : ℕ) where
   pub sends_off : (condition : Condition) (n : ℕ) (ds : List Dispatch) → is_on conn condition ≡ false → flights conn (sends text condition n ds) ≡ []
@@ -112,23 +74,14 @@ module _ (text : ℕ → Dispatch → List ℕ) (conn : ℕ) where
     pub plain_reaches : (xs ys : List (Session Sent)) (fs : List Flight) → IsPlain conn xs ys fs → AtEnds intents worker conn m xs → Reaches text intents worker conn m ys fs
     plain_reaches xs ys fs plain ends =
         let held : AtEnds intents worker conn m ys = λ y among on. ends y (plain.stays y among on) on in
+        let still : AreStill (map Shut plain.codes) = shut_still plain.codes in
         record {
           items = map Shut plain.codes;
-          are = plain.shut ∙ flown_shut text plain.codes;
-          good = good_shut intents worker ys m plain.codes;
-          ends = subst (λ (n : Mind). AtEnds intents worker conn n ys) (sym (minded_shut m plain.codes)) held;
-          late = late_shut plain.codes;
+          are = plain.shut ∙ shut_flown text plain.codes;
+          good = still_good intents worker ys m (map Shut plain.codes) still;
+          ends = subst (λ (n : Mind). AtEnds intents worker conn n ys) (sym (all_still_minded m (map Shut plain.codes) still)) held;
+          late = still_later (map Shut plain.codes) still;
         }
-
-    at_grown : (x y : Session Sent) (front : List Dispatch) → Grows x y → At intents worker m x front → At intents worker m y front
-    at_grown x y front grows at = record {
-      session = at.session;
-      is = at.is;
-      id = at.id ∙ ap (session_id worker) (sym grows.number);
-      number = at.number;
-      intents = ap (λ (v : Viewer). v.intents) grows.viewer ∙ at.intents;
-      folds = at.folds;
-    }
 
     told_reaches : (xs ys : List (Session Sent)) (fs : List Flight) → IsTold xs ys fs → All (SessionKeeps worker) ys → AtEnds intents worker conn m xs → Reaches text intents worker conn m ys fs
     told_reaches xs ys fs told keeps ends = subst (λ (zs : List (Session Sent)). Reaches text intents worker conn m zs fs) (sym told.after) reaches
@@ -150,7 +103,7 @@ module _ (text : ℕ → Dispatch → List ℕ) (conn : ℕ) where
 
         all : Good intents worker zs m (told_items (length held) more) × At intents worker (all_minded m (told_items (length held) more)) y (held ++ more)
         all = told_good intents worker zs y held more [] (among_here y told.front told.back) (told.grows.dispatches ∙ ap (λ ds. held ++ ds) (sym (append_none more))) own m
-            (at_grown told.session y held told.grows (ends told.session told.among told.on))
+            (at_grown intents worker m told.session y held told.grows (ends told.session told.among told.on))
 
         whole : At intents worker (all_minded m (told_items (length held) more)) y (dispatches y.sent)
         whole = subst (λ (ds : List Dispatch). At intents worker (all_minded m (told_items (length held) more)) y ds) (sym told.grows.dispatches) all.1
@@ -165,7 +118,7 @@ module _ (text : ℕ → Dispatch → List ℕ) (conn : ℕ) where
         ]
 
         reaches : Reaches text intents worker conn m zs fs
-        reaches = record { items = told_items (length held) more; are = told.told; good = all.0; ends = only; late = late_told (length held) more }
+        reaches = record { items = told_items (length held) more; are = told.told; good = all.0; ends = only; late = told_later (length held) more }
 
     pub turn_reaches : (xs ys : List (Session Sent)) (fs : List Flight) → Turn xs ys fs → All (SessionKeeps worker) ys → AtEnds intents worker conn m xs → Reaches text intents worker conn m ys fs
     turn_reaches xs ys fs (inl plain) keeps ends = plain_reaches xs ys fs plain ends
@@ -178,5 +131,5 @@ module _ (text : ℕ → Dispatch → List ℕ) (conn : ℕ) where
       are = ap (λ hs. hs ++ gs) first.are ∙ (ap (λ hs. all_flown text first.items ++ hs) rest.are ∙ sym (map_join (flown text) first.items rest.items));
       good = good_join intents worker ys m first.items rest.items (good_grown intents worker xs ys grown m first.items first.good) rest.good;
       ends = subst (λ (n : Mind). AtEnds intents worker conn n ys) (sym (minded_join m first.items rest.items)) rest.ends;
-      late = late_join first.items rest.items first.late rest.late;
+      late = later_join first.items rest.items first.late rest.late;
     }

@@ -26,9 +26,9 @@ use Rattle.world_law.specs.Model.{Logs, Worker, in_model, cursors, seen_with}
 use Rattle.world_law.proofs.Lists.{append_none, map_join}
 use Rattle.world_law.proofs.Folds.{dispatches_told}
 use Rattle.world_law.proofs.Sends.{chunk_dispatches}
-use Rattle.two_ends.specs.TwoEnds.{IsAmong}
+use Rattle.two_ends.proofs.Among.{IsAmong}
 use Rattle.two_ends.proofs.Minds.{Grows, Grown, Keeps, SessionKeeps, WorkerKeeps}
-use Rattle.two_ends.proofs.Kept.{IsLater, AreLater, all_keep_later, due_later, answer_later, first_keep}
+use Rattle.two_ends.proofs.Kept.{IsNoReady, AreNoReady, all_keep_no_ready, due_no_ready, answer_no_ready, first_keep}
 
 -- ---- growing
 
@@ -66,7 +66,7 @@ pub record Adds (x y : Session Sent) : Type 0 where
   pub viewer : y.viewer ≡ x.viewer
   pub more : List Dispatch
   pub dispatches : dispatches y.sent ≡ dispatches x.sent ++ more
-  pub later : AreLater more
+  pub no_ready : AreNoReady more
 
 -- each session has grown so, and what others have been sent that may have begun after them keeps their ids
 abbrev pub Added : ℕ → List (Session Sent) → List (Session Sent) → Type 0
@@ -87,7 +87,7 @@ adds_keep worker x y adds keeps =
     subst (λ (ds : List Dispatch). All (Keeps (session_id worker y.number)) ds) (sym adds.dispatches)
     (All-append (Keeps (session_id worker y.number)) (dispatches x.sent) adds.more
     (subst (λ (n : ℕ). All (Keeps (session_id worker n)) (dispatches x.sent)) (sym adds.number) keeps)
-    (all_keep_later (session_id worker y.number) adds.more adds.later))
+    (all_keep_no_ready (session_id worker y.number) adds.more adds.no_ready))
 
 pub added_keep : (worker : ℕ) (xs ys : List (Session Sent)) → Added worker xs ys → All (SessionKeeps worker) xs → All (SessionKeeps worker) ys
 added_keep worker [] ys added keep = added
@@ -98,7 +98,7 @@ added_keep worker (x ∷ xs) (y ∷ ys) added keep =
 
 -- nothing more
 adds_none : (x y : Session Sent) → y.number ≡ x.number → y.viewer ≡ x.viewer → dispatches y.sent ≡ dispatches x.sent → Adds x y
-adds_none x y number viewer same = record { number = number; viewer = viewer; more = []; dispatches = same ∙ sym (append_none (dispatches x.sent)); later = All-nil IsLater }
+adds_none x y number viewer same = record { number = number; viewer = viewer; more = []; dispatches = same ∙ sym (append_none (dispatches x.sent)); no_ready = All-nil IsNoReady }
 
 adds_same : (x : Session Sent) → Adds x x
 adds_same x = adds_none x x refl refl refl
@@ -109,7 +109,7 @@ adds_on x y z first next = record {
   viewer = next.viewer ∙ first.viewer;
   more = first.more ++ next.more;
   dispatches = next.dispatches ∙ (ap (λ ds. ds ++ next.more) first.dispatches ∙ append_assoc (dispatches x.sent) first.more next.more);
-  later = All-append IsLater first.more next.more first.later next.later;
+  no_ready = All-append IsNoReady first.more next.more first.no_ready next.no_ready;
 }
 
 added_same : (worker : ℕ) (xs : List (Session Sent)) → Added worker xs xs
@@ -165,7 +165,7 @@ entry_adds text logs g s e x = by_live (is_live x.condition)
       viewer = refl;
       more = due s e x.viewer;
       dispatches = map_join dispatch_of x.sent.told more ∙ ap (λ ds. dispatches x.sent ++ ds) (dispatches_told (Entry g (length (logs.seen g) + 1)) (cursors logs.seen) (cursors (seen_with logs.seen g e)) (due s e x.viewer));
-      later = due_later s e x.viewer;
+      no_ready = due_no_ready s e x.viewer;
     }
     by_live false = adds_same x
 
@@ -175,7 +175,7 @@ answer_adds text w ask x = record {
   viewer = refl;
   more = answer_to (in_model text) w ask x;
   dispatches = map_join dispatch_of x.sent.told (chunks_told w.chunks (cursors w.logs.seen) (answer_to (in_model text) w ask x)) ∙ ap (λ ds. dispatches x.sent ++ ds) (chunk_dispatches text w.chunks (cursors w.logs.seen) (answer_to (in_model text) w ask x));
-  later = answer_later x.viewer ask (record_at (in_model text) w.logs ask.guild);
+  no_ready = answer_no_ready x.viewer ask (record_at (in_model text) w.logs ask.guild);
 }
 
 released_adds : (conn : ℕ) (next : Condition) (x : Session Sent) → Adds x (released conn next x)
@@ -286,7 +286,7 @@ module _ (text : ℕ → Dispatch → List ℕ) where
   want_goes number (Presence status) s w before = before
   want_goes number (Voice ask) s w before = before
 
-  framed_goes : (w : Worker) (conn : ℕ) (move : Move) → Goes w.core (framed (in_model text) w conn move).core
+  pub framed_goes : (w : Worker) (conn : ℕ) (move : Move) → Goes w.core (framed (in_model text) w conn move).core
   framed_goes w conn Nothing = record { worker = refl; sessions = added_same w.core.worker w.core.sessions }
   framed_goes w conn Answers = record { worker = refl; sessions = added_same w.core.worker w.core.sessions }
   framed_goes w conn (ClosesWith code) = let new = gone_goes w.core conn (Detached w.now) in record { worker = new.worker; sessions = new.sessions }

@@ -16,16 +16,14 @@ use Rattle.client_session.specs.Received.{IsTextOf}
 use Rattle.client_session.specs.Step.{Event as Told, Receives, Loses, Asks as IsAsked, acts}
 use Rattle.client_session.specs.Table.{identify, resume, first_frame, frame_text, heartbeat, sends, dial, is_due, is_final, beaten, forgotten, unlinked}
 use Rattle.client_session.specs.Law.{Model as Client, taken}
-use Rattle.world_law.specs.Sends.{AreOff}
 use Rattle.world_law.specs.Sent.{Sent, dispatch_of, dispatches}
 use Rattle.world_law.specs.Model.{Worker}
 use Rattle.world_law.proofs.Lists.{all_at, append_none}
 use Rattle.two_ends.specs.Flights.{ReadsBack, SessionFits, Fits, said, sent_texts}
-use Rattle.two_ends.specs.TwoEnds.{IsAmong}
+use Rattle.two_ends.proofs.Among.{IsAmong, all_among}
 use Rattle.two_ends.proofs.Minds.{Item, Said, Told as ToldItem, Shut, Mind, minded, Known, Knows, Fine}
 use Rattle.two_ends.proofs.Stages.{IsStill, AreStill, IsLater, AreBeats, IsOwn, AreOwn, IsFirst, Prompts, Asks, Has, Stage, still_minded, still_later}
 use Rattle.two_ends.proofs.Readings.{told_read, said_read, resumed_read}
-use Rattle.two_ends.proofs.Places.{all_among}
 
 -- what a client has in mind
 abbrev pub mind : Client → Mind
@@ -146,9 +144,14 @@ module _ (intents worker conn : ℕ) (xs : List (Session Sent)) where
   pub heard_stage : (c : Client) → c.intents ≡ intents → (i : Item) (is : List Item) (texts : List (List ℕ)) (now : ℕ) → Stage intents worker (mind c) conn xs (i ∷ is) texts
       → Stage intents worker (minded (mind c) i) conn xs is (texts ++ sent_texts (acts c (Receives (payload_of i) now)))
   heard_stage c asked i is texts now stage = elim stage [
-    | inl waits ↦ by_front waits waits.front refl
-    | inr (inl asks) ↦ inr (inl (still_asks i is asks))
-    | inr (inr has) ↦ inr (inr (still_has i is has))
+    | inl off ↦ inl (
+      off.0,
+      elim off.1 [
+        | inl waits ↦ by_front waits waits.front refl
+        | inr asks ↦ inr (still_asks i is asks)
+      ],
+    )
+    | inr has ↦ inr (still_has i is has)
   ]
     where
       silent : (i : Item) → IsLater i → sent_texts (acts c (Receives (payload_of i) now)) ≡ []
@@ -163,9 +166,8 @@ module _ (intents worker conn : ℕ) (xs : List (Session Sent)) where
       no_texts : (i : Item) → IsLater i → texts ++ sent_texts (acts c (Receives (payload_of i) now)) ≡ texts
       no_texts i later = ap (λ more. texts ++ more) (silent i later) ∙ append_none texts
 
-      still_asks : (i : Item) (is : List Item) → Asks intents (mind c) conn xs (i ∷ is) texts → Asks intents (minded (mind c) i) conn xs is (texts ++ sent_texts (acts c (Receives (payload_of i) now)))
+      still_asks : (i : Item) (is : List Item) → Asks intents (mind c) (i ∷ is) texts → Asks intents (minded (mind c) i) is (texts ++ sent_texts (acts c (Receives (payload_of i) now)))
       still_asks i is asks = record {
-        off = asks.off;
         still = asks.still.1;
         frame = asks.frame;
         first = subst (λ (m : Mind). IsFirst intents m asks.frame) (sym (still_minded (mind c) i asks.still.0)) asks.first;
@@ -180,11 +182,10 @@ module _ (intents worker conn : ℕ) (xs : List (Session Sent)) where
       still_has i is has = record { ends = has.ends; late = has.late.1; beats = subst AreBeats (sym (no_texts i has.late.0)) has.beats }
 
       -- the client sends its first frame
-      opens : (off : AreOff conn xs) (beats : AreBeats texts) (i : Item) (is : List Item) → AreStill is → (i ≡ Said (Hello 41250)) ⊎ (i ≡ Said (Invalid false))
-          → Asks intents (minded (mind c) i) conn xs is (texts ++ sent_texts (acts c (Receives (payload_of i) now)))
-      opens off beats i is still which = elim which [
-        | inl hello ↦ subst (λ i. Asks intents (minded (mind c) i) conn xs is (texts ++ sent_texts (acts c (Receives (payload_of i) now)))) (sym hello) (record {
-          off = off;
+      opens : (beats : AreBeats texts) (i : Item) (is : List Item) → AreStill is → (i ≡ Said (Hello 41250)) ⊎ (i ≡ Said (Invalid false))
+          → Asks intents (minded (mind c) i) is (texts ++ sent_texts (acts c (Receives (payload_of i) now)))
+      opens beats i is still which = elim which [
+        | inl hello ↦ subst (λ i. Asks intents (minded (mind c) i) is (texts ++ sent_texts (acts c (Receives (payload_of i) now)))) (sym hello) (record {
           still = still;
           frame = first_frame c.token c.intents c.session;
           first = first_is c.session;
@@ -194,8 +195,7 @@ module _ (intents worker conn : ℕ) (xs : List (Session Sent)) where
           before = beats;
           later = tt;
         })
-        | inr denied ↦ subst (λ i. Asks intents (minded (mind c) i) conn xs is (texts ++ sent_texts (acts c (Receives (payload_of i) now)))) (sym denied) (record {
-          off = off;
+        | inr denied ↦ subst (λ i. Asks intents (minded (mind c) i) is (texts ++ sent_texts (acts c (Receives (payload_of i) now)))) (sym denied) (record {
           still = still;
           frame = identify c.token c.intents;
           first = inl (c.token, ap (identify c.token) asked);
@@ -211,19 +211,19 @@ module _ (intents worker conn : ℕ) (xs : List (Session Sent)) where
           first_is None = inl (c.token, ap (identify c.token) asked)
           first_is (Some s) = inr (c.token, (s, (refl, refl)))
 
-      by_front : (waits : Prompts conn xs (i ∷ is) texts) (front : List Item) → waits.front ≡ front → Stage intents worker (minded (mind c) i) conn xs is (texts ++ sent_texts (acts c (Receives (payload_of i) now)))
+      by_front : (waits : Prompts (i ∷ is) texts) (front : List Item) → waits.front ≡ front
+          → Prompts is (texts ++ sent_texts (acts c (Receives (payload_of i) now))) ⊎ Asks intents (minded (mind c) i) is (texts ++ sent_texts (acts c (Receives (payload_of i) now)))
       by_front waits [] e =
           let split : i ∷ is ≡ waits.prompt ∷ waits.back = waits.split ∙ ap (λ front. front ++ waits.prompt ∷ waits.back) e in
           let here : i ≡ waits.prompt = cc split in
           let rest : is ≡ waits.back = cc split in
-          inr (inl (opens waits.off waits.beats i is (subst AreStill (sym rest) waits.later) (subst (λ i. (i ≡ Said (Hello 41250)) ⊎ (i ≡ Said (Invalid false))) (sym here) waits.which)))
+          inr (opens waits.beats i is (subst AreStill (sym rest) waits.later) (subst (λ i. (i ≡ Said (Hello 41250)) ⊎ (i ≡ Said (Invalid false))) (sym here) waits.which))
       by_front waits (f ∷ front) e =
           let split : i ∷ is ≡ f ∷ (front ++ waits.prompt ∷ waits.back) = waits.split ∙ ap (λ front. front ++ waits.prompt ∷ waits.back) e in
           let before : AreStill (f ∷ front) = subst AreStill e waits.before in
           let here : i ≡ f = cc split in
           let still : IsStill i = subst IsStill (sym here) before.0 in
           inl (record {
-            off = waits.off;
             prompt = waits.prompt;
             which = waits.which;
             front = front;

@@ -3,7 +3,7 @@ use Rattle.std.proofs.Common.{◌≡◌, ℕ, ◌+◌, ◌-◌, ◌<◌, ◌≤�
 use Rattle.std.specs.Prelude.{◌&&◌, nat_lt, is_some, option_map}
 use Rattle.std.specs.List.{find}
 use Rattle.std.specs.Str.{bytes_eq}
-use Rattle.std.proofs.lemmas.Bool.{true≢false}
+use Rattle.std.proofs.lemmas.Bool.{true≢false, and_parts}
 use Rattle.std.proofs.lemmas.Bool.Decides.{nat_tests}
 use Rattle.std.proofs.lemmas.List.{length-append}
 use Rattle.std.proofs.lemmas.Option.{same_Some}
@@ -31,19 +31,19 @@ use Rattle.world_law.specs.Sends.{AreOff}
 use Rattle.world_law.specs.Sent.{Sent, dispatches}
 use Rattle.world_law.proofs.Alone.{IsSound}
 use Rattle.world_law.proofs.GoesOn.{each_resume_holds}
+use Rattle.world_law.proofs.Resumes.{found_meets}
 use Rattle.world_law.proofs.Workers.{Follows}
 use Rattle.two_ends.specs.Flights.{ReadsBack}
-use Rattle.two_ends.specs.TwoEnds.{IsAmong}
+use Rattle.two_ends.proofs.Among.{IsAmong, all_among, found_among, among_here}
 use Rattle.two_ends.proofs.Minds.{Item, Mind, SessionKeeps, WorkerKeeps, Known, Knows}
 use Rattle.two_ends.proofs.Stages.{AreStill, IsBeat, AreBeats, IsFirst, Asks, Stage}
-use Rattle.two_ends.proofs.Arriving.{last_among, made_by, gives_by, Leaves, plain_leaves, beat_plain}
+use Rattle.two_ends.proofs.Arriving.{made_by, gives_by, Leaves, plain_leaves, beat_plain}
 use Rattle.two_ends.proofs.Opening.{spent_leaves, denied_leaves, begins_leaves, goes_on_leaves}
-use Rattle.two_ends.proofs.Places.{same_number, same_session, among_below, found_among, all_among}
+use Rattle.two_ends.proofs.Places.{same_number, same_session, among_below}
 
 -- ---- the first text on its way to the worker is a heartbeat, or the client's first frame
 
-pub record Opens (intents : ℕ) (m : Mind) (conn : ℕ) (xs : List (Session Sent)) (is : List Item) (t : List ℕ) (later : List (List ℕ)) : Type 0 where
-  pub off : AreOff conn xs
+pub record Opens (intents : ℕ) (m : Mind) (is : List Item) (t : List ℕ) (later : List (List ℕ)) : Type 0 where
   pub still : AreStill is
   pub frame : AFrame
   pub first : IsFirst intents m frame
@@ -51,25 +51,30 @@ pub record Opens (intents : ℕ) (m : Mind) (conn : ℕ) (xs : List (Session Sen
   pub beats : AreBeats later
 
 module _ (intents worker conn : ℕ) (m : Mind) (xs : List (Session Sent)) (is : List Item) (t : List ℕ) (later : List (List ℕ)) where
-  asks_next : (asks : Asks intents m conn xs is (t ∷ later)) → (front : List (List ℕ)) → asks.front ≡ front → (IsBeat t × Stage intents worker m conn xs is later) ⊎ Opens intents m conn xs is t later
+  asks_next : (asks : Asks intents m is (t ∷ later)) → (front : List (List ℕ)) → asks.front ≡ front → (IsBeat t × Asks intents m is later) ⊎ Opens intents m is t later
   asks_next asks [] e =
       let split : t ∷ later ≡ frame_text asks.frame ∷ asks.back = asks.split ∙ ap (λ (ts : List (List ℕ)). ts ++ frame_text asks.frame ∷ asks.back) e in
       let rest : later ≡ asks.back = cc split in
-      inr (record { off = asks.off; still = asks.still; frame = asks.frame; first = asks.first; text = cc split; beats = subst AreBeats (sym rest) asks.later })
+      inr (record { still = asks.still; frame = asks.frame; first = asks.first; text = cc split; beats = subst AreBeats (sym rest) asks.later })
   asks_next asks (f ∷ front) e =
       let split : t ∷ later ≡ f ∷ (front ++ frame_text asks.frame ∷ asks.back) = asks.split ∙ ap (λ (ts : List (List ℕ)). ts ++ frame_text asks.frame ∷ asks.back) e in
       let beats : AreBeats (f ∷ front) = subst AreBeats e asks.before in
       let same : t ≡ f = cc split in
       inl (
         subst IsBeat (sym same) beats.0,
-        inr (inl (record { off = asks.off; still = asks.still; frame = asks.frame; first = asks.first; front = front; back = asks.back; split = cc split; before = beats.1; later = asks.later })),
+        record { still = asks.still; frame = asks.frame; first = asks.first; front = front; back = asks.back; split = cc split; before = beats.1; later = asks.later },
       )
 
-  pub next_text : Stage intents worker m conn xs is (t ∷ later) → (IsBeat t × Stage intents worker m conn xs is later) ⊎ Opens intents m conn xs is t later
+  pub next_text : Stage intents worker m conn xs is (t ∷ later) → (IsBeat t × Stage intents worker m conn xs is later) ⊎ (AreOff conn xs × Opens intents m is t later)
   next_text stage = elim stage [
-    | inl waits ↦ inl (waits.beats.0, inl (record { off = waits.off; prompt = waits.prompt; which = waits.which; front = waits.front; back = waits.back; split = waits.split; before = waits.before; later = waits.later; beats = waits.beats.1 }))
-    | inr (inl asks) ↦ asks_next asks asks.front refl
-    | inr (inr has) ↦ inl (has.beats.0, inr (inr (record { ends = has.ends; late = has.late; beats = has.beats.1 })))
+    | inl off ↦ elim off.1 [
+      | inl waits ↦ inl (waits.beats.0, inl (off.0, inl (record { prompt = waits.prompt; which = waits.which; front = waits.front; back = waits.back; split = waits.split; before = waits.before; later = waits.later; beats = waits.beats.1 })))
+      | inr asks ↦ elim (asks_next asks asks.front refl) [
+        | inl beat ↦ inl (beat.0, inl (off.0, inr beat.1))
+        | inr opens ↦ inr (off.0, opens)
+      ]
+    ]
+    | inr has ↦ inl (has.beats.0, inr (record { ends = has.ends; late = has.late; beats = has.beats.1 }))
   ]
 
 -- ---- the first frame
@@ -79,17 +84,13 @@ resume_holds : (text : ℕ → Dispatch → List ℕ) (w : Worker) (conn : ℕ) 
 unfolding EachResumeHolds
 resume_holds text w conn received r reaches = each_resume_holds text w conn received r reaches
 
-both_true : (a b : Bool) → (a && b) ≡ true → (a ≡ true) × (b ≡ true)
-both_true true b e = (refl, e)
-both_true false b e = absurd (cc e)
-
 -- the live session of an id
 pub named_session : (w : Worker) (id : List ℕ) (x : Session Sent) → session_named id w.core ≡ Some x
     → IsAmong x w.core.sessions × ((is_live x.condition ≡ true) × (session_id w.core.worker x.number ≡ id))
 named_session w id x named =
-    let found = found_among (λ (y : Session Sent). is_live y.condition && bytes_eq (session_id w.core.worker y.number) id) w.core.sessions x named in
-    let both = both_true (is_live x.condition) (bytes_eq (session_id w.core.worker x.number) id) found.1 in
-    (found.0, (both.0, (bytes_eq-Decides (session_id w.core.worker x.number) id).0 both.1))
+    let is_named : Session Sent → Bool = λ y. is_live y.condition && bytes_eq (session_id w.core.worker y.number) id in
+    let both = and_parts (is_live x.condition) (bytes_eq (session_id w.core.worker x.number) id) (found_meets is_named w.core.sessions x named) in
+    (found_among is_named w.core.sessions x named, (both.0, (bytes_eq-Decides (session_id w.core.worker x.number) id).0 both.1))
 
 none_found : (conn : ℕ) (xs : List (Session Sent)) → AreOff conn xs → find (λ (x : Session Sent). is_on conn x.condition) xs ≡ None
 none_found conn [] off = refl
@@ -124,7 +125,7 @@ module _ (text : ℕ → Dispatch → List ℕ) (w : Worker) (conn : ℕ) (t : L
             let kept : WorkerKeeps (made_by text conn w (Begins bot (viewer_of bot i))) = subst (λ (move : Move). WorkerKeeps (made_by text conn w move)) moves keeps in
             subst LeftBy (sym moves)
             (begins_leaves text intents conn w m is later bot (viewer_of bot i) asked off still beats knows sound few
-            (all_among (SessionKeeps w.core.worker) _ _ kept (last_among _ w.core.sessions)))
+            (all_among (SessionKeeps w.core.worker) _ _ kept (among_here _ w.core.sessions [])))
 
         by_reading : (r : Result AFrame FrameFault) → ((read : AFrame) → r ≡ Ok read → read ≡ frame.Identify i) → move_at (in_model text) w conn t ≡ read_move (replay text) w.core None r → Left
         by_reading (Err fault) reads moves = spent_by (ClosesWith (fault_code fault)) moves (inr (fault_code fault, refl))
@@ -212,10 +213,10 @@ module _ (text : ℕ → Dispatch → List ℕ) (back : ReadsBack text) (w : Wor
       → new.core.worker ≡ w.core.worker → WorkerKeeps new → Leaves text intents conn w.core.worker m is later new (outputs (in_model text) w (Frame conn t))
   text_leaves stage knows sound few follows new_sound same keeps = elim (next_text intents w.core.worker conn m w.core.sessions is t later stage) [
     | inl beat ↦ plain_leaves text intents conn w w.core.worker m is later (move_at (in_model text) w conn t) (beat_plain text back conn w t beat.0) beat.1
-    | inr opens ↦ elim opens.first [
-      | inl identifies ↦ identify_leaves text w conn t back intents m is later opens.off opens.still opens.beats knows sound few keeps
-          (record { token = identifies.0; intents = intents; large_threshold = None; shard = None }) refl (opens.text ∙ ap frame_text identifies.1)
-      | inr resumes ↦ resume_leaves text w conn t back intents m is later opens.off opens.still opens.beats knows sound (omega (arith, few)) follows new_sound same keeps
-          resumes.0 resumes.1.0 resumes.1.1.0 (opens.text ∙ ap frame_text resumes.1.1.1)
+    | inr opens ↦ elim opens.1.first [
+      | inl identifies ↦ identify_leaves text w conn t back intents m is later opens.0 opens.1.still opens.1.beats knows sound few keeps
+          (record { token = identifies.0; intents = intents; large_threshold = None; shard = None }) refl (opens.1.text ∙ ap frame_text identifies.1)
+      | inr resumes ↦ resume_leaves text w conn t back intents m is later opens.0 opens.1.still opens.1.beats knows sound (omega (arith, few)) follows new_sound same keeps
+          resumes.0 resumes.1.0 resumes.1.1.0 (opens.1.text ∙ ap frame_text resumes.1.1.1)
     ]
   ]

@@ -31,19 +31,19 @@ use Rattle.world_law.specs.Wants.{answered_by}
 use Rattle.two_ends.proofs.Minds.{Keeps}
 
 -- a dispatch that is no READY: it begins no session
-abbrev pub IsLater : Dispatch → Type 0
-IsLater d = (n : ℕ) → begun d n ≡ None
+abbrev pub IsNoReady : Dispatch → Type 0
+IsNoReady d = (n : ℕ) → begun d n ≡ None
 
-abbrev pub AreLater : List Dispatch → Type 0
-AreLater ds = All IsLater ds
+abbrev pub AreNoReady : List Dispatch → Type 0
+AreNoReady ds = All IsNoReady ds
 
 -- ---- what such a dispatch leaves
 
-pub keeps_later : (id : List ℕ) (d : Dispatch) → IsLater d → Keeps id d
-keeps_later id d later = λ (n : ℕ) (s : ClientSession) own. (record s { number = n }, (ap (λ (b : Option ClientSession). session_after b n (Some s)) (later n), (own, refl)))
+pub keeps_no_ready : (id : List ℕ) (d : Dispatch) → IsNoReady d → Keeps id d
+keeps_no_ready id d later = λ (n : ℕ) (s : ClientSession) own. (record s { number = n }, (ap (λ (b : Option ClientSession). session_after b n (Some s)) (later n), (own, refl)))
 
-pub all_keep_later : (id : List ℕ) (ds : List Dispatch) → AreLater ds → All (Keeps id) ds
-all_keep_later id ds later = All-weaker IsLater (Keeps id) (keeps_later id) ds later
+pub all_keep_no_ready : (id : List ℕ) (ds : List Dispatch) → AreNoReady ds → All (Keeps id) ds
+all_keep_no_ready id ds later = All-weaker IsNoReady (Keeps id) (keeps_no_ready id) ds later
 
 -- and READY of the session
 pub keeps_ready : (id : List ℕ) (r : Greeted) → r.session ≡ id → Keeps id (Ready r)
@@ -51,55 +51,55 @@ keeps_ready id r is = λ (n : ℕ) (s : ClientSession) own. (record { id = r.ses
 
 -- ---- a dispatch of a guild
 
-pub of_later : (guild : ℕ) (d : Dispatch) → guild_of d ≡ Some guild → IsLater d
-of_later guild (Ready r) of = absurd (cc of)
-of_later guild d of = λ n. refl
+pub of_no_ready : (guild : ℕ) (d : Dispatch) → guild_of d ≡ Some guild → IsNoReady d
+of_no_ready guild (Ready r) of = absurd (cc of)
+of_no_ready guild d of = λ n. refl
 
-one_if : (b : Bool) (d : Dispatch) → IsLater d → AreLater (if b then d ∷ [] else [])
-one_if true d later = All-cons IsLater d [] later (All-nil IsLater)
-one_if false d later = All-nil IsLater
+one_if : (b : Bool) (d : Dispatch) → IsNoReady d → AreNoReady (if b then d ∷ [] else [])
+one_if true d later = All-cons IsNoReady d [] later (All-nil IsNoReady)
+one_if false d later = All-nil IsNoReady
 
-due_to_later : (before : Record) (o : Option Member) (after : Record) (o' : Option Member) (v : Viewer) (e : Edit) → AreLater (due_to before o after o' v e)
-due_to_later before None after None v e = All-nil IsLater
-due_to_later before None after (Some me') v e = one_if (asks v.intents kind.GuildCreate false) (GuildCreate (greeting after v me')) (λ n. refl)
-due_to_later before (Some me) after None v e = one_if (asks v.intents kind.GuildDelete false) (GuildDelete (record { id = after.id; unavailable = false })) (λ n. refl)
-due_to_later before (Some me) after (Some me') v e =
-    All-weaker (λ (d : Dispatch). guild_of d ≡ Some after.id) IsLater (of_later after.id) (dispatches before me after me' v e) (dispatches-of before me after me' v e)
+due_to_no_ready : (before : Record) (o : Option Member) (after : Record) (o' : Option Member) (v : Viewer) (e : Edit) → AreNoReady (due_to before o after o' v e)
+due_to_no_ready before None after None v e = All-nil IsNoReady
+due_to_no_ready before None after (Some me') v e = one_if (asks v.intents kind.GuildCreate false) (GuildCreate (greeting after v me')) (λ n. refl)
+due_to_no_ready before (Some me) after None v e = one_if (asks v.intents kind.GuildDelete false) (GuildDelete (record { id = after.id; unavailable = false })) (λ n. refl)
+due_to_no_ready before (Some me) after (Some me') v e =
+    All-weaker (λ (d : Dispatch). guild_of d ≡ Some after.id) IsNoReady (of_no_ready after.id) (dispatches before me after me' v e) (dispatches-of before me after me' v e)
 
 -- each that is due for an edit
-pub due_later : (s : Record) (e : Edit) (v : Viewer) → AreLater (due s e v)
+pub due_no_ready : (s : Record) (e : Edit) (v : Viewer) → AreNoReady (due s e v)
 unfolding due
-due_later s e v = by_verdict (accepts s e)
+due_no_ready s e v = by_verdict (accepts s e)
   where
-    by_verdict : (b : Bool) → AreLater (if b then due_of_accepted s e v else [])
-    by_verdict true = due_to_later s (served v s) (applied s e) (served v (applied s e)) v e
-    by_verdict false = All-nil IsLater
+    by_verdict : (b : Bool) → AreNoReady (if b then due_of_accepted s e v else [])
+    by_verdict true = due_to_no_ready s (served v s) (applied s e) (served v (applied s e)) v e
+    by_verdict false = All-nil IsNoReady
 
 -- ---- what no entry made
 
-greeting_later : (v : Viewer) (s : Record) (o : Option Member) → AreLater (greeting_for v s o)
-greeting_later v s None = All-nil IsLater
-greeting_later v s (Some me) = one_if (has_bit v.intents guilds && not s.outage) (GuildCreate (greeting s v me)) (λ n. refl)
+greeting_no_ready : (v : Viewer) (s : Record) (o : Option Member) → AreNoReady (greeting_for v s o)
+greeting_no_ready v s None = All-nil IsNoReady
+greeting_no_ready v s (Some me) = one_if (has_bit v.intents guilds && not s.outage) (GuildCreate (greeting s v me)) (λ n. refl)
 
-pub greetings_later : (v : Viewer) (records : List Record) → AreLater (flat_map (greeting_of v) records)
-greetings_later v [] = All-nil IsLater
-greetings_later v (s ∷ records) = All-append IsLater (greeting_of v s) (flat_map (greeting_of v) records) (greeting_later v s (served v s)) (greetings_later v records)
+pub greetings_no_ready : (v : Viewer) (records : List Record) → AreNoReady (flat_map (greeting_of v) records)
+greetings_no_ready v [] = All-nil IsNoReady
+greetings_no_ready v (s ∷ records) = All-append IsNoReady (greeting_of v s) (flat_map (greeting_of v) records) (greeting_no_ready v s (served v s)) (greetings_no_ready v records)
 
-answered_later : (s : Record) (v : Viewer) (ask : Ask) → AreLater (answered s v ask)
+answered_no_ready : (s : Record) (v : Viewer) (ask : Ask) → AreNoReady (answered s v ask)
 unfolding answered
-answered_later s v ask = by_answer (is_answered s v ask)
+answered_no_ready s v ask = by_answer (is_answered s v ask)
   where
-    by_index : (ms : List Member) (ns : List ℕ) → AreLater (map (λ index. GuildMembersChunk (chunk s ask ms index)) ns)
-    by_index ms [] = All-nil IsLater
-    by_index ms (n ∷ ns) = All-cons IsLater (GuildMembersChunk (chunk s ask ms n)) _ (λ m. refl) (by_index ms ns)
+    by_index : (ms : List Member) (ns : List ℕ) → AreNoReady (map (λ index. GuildMembersChunk (chunk s ask ms index)) ns)
+    by_index ms [] = All-nil IsNoReady
+    by_index ms (n ∷ ns) = All-cons IsNoReady (GuildMembersChunk (chunk s ask ms n)) _ (λ m. refl) (by_index ms ns)
 
-    by_answer : (b : Bool) → AreLater (if b then chunks s ask (found s ask.find) else [])
+    by_answer : (b : Bool) → AreNoReady (if b then chunks s ask (found s ask.find) else [])
     by_answer true = by_index (found s ask.find) (range_with_len 0 (chunk_count (found s ask.find)))
-    by_answer false = All-nil IsLater
+    by_answer false = All-nil IsNoReady
 
-pub answer_later : (v : Viewer) (ask : Ask) (o : Option Record) → AreLater (answered_by v ask o)
-answer_later v ask None = All-nil IsLater
-answer_later v ask (Some s) = answered_later s v ask
+pub answer_no_ready : (v : Viewer) (ask : Ask) (o : Option Record) → AreNoReady (answered_by v ask o)
+answer_no_ready v ask None = All-nil IsNoReady
+answer_no_ready v ask (Some s) = answered_no_ready s v ask
 
 -- ---- a session's first dispatches: READY of its own, and then guilds
 
@@ -107,4 +107,4 @@ pub first_keep : (text : ℕ → Dispatch → List ℕ) (w : Worker) (v : Viewer
 first_keep text w v name n =
     All-cons (Keeps (session_id w.core.worker n)) (Ready (ready (in_model text) w v name n)) (flat_map (greeting_of v) (records_of w.logs))
     (keeps_ready (session_id w.core.worker n) (ready (in_model text) w v name n) refl)
-    (all_keep_later (session_id w.core.worker n) (flat_map (greeting_of v) (records_of w.logs)) (greetings_later v (records_of w.logs)))
+    (all_keep_no_ready (session_id w.core.worker n) (flat_map (greeting_of v) (records_of w.logs)) (greetings_no_ready v (records_of w.logs)))

@@ -1,11 +1,12 @@
 -- What holds of a client and its worker lasts through every event.
-use Rattle.std.proofs.Common.{◌≡◌, ℕ, zero, suc, ◌<◌, ◌^◌, List, [], ◌∷◌, ◌++◌, Bool, true, false, Option, Some, None, if◌then◌else◌, length, map, take, refl, sym, ap, subst, ◌∙◌, arith, append_assoc, inl, inr}
+use Rattle.std.proofs.Common.{◌≡◌, ℕ, zero, suc, ◌<◌, ◌^◌, List, [], ◌∷◌, ◌++◌, Bool, true, false, Option, Some, None, if◌then◌else◌, length, map, take, refl, sym, ap, subst, ◌∙◌, arith, append_assoc, ◌⊎◌, inl, inr}
 use Rattle.std.specs.Prelude.{All, nat_lt}
 use Rattle.std.proofs.lemmas.Bool.{true≢false}
 use Rattle.std.proofs.lemmas.Option.{same_Some}
+use Rattle.std.proofs.lemmas.List.{take-map}
 use Rattle.dispatch_types.specs.declared.dispatch.Dispatch.{Dispatch}
 use Rattle.gateway_frames.specs.declared.out.Out.TheVariants as out
-use Rattle.session_core.specs.State.{Session, has_connection, with_connection}
+use Rattle.session_core.specs.State.{has_connection, with_connection}
 use Rattle.client_session.specs.declared.received.Received.{Received}
 use Rattle.client_session.specs.Received.{IsTextOf}
 use Rattle.client_session.specs.Step.{Receives, Loses as LosesLink, Asks as IsAsked, acts}
@@ -14,21 +15,20 @@ use Rattle.world_law.specs.Inputs.{Input, Open, Frame, taken, outputs}
 use Rattle.world_law.specs.Model.{Worker, in_model}
 use Rattle.world_law.specs.Outputs.{Output, Says, Closes}
 use Rattle.world_law.specs.Sends.{AreOff}
-use Rattle.world_law.specs.Sent.{Sent}
 use Rattle.world_law.proofs.Alone.{IsSound, taken_sound}
 use Rattle.world_law.proofs.Folds.{same_id}
 use Rattle.world_law.proofs.Lists.{append_none, map_join}
 use Rattle.world_law.proofs.Workers.{Follows}
 use Rattle.two_ends.specs.Flights.{Flight, Text, Close, flights, ReadsBack, Fits, sent_texts, said}
 use Rattle.two_ends.specs.Ends.{outputs_of}
-use Rattle.two_ends.proofs.Minds.{Item, Said, Told as ToldItem, Shut, flown, all_flown, Mind, minded, all_minded, SessionKeeps, WorkerKeeps, AtEnds, Knows, Fine, Good}
+use Rattle.two_ends.proofs.Minds.{Item, Said, Told as ToldItem, Shut, flown, all_flown, Mind, minded, all_minded, SessionKeeps, WorkerKeeps, AtEnds, Knows, Fine, Good, Grown}
 use Rattle.two_ends.proofs.Growing.{taken_grows, taken_worker, taken_keeps}
 use Rattle.two_ends.proofs.Steps.{Advances, advances_item, minded_join, good_join, good_grown, good_take, knows_item, knows_grown}
-use Rattle.two_ends.proofs.Stages.{AreStill, AreLater, later_join, AreBeats, beats_join, AreOwn, own_join, own_grown, Stage, off_ends}
-use Rattle.two_ends.proofs.Arriving.{still_stage}
+use Rattle.two_ends.proofs.Stages.{later_join, AreBeats, beats_join, AreOwn, own_join, own_grown, Stage, off_ends, still_good, shut_still, shut_flown, Prompts, Asks}
+use Rattle.two_ends.proofs.Arriving.{still_stage, Leaves}
 use Rattle.two_ends.proofs.Judging.{text_leaves}
 use Rattle.two_ends.proofs.Hearing.{mind, payload_of, IsTextOfItem, read_item, hears_mind, asks_mind, loses_mind, same_intents, beat_texts, beats_own, heard_stage, heard_own}
-use Rattle.two_ends.proofs.Elsewhere.{IsElse, IsShut, AreLate, Reaches, off_elsewhere, on_elsewhere}
+use Rattle.two_ends.proofs.Elsewhere.{IsElse, IsShut, Reaches, off_elsewhere, on_elsewhere}
 use Rattle.two_ends.proofs.Places.{after_input}
 
 -- ---- what holds
@@ -44,96 +44,45 @@ pub record Holds (text : ℕ → Dispatch → List ℕ) (c : Client) (worker : �
   pub keeps : WorkerKeeps w
   pub stage : (k : ℕ) → conn ≡ Some k → whole ≡ true → Stage c.intents worker (mind c) k w.core.sessions items to_worker
 
--- ---- closes
-
-shuts : List ℕ → List Item
-shuts codes = map (λ code. Shut code) codes
-
-shuts_flown : (text : ℕ → Dispatch → List ℕ) (codes : List ℕ) → map (λ code. Close code) codes ≡ all_flown text (shuts codes)
-unfolding shuts
-shuts_flown text [] = refl
-shuts_flown text (code ∷ codes) = ap (λ fs. Close code ∷ fs) (shuts_flown text codes)
-
-shuts_still : (codes : List ℕ) → AreStill (shuts codes)
-unfolding shuts
-shuts_still [] = tt
-shuts_still (code ∷ codes) = (tt, shuts_still codes)
-
-shuts_good : (intents worker : ℕ) (xs : List (Session Sent)) (m : Mind) (codes : List ℕ) → Good intents worker xs m (shuts codes)
-unfolding shuts
-shuts_good intents worker xs m [] = tt
-shuts_good intents worker xs m (code ∷ codes) = (tt, shuts_good intents worker xs m codes)
-
-late_later : (is : List Item) → AreLate is → AreLater is
-late_later [] late = tt
-late_later (Said (out.Hello interval_ms) ∷ is) late = absurd late.0
-late_later (Said out.Ack ∷ is) late = absurd late.0
-late_later (Said (out.Invalid resumable) ∷ is) late = absurd late.0
-late_later (Said out.Reconnect ∷ is) late = absurd late.0
-late_later (Said (out.Resumed n) ∷ is) late = absurd late.0
-late_later (ToldItem n d ∷ is) late = (tt, late_later is late.1)
-late_later (Shut code ∷ is) late = (tt, late_later is late.1)
-
 -- ---- what a worker takes
 
-module _ (text : ℕ → Dispatch → List ℕ) (c : Client) (worker : ℕ) (to_client : List Flight) (w : Worker) where
-  -- nothing gets on its way to the client
-  quietly : (conn : Option ℕ) (to_worker : List (List ℕ)) (new : Worker) → new.core.worker ≡ worker → (old : Holds text c worker conn false to_client to_worker w)
-      → Good c.intents worker new.core.sessions (mind c) old.items → Knows c.intents worker new.core.sessions (mind c) → AreOwn worker new.core.sessions to_worker → WorkerKeeps new
-      → Holds text c worker conn false (to_client ++ []) to_worker new
-  quietly conn to_worker new number old good knows own keeps = record {
-    number = number;
-    items = old.items;
-    are = append_none to_client ∙ old.are;
-    good = good;
-    knows = knows;
-    own = own;
-    keeps = keeps;
-    stage = λ k is whole. absurd (true≢false (sym whole));
-  }
+-- what an input leaves that is not of the client's connection
+module _ (text : ℕ → Dispatch → List ℕ) (w : Worker) (i : Input) (sound : IsSound w) (intents worker : ℕ) (m : Mind) (k : ℕ) (is : List Item) (to_worker : List (List ℕ)) (elsewhere : IsElse k i) (number : w.core.worker ≡ worker) where
+  abbrev new : Worker
+  new = taken (in_model text) w i
 
-  -- an input that is not of the client's connection
-  module _ (i : Input) (sound : IsSound w) where
-    abbrev new : Worker
-    new = taken (in_model text) w i
+  abbrev out_of : List Output
+  out_of = outputs (in_model text) w i
 
-    module _ (intents : ℕ) (m : Mind) (k : ℕ) (is : List Item) (to_worker : List (List ℕ)) (elsewhere : IsElse k i) (keeps : WorkerKeeps w) (number : w.core.worker ≡ worker) where
-      pub record Goes : Type 0 where
-        pub more : List Item
-        pub are : flights k (outputs (in_model text) w i) ≡ all_flown text more
-        pub good : Good intents worker new.core.sessions (all_minded m is) more
-        pub stage : Stage intents worker m k new.core.sessions (is ++ more) to_worker
+  shut_goes : AreOff k w.core.sessions → Prompts is to_worker ⊎ Asks intents m is to_worker → Leaves text intents k worker m is to_worker new out_of
+  shut_goes off waits =
+      let shut : IsShut k new.core.sessions (flights k out_of) = off_elsewhere text i w k elsewhere off in
+      record {
+        items = map Shut shut.codes;
+        are = shut.shut ∙ shut_flown text shut.codes;
+        good = still_good intents worker new.core.sessions (all_minded m is) (map Shut shut.codes) (shut_still shut.codes);
+        stage = still_stage text intents k worker m is to_worker new.core.sessions (map Shut shut.codes) (shut_still shut.codes) (inl (shut.off, waits));
+      }
 
-      shut_goes : AreOff k w.core.sessions → ((off : AreOff k new.core.sessions) → Stage intents worker m k new.core.sessions is to_worker) → Goes
-      shut_goes off stage =
-          let shut : IsShut k new.core.sessions (flights k (outputs (in_model text) w i)) = off_elsewhere text i w k elsewhere off in
-          record {
-            more = shuts shut.codes;
-            are = shut.shut ∙ shuts_flown text shut.codes;
-            good = shuts_good intents worker new.core.sessions (all_minded m is) shut.codes;
-            stage = still_stage text intents k worker m is to_worker new.core.sessions (shuts shut.codes) (shuts_still shut.codes) (stage shut.off);
-          }
-
-      pub goes : Stage intents worker m k w.core.sessions is to_worker → Goes
-      goes stage = elim stage [
-        | inl waits ↦ shut_goes waits.off (λ off. inl (record { off = off; prompt = waits.prompt; which = waits.which; front = waits.front; back = waits.back; split = waits.split; before = waits.before; later = waits.later; beats = waits.beats }))
-        | inr (inl asks) ↦ shut_goes asks.off (λ off. inr (inl (record { off = off; still = asks.still; frame = asks.frame; first = asks.first; front = asks.front; back = asks.back; split = asks.split; before = asks.before; later = asks.later })))
-        | inr (inr has) ↦
-            let reaches : Reaches text intents worker k (all_minded m is) new.core.sessions (flights k (outputs (in_model text) w i)) =
-            subst (λ n. Reaches text intents n k (all_minded m is) new.core.sessions (flights k (outputs (in_model text) w i))) number
-            (on_elsewhere text i w k intents (all_minded m is) elsewhere sound keeps (taken_keeps text i w keeps)
-            (subst (λ n. AtEnds intents n k (all_minded m is) w.core.sessions) (sym number) has.ends)) in
-            record {
-              more = reaches.items;
-              are = reaches.are;
-              good = reaches.good;
-              stage = inr (inr (record {
-                ends = subst (λ (n : Mind). AtEnds intents worker k n new.core.sessions) (sym (minded_join m is reaches.items)) reaches.ends;
-                late = later_join is reaches.items has.late (late_later reaches.items reaches.late);
-                beats = has.beats;
-              }));
-            }
-      ]
+  goes : WorkerKeeps w → Stage intents worker m k w.core.sessions is to_worker → Leaves text intents k worker m is to_worker new out_of
+  goes keeps stage = elim stage [
+    | inl off ↦ shut_goes off.0 off.1
+    | inr has ↦
+        let reaches : Reaches text intents worker k (all_minded m is) new.core.sessions (flights k out_of) =
+        subst (λ n. Reaches text intents n k (all_minded m is) new.core.sessions (flights k out_of)) number
+        (on_elsewhere text i w k intents (all_minded m is) elsewhere sound keeps (taken_keeps text i w keeps)
+        (subst (λ n. AtEnds intents n k (all_minded m is) w.core.sessions) (sym number) has.ends)) in
+        record {
+          items = reaches.items;
+          are = reaches.are;
+          good = reaches.good;
+          stage = inr (record {
+            ends = subst (λ (n : Mind). AtEnds intents worker k n new.core.sessions) (sym (minded_join m is reaches.items)) reaches.ends;
+            late = later_join is reaches.items has.late reaches.late;
+            beats = has.beats;
+          });
+        }
+  ]
 
 -- what outputs put on their way to a connection, if there is one
 abbrev pub flown_to : Option ℕ → List Output → List Flight
@@ -144,53 +93,47 @@ module _ (text : ℕ → Dispatch → List ℕ) (c : Client) (worker : ℕ) (to_
   abbrev Lasts : Input → Option ℕ → Bool → List (List ℕ) → Type 0
   Lasts i conn whole to_worker = Holds text c worker conn whole (to_client ++ (if whole then flown_to conn (outputs (in_model text) w i) else [])) to_worker (taken (in_model text) w i)
 
-  module _ (i : Input) (to_worker : List (List ℕ)) where
+  -- with what is on its way to the worker afterwards
+  module _ (i : Input) (conn : Option ℕ) (whole : Bool) (before later : List (List ℕ)) (old : Holds text c worker conn whole to_client before w) (own : AreOwn worker w.core.sessions later) where
     abbrev next : Worker
     next = taken (in_model text) w i
 
-    number_kept : w.core.worker ≡ worker → next.core.worker ≡ worker
-    number_kept is = taken_worker text i w ∙ is
+    grown : Grown w.core.sessions next.core.sessions
+    grown = taken_grows text i w
 
-    good_kept : (items : List Item) → Good c.intents worker w.core.sessions (mind c) items → Good c.intents worker next.core.sessions (mind c) items
-    good_kept items good = good_grown c.intents worker w.core.sessions next.core.sessions (taken_grows text i w) (mind c) items good
+    -- nothing gets on its way to the client, which has no whole link
+    none_lasts : ((k : ℕ) → conn ≡ Some k → ¬ (whole ≡ true)) → Holds text c worker conn whole (to_client ++ []) later next
+    none_lasts cut = record {
+      number = taken_worker text i w ∙ old.number;
+      items = old.items;
+      are = append_none to_client ∙ old.are;
+      good = good_grown c.intents worker w.core.sessions next.core.sessions grown (mind c) old.items old.good;
+      knows = knows_grown c.intents worker w.core.sessions next.core.sessions grown (mind c) old.knows;
+      own = own_grown worker w.core.sessions next.core.sessions grown later own;
+      keeps = taken_keeps text i w old.keeps;
+      stage = λ k is on. absurd (cut k is on);
+    }
 
-    knows_kept : Knows c.intents worker w.core.sessions (mind c) → Knows c.intents worker next.core.sessions (mind c)
-    knows_kept knows = knows_grown c.intents worker w.core.sessions next.core.sessions (taken_grows text i w) (mind c) knows
-
-    own_kept : AreOwn worker w.core.sessions to_worker → AreOwn worker next.core.sessions to_worker
-    own_kept own = own_grown worker w.core.sessions next.core.sessions (taken_grows text i w) to_worker own
-
-  unlinked_lasts : (i : Input) (conn : Option ℕ) (to_worker : List (List ℕ)) → Holds text c worker conn false to_client to_worker w → Lasts i conn false to_worker
-  unlinked_lasts i conn to_worker old =
-      quietly text c worker to_client w conn to_worker (taken (in_model text) w i) (number_kept i to_worker old.number) old
-      (good_kept i to_worker old.items old.good) (knows_kept i to_worker old.knows) (own_kept i to_worker old.own) (taken_keeps text i w old.keeps)
+    -- what the input leaves gets on its way to the client
+    some_lasts : (k : ℕ) → conn ≡ Some k → Leaves text c.intents k worker (mind c) old.items later next (outputs (in_model text) w i)
+        → Holds text c worker conn whole (to_client ++ flights k (outputs (in_model text) w i)) later next
+    some_lasts k here left = record {
+      number = taken_worker text i w ∙ old.number;
+      items = old.items ++ left.items;
+      are = ap (λ fs. fs ++ flights k (outputs (in_model text) w i)) old.are ∙ (ap (λ fs. all_flown text old.items ++ fs) left.are ∙ sym (map_join (flown text) old.items left.items));
+      good = good_join c.intents worker next.core.sessions (mind c) old.items left.items (good_grown c.intents worker w.core.sessions next.core.sessions grown (mind c) old.items old.good) left.good;
+      knows = knows_grown c.intents worker w.core.sessions next.core.sessions grown (mind c) old.knows;
+      own = own_grown worker w.core.sessions next.core.sessions grown later own;
+      keeps = taken_keeps text i w old.keeps;
+      stage = λ n is on. subst (λ (n : ℕ). Stage c.intents worker (mind c) n next.core.sessions (old.items ++ left.items) later) (same_Some k n (sym here ∙ is)) left.stage;
+    }
 
   -- an input that is not of the client's connection
-  pub else_lasts : (i : Input) (conn : Option ℕ) (whole : Bool) (to_worker : List (List ℕ)) → ((k : ℕ) → conn ≡ Some k → IsElse k i) → Holds text c worker conn whole to_client to_worker w → Lasts i conn whole to_worker
-  else_lasts i conn false to_worker elsewhere old = unlinked_lasts i conn to_worker old
-  else_lasts i None true to_worker elsewhere old = record {
-    number = number_kept i to_worker old.number;
-    items = old.items;
-    are = append_none to_client ∙ old.are;
-    good = good_kept i to_worker old.items old.good;
-    knows = knows_kept i to_worker old.knows;
-    own = own_kept i to_worker old.own;
-    keeps = taken_keeps text i w old.keeps;
-    stage = λ k is whole. absurd (cc is);
-  }
+  else_lasts : (i : Input) (conn : Option ℕ) (whole : Bool) (to_worker : List (List ℕ)) → ((k : ℕ) → conn ≡ Some k → IsElse k i) → Holds text c worker conn whole to_client to_worker w → Lasts i conn whole to_worker
+  else_lasts i conn false to_worker elsewhere old = none_lasts i conn false to_worker to_worker old old.own (λ k is on. true≢false (sym on))
+  else_lasts i None true to_worker elsewhere old = none_lasts i None true to_worker to_worker old old.own (λ k is on. cc is)
   else_lasts i (Some k) true to_worker elsewhere old =
-      let goes : Goes text c worker to_client w i sound c.intents (mind c) k old.items to_worker (elsewhere k refl) old.keeps old.number =
-      goes text c worker to_client w i sound c.intents (mind c) k old.items to_worker (elsewhere k refl) old.keeps old.number (old.stage k refl refl) in
-      record {
-        number = number_kept i to_worker old.number;
-        items = old.items ++ goes.more;
-        are = ap (λ fs. fs ++ flights k (outputs (in_model text) w i)) old.are ∙ (ap (λ fs. all_flown text old.items ++ fs) goes.are ∙ sym (map_join (flown text) old.items goes.more));
-        good = good_join c.intents worker (taken (in_model text) w i).core.sessions (mind c) old.items goes.more (good_kept i to_worker old.items old.good) goes.good;
-        knows = knows_kept i to_worker old.knows;
-        own = own_kept i to_worker old.own;
-        keeps = taken_keeps text i w old.keeps;
-        stage = λ n is whole. subst (λ (n : ℕ). Stage c.intents worker (mind c) n (taken (in_model text) w i).core.sessions (old.items ++ goes.more) to_worker) (same_Some k n is) goes.stage;
-      }
+      some_lasts i (Some k) true to_worker to_worker old old.own k refl (goes text w i sound c.intents worker (mind c) k old.items to_worker (elsewhere k refl) old.number old.keeps (old.stage k refl refl))
 
   -- nothing, or such an input
   pub any_lasts : (o : Option Input) (conn : Option ℕ) (whole : Bool) (to_worker : List (List ℕ)) → ((i : Input) → o ≡ Some i → (k : ℕ) → conn ≡ Some k → IsElse k i) → Holds text c worker conn whole to_client to_worker w
@@ -206,27 +149,15 @@ module _ (text : ℕ → Dispatch → List ℕ) (c : Client) (worker : ℕ) (to_
   -- a text of the client
   pub text_lasts : ReadsBack text → Follows w → w.core.made < 2 ^ 32 → (k : ℕ) (t : List ℕ) (later : List (List ℕ)) (whole : Bool) → Holds text c worker (Some k) whole to_client (t ∷ later) w
       → Lasts (Frame k t) (Some k) whole later
-  text_lasts back follows few k t later false old = unlinked_lasts (Frame k t) (Some k) later (record { number = old.number; items = old.items; are = old.are; good = old.good; knows = old.knows; own = old.own.1; keeps = old.keeps; stage = λ n is whole. absurd (true≢false (sym whole)) })
+  text_lasts back follows few k t later false old = none_lasts (Frame k t) (Some k) false (t ∷ later) later old old.own.1 (λ n is on. true≢false (sym on))
   text_lasts back follows few k t later true old =
-      let i : Input = Frame k t in
-      let new : Worker = taken (in_model text) w i in
-      let left = text_leaves text back w k t c.intents (mind c) old.items later
+      let new : Worker = taken (in_model text) w (Frame k t) in
+      some_lasts (Frame k t) (Some k) true (t ∷ later) later old old.own.1 k refl
+      (subst (λ n. Leaves text c.intents k n (mind c) old.items later new (outputs (in_model text) w (Frame k t))) old.number
+      (text_leaves text back w k t c.intents (mind c) old.items later
       (subst (λ n. Stage c.intents n (mind c) k w.core.sessions old.items (t ∷ later)) (sym old.number) (old.stage k refl refl))
       (subst (λ n. Knows c.intents n w.core.sessions (mind c)) (sym old.number) old.knows)
-      sound (omega (arith, few)) follows (taken_sound text i w sound) (taken_worker text i w) (taken_keeps text i w old.keeps) in
-      record {
-        number = number_kept i later old.number;
-        items = old.items ++ left.items;
-        are = ap (λ fs. fs ++ flights k (outputs (in_model text) w i)) old.are ∙ (ap (λ fs. all_flown text old.items ++ fs) left.are ∙ sym (map_join (flown text) old.items left.items));
-        good = good_join c.intents worker new.core.sessions (mind c) old.items left.items (good_kept i later old.items old.good)
-            (subst (λ n. Good c.intents n new.core.sessions (all_minded (mind c) old.items) left.items) old.number left.good);
-        knows = knows_kept i later old.knows;
-        own = own_kept i later old.own.1;
-        keeps = taken_keeps text i w old.keeps;
-        stage = λ n is whole.
-            subst (λ (n : ℕ). Stage c.intents worker (mind c) n new.core.sessions (old.items ++ left.items) later) (same_Some k n is)
-            (subst (λ n. Stage c.intents n (mind c) k new.core.sessions (old.items ++ left.items) later) old.number left.stage);
-      }
+      sound (omega (arith, few)) follows (taken_sound text (Frame k t) w sound) (taken_worker text (Frame k t) w) (taken_keeps text (Frame k t) w old.keeps)))
 
   -- a connection that opens
   pub open_lasts : (k : ℕ) (conn : Option ℕ) (whole : Bool) (to_worker : List (List ℕ)) → has_connection k w.core ≡ false → AreOff k w.core.sessions → Holds text c worker conn whole to_client to_worker w
@@ -246,7 +177,7 @@ module _ (text : ℕ → Dispatch → List ℕ) (c : Client) (worker : ℕ) (to_
         own = tt;
         keeps = old.keeps;
         stage = λ n is whole. subst (λ (n : ℕ). Stage c.intents worker (mind c) n w.core.sessions (Said (out.Hello 41250) ∷ []) []) (same_Some k n is)
-            (inl (record { off = off; prompt = Said (out.Hello 41250); which = inl refl; front = []; back = []; split = refl; before = tt; later = tt; beats = tt }));
+            (inl (off, inl (record { prompt = Said (out.Hello 41250); which = inl refl; front = []; back = []; split = refl; before = tt; later = tt; beats = tt })));
       }
       by_tests false false is = record {
         number = old.number;
@@ -257,7 +188,7 @@ module _ (text : ℕ → Dispatch → List ℕ) (c : Client) (worker : ℕ) (to_
         own = tt;
         keeps = old.keeps;
         stage = λ n is whole. subst (λ (n : ℕ). Stage c.intents worker (mind c) n w.core.sessions (Shut 4000 ∷ []) []) (same_Some k n is)
-            (inr (inr (record { ends = off_ends c.intents worker k (mind c) w.core.sessions off; late = (tt, tt); beats = tt })));
+            (inr (record { ends = off_ends c.intents worker k (mind c) w.core.sessions off; late = (tt, tt); beats = tt }));
       }
 
 -- ---- what the client is told
@@ -367,19 +298,23 @@ module _ (text : ℕ → Dispatch → List ℕ) (worker : ℕ) (conn : Option �
 
       beaten_stage : (k : ℕ) → Stage c.intents worker (mind c) k w.core.sessions old.items to_worker → Stage c.intents worker (mind c) k w.core.sessions old.items (to_worker ++ (if whole then sent_texts (acts c (IsAsked now)) else []))
       beaten_stage k stage = elim stage [
-        | inl waits ↦ inl (record { off = waits.off; prompt = waits.prompt; which = waits.which; front = waits.front; back = waits.back; split = waits.split; before = waits.before; later = waits.later; beats = beats_join to_worker _ waits.beats (beats whole) })
-        | inr (inl asks) ↦ inr (inl (record {
-          off = asks.off;
-          still = asks.still;
-          frame = asks.frame;
-          first = asks.first;
-          front = asks.front;
-          back = asks.back ++ (if whole then sent_texts (acts c (IsAsked now)) else []);
-          split = ap (λ ts. ts ++ (if whole then sent_texts (acts c (IsAsked now)) else [])) asks.split ∙ append_assoc asks.front (_ ∷ asks.back) _;
-          before = asks.before;
-          later = beats_join asks.back _ asks.later (beats whole);
-        }))
-        | inr (inr has) ↦ inr (inr (record { ends = has.ends; late = has.late; beats = beats_join to_worker _ has.beats (beats whole) }))
+        | inl off ↦ inl (
+          off.0,
+          elim off.1 [
+            | inl waits ↦ inl (record { prompt = waits.prompt; which = waits.which; front = waits.front; back = waits.back; split = waits.split; before = waits.before; later = waits.later; beats = beats_join to_worker _ waits.beats (beats whole) })
+            | inr asks ↦ inr (record {
+              still = asks.still;
+              frame = asks.frame;
+              first = asks.first;
+              front = asks.front;
+              back = asks.back ++ (if whole then sent_texts (acts c (IsAsked now)) else []);
+              split = ap (λ ts. ts ++ (if whole then sent_texts (acts c (IsAsked now)) else [])) asks.split ∙ append_assoc asks.front (_ ∷ asks.back) _;
+              before = asks.before;
+              later = beats_join asks.back _ asks.later (beats whole);
+            })
+          ],
+        )
+        | inr has ↦ inr (record { ends = has.ends; late = has.late; beats = beats_join to_worker _ has.beats (beats whole) })
       ]
 
   -- the client learns that its connection has ended
@@ -400,11 +335,6 @@ module _ (text : ℕ → Dispatch → List ℕ) (worker : ℕ) (conn : Option �
   }
 
   -- the link is cut
-  taken_flown : (n : ℕ) (is : List Item) → take n (all_flown text is) ≡ all_flown text (take n is)
-  taken_flown zero is = refl
-  taken_flown (suc n) [] = refl
-  taken_flown (suc n) (i ∷ is) = ap (λ fs. flown text i ∷ fs) (taken_flown n is)
-
   own_taken : (n : ℕ) (texts : List (List ℕ)) → AreOwn worker w.core.sessions texts → AreOwn worker w.core.sessions (take n texts)
   own_taken zero texts own = tt
   own_taken (suc n) [] own = tt
@@ -415,7 +345,7 @@ module _ (text : ℕ → Dispatch → List ℕ) (worker : ℕ) (conn : Option �
   cut_lasts c whole to_client to_worker m n old = record {
     number = old.number;
     items = take m old.items;
-    are = ap (take m) old.are ∙ taken_flown m old.items;
+    are = ap (take m) old.are ∙ take-map (flown text) m old.items;
     good = good_take c.intents worker w.core.sessions (mind c) m old.items old.good;
     knows = old.knows;
     own = own_taken n to_worker old.own;

@@ -1,3 +1,4 @@
+pub mod Among
 pub mod Minds
 pub mod Growing
 pub mod Kept

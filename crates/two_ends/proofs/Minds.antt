@@ -14,7 +14,7 @@ use Rattle.client_session.specs.Table.{begun, session_after}
 use Rattle.world_law.specs.Sent.{Sent, dispatches}
 use Rattle.world_law.specs.Model.{Worker}
 use Rattle.two_ends.specs.Flights.{Flight, Text, Close, said}
-use Rattle.two_ends.specs.TwoEnds.{IsAmong}
+use Rattle.two_ends.proofs.Among.{IsAmong}
 
 -- ---- what is on its way, as it was meant
 

@@ -4,12 +4,13 @@ use Rattle.std.specs.Prelude.{◌==◌, flat_map}
 use Rattle.std.proofs.Math.Seq.{drop-append_seam}
 use Rattle.std.proofs.lemmas.Bool.{true≢false}
 use Rattle.std.proofs.lemmas.Option.{same_Some}
+use Rattle.std.proofs.lemmas.Grind.{flat_map-append}
 use Rattle.dispatch_types.specs.declared.dispatch.Dispatch.{Dispatch}
 use Rattle.dispatch_types.specs.declared.dispatch.Dispatch.TheVariants.{Ready}
 use Rattle.dispatch_types.specs.declared.ready.Ready.{Ready as Greeted}
 use Rattle.dispatch_types.specs.declared.viewer.Viewer.{Viewer}
 use Rattle.dispatch_types.specs.Fold.{fold, purge}
-use Rattle.gateway_frames.specs.declared.out.Out.TheVariants.{Hello, Ack, Invalid, Reconnect, Resumed}
+use Rattle.gateway_frames.specs.declared.out.Out.TheVariants.{Invalid, Resumed}
 use Rattle.session_core.specs.declared.bot.Bot.{Bot}
 use Rattle.session_core.specs.State.{Session, Attached, Detached, attached, released}
 use Rattle.session_core.specs.Frames.{Move, Nothing, ClosesWith, Begins}
@@ -27,17 +28,13 @@ use Rattle.world_law.proofs.Alone.{IsSound}
 use Rattle.world_law.proofs.Folds.{dispatches_told, same_id}
 use Rattle.world_law.proofs.Lists.{append_none, map_join}
 use Rattle.world_law.proofs.Workers.{Follows}
-use Rattle.two_ends.specs.Flights.{Text, Close, said, flights}
-use Rattle.two_ends.specs.TwoEnds.{IsAmong}
-use Rattle.two_ends.proofs.Minds.{Item, Said, Told, Shut, flown, all_flown, told_items, Mind, with_dispatch, minded, all_minded, SessionKeeps, WorkerKeeps, At, Known, Knows, IsGreeting, Comes, GoesOn, Good}
-use Rattle.two_ends.proofs.Steps.{flights_join, flown_told, minded_join, good_join, told_good, at_first, at_resumed}
-use Rattle.two_ends.proofs.Stages.{AreStill, AreLater, still_join, later_join, still_later, all_still_minded, AreBeats, Stage, off_ends}
-use Rattle.two_ends.proofs.Places.{same_number, among_below, found_among, all_among, off_among}
-use Rattle.two_ends.proofs.Arriving.{released_off, last_among, among_join, one_on, session_still, made_by, gives_by, closed_flies, Leaves}
-
-told_later : (n : ℕ) (ds : List Dispatch) → AreLater (told_items n ds)
-told_later n [] = tt
-told_later n (d ∷ ds) = (tt, told_later (n + 1) ds)
+use Rattle.two_ends.specs.Flights.{Text, Close, said, flights, flight}
+use Rattle.two_ends.proofs.Among.{IsAmong, all_among, off_among, found_among, among_here, among_part, one_on}
+use Rattle.two_ends.proofs.Minds.{Item, Said, Shut, flown, all_flown, told_items, Mind, with_dispatch, minded, all_minded, SessionKeeps, WorkerKeeps, At, Known, Knows, IsGreeting, Comes, GoesOn, Good}
+use Rattle.two_ends.proofs.Steps.{flown_told, minded_join, good_join, told_good, at_first, at_resumed}
+use Rattle.two_ends.proofs.Stages.{AreStill, still_join, later_join, still_later, all_still_minded, AreBeats, Stage, off_ends, still_good, told_later}
+use Rattle.two_ends.proofs.Places.{same_number, among_below}
+use Rattle.two_ends.proofs.Arriving.{released_off, session_still, made_by, gives_by, closed_flies, Leaves}
 
 module _ (text : ℕ → Dispatch → List ℕ) (intents conn : ℕ) where
   -- ---- the first frame
@@ -45,11 +42,11 @@ module _ (text : ℕ → Dispatch → List ℕ) (intents conn : ℕ) where
   -- what is left where the connection is not open, is closed, or its session cannot be resumed
   spent : (worker : ℕ) (m : Mind) (is items : List Item) (later : List (List ℕ)) (xs : List (Session Sent)) → AreOff conn xs → AreStill is → AreStill items → AreBeats later
       → Stage intents worker m conn xs (is ++ items) later
-  spent worker m is items later xs off still also beats = inr (inr (record {
+  spent worker m is items later xs off still also beats = inr (record {
     ends = off_ends intents worker conn (all_minded m (is ++ items)) xs off;
     late = still_later (is ++ items) (still_join is items still also);
     beats = beats;
-  }))
+  })
 
   pub spent_leaves : (w : Worker) (worker : ℕ) (m : Mind) (is : List Item) (later : List (List ℕ)) (move : Move) → (move ≡ Nothing) ⊎ ((code : ℕ) × (move ≡ ClosesWith code))
       → AreOff conn w.core.sessions → AreStill is → AreBeats later → Leaves text intents conn worker m is later (made_by text conn w move) (gives_by text conn w move)
@@ -69,17 +66,19 @@ module _ (text : ℕ → Dispatch → List ℕ) (intents conn : ℕ) where
     items = Said (Invalid false) ∷ [];
     are = ap (flights conn) denied.0 ∙ ap (λ b. (if b then Text (said (Invalid false)) ∷ [] else []) ++ []) (same_id conn);
     good = (refl, tt);
-    stage = inl (record {
-      off = subst (AreOff conn) (sym denied.1) off;
-      prompt = Said (Invalid false);
-      which = inr refl;
-      front = is;
-      back = [];
-      split = refl;
-      before = still;
-      later = tt;
-      beats = beats;
-    });
+    stage = inl (
+      subst (AreOff conn) (sym denied.1) off,
+      inl (record {
+        prompt = Said (Invalid false);
+        which = inr refl;
+        front = is;
+        back = [];
+        split = refl;
+        before = still;
+        later = tt;
+        beats = beats;
+      }),
+    );
   }
 
   -- a session that begins
@@ -102,7 +101,7 @@ module _ (text : ℕ → Dispatch → List ℕ) (intents conn : ℕ) where
         let worker : ℕ = w.core.worker in
         let xs : List (Session Sent) = w.core.sessions ++ begins ∷ [] in
         let same : all_minded m is ≡ m = all_still_minded m is still in
-        let here : IsAmong begins xs = last_among begins w.core.sessions in
+        let here : IsAmong begins xs = among_here begins w.core.sessions [] in
         let greeting : IsGreeting intents worker m begins [] (Ready greeted) = record {
           first = refl;
           ready = greeted;
@@ -126,15 +125,18 @@ module _ (text : ℕ → Dispatch → List ℕ) (intents conn : ℕ) where
           items = items;
           are = flown_told text 0 (Ready greeted ∷ greetings) conn;
           good = subst (λ (n : Mind). Good intents worker xs n items) (sym same) (comes, rest.0);
-          stage = inr (inr (record {
-            ends = λ y among on. elim (among_join begins y w.core.sessions among) [
+          stage = inr (record {
+            ends = λ y among on. elim (among_part y w.core.sessions (begins ∷ []) among) [
               | inl before ↦ absurd (true≢false (sym on ∙ off_among conn y w.core.sessions off before))
-              | inr last ↦ subst (λ (y : Session Sent). At intents worker (all_minded m (is ++ items)) y (dispatches y.sent)) (sym last)
-                  (subst (λ (n : Mind). At intents worker n begins (dispatches begins.sent)) (sym (minded_join m is items ∙ ap (λ n. all_minded n items) same)) end)
+              | inr here ↦ elim here [
+                | inl last ↦ subst (λ (y : Session Sent). At intents worker (all_minded m (is ++ items)) y (dispatches y.sent)) (sym last)
+                    (subst (λ (n : Mind). At intents worker n begins (dispatches begins.sent)) (sym (minded_join m is items ∙ ap (λ n. all_minded n items) same)) end)
+                | inr none ↦ absurd none
+              ]
             ];
             late = later_join is items (still_later is still) (told_later 0 (Ready greeted ∷ greetings));
             beats = beats;
-          }));
+          });
         }
       where
         above : (made n : ℕ) → n ≤ made → n ≡ made + 1 → ⊥
@@ -162,30 +164,20 @@ module _ (text : ℕ → Dispatch → List ℕ) (intents conn : ℕ) where
         by_test true = (tt, tt)
         by_test false = tt
 
-    still_good : (worker : ℕ) (xs : List (Session Sent)) (n : Mind) (items : List Item) → AreStill items → Good intents worker xs n items
-    still_good worker xs n [] still = tt
-    still_good worker xs n (Said (Hello interval_ms) ∷ items) still = absurd still.0
-    still_good worker xs n (Said Ack ∷ items) still = (tt, still_good worker xs n items still.1)
-    still_good worker xs n (Said (Invalid resumable) ∷ items) still = absurd still.0
-    still_good worker xs n (Said Reconnect ∷ items) still = absurd still.0
-    still_good worker xs n (Said (Resumed k) ∷ items) still = absurd still.0
-    still_good worker xs n (Told k d ∷ items) still = absurd still.0
-    still_good worker xs n (Shut code ∷ items) still = (tt, still_good worker xs n items still.1)
-
     pub goes_on_leaves : (x : Session Sent) (seq : ℕ) → ResumeGoesOn text w conn seq x new out → (known : Known intents w.core.worker w.core.sessions m) → known.session ≡ x → seq ≡ length known.front
         → AreStill is → AreBeats later → Follows w → IsSound new → new.core.worker ≡ w.core.worker → WorkerKeeps new → Leaves text intents conn w.core.worker m is later new out
     goes_on_leaves x seq goes known own number still beats follows sound worker_same keeps =
         let worker : ℕ = w.core.worker in
         let xs : List (Session Sent) = new.core.sessions in
         let here : Session Sent = record x { condition = Attached conn } in
-        let found = found_among (is_numbered x.number) xs here goes.here in
+        let found : IsAmong here xs = found_among (is_numbered x.number) xs here goes.here in
         let front : List Dispatch = known.front in
         let back : List Dispatch = known.back in
         let all : dispatches x.sent ≡ front ++ back = ap (λ (x : Session Sent). dispatches x.sent) (sym own) ∙ known.split in
         let at : At intents worker m x front = subst (λ (x : Session Sent). At intents worker m x front) own known.at in
         let first : At intents worker m here front = record { session = at.session; is = at.is; id = at.id; number = at.number; intents = at.intents; folds = at.folds } in
-        let own_keeps : SessionKeeps worker here = subst (λ n. SessionKeeps n here) worker_same (all_among (SessionKeeps new.core.worker) here xs keeps found.0) in
-        let told = told_good intents worker xs here front back [] found.0 (all ∙ ap (λ ds. front ++ ds) (sym (append_none back))) own_keeps m first in
+        let own_keeps : SessionKeeps worker here = subst (λ n. SessionKeeps n here) worker_same (all_among (SessionKeeps new.core.worker) here xs keeps found) in
+        let told = told_good intents worker xs here front back [] found (all ∙ ap (λ ds. front ++ ds) (sym (append_none back))) own_keeps m first in
         let rest : drop seq (dispatches x.sent) ≡ back = ap (λ n. drop n (dispatches x.sent)) number ∙ (ap (drop (length front)) all ∙ drop-append_seam front back) in
         let older : List Item = older_items (attached x.condition) in
         let texts : List Item = told_items (length front) back in
@@ -197,7 +189,7 @@ module _ (text : ℕ → Dispatch → List ℕ) (intents conn : ℕ) where
         (session_still w x follows (subst (λ (x : Session Sent). IsAmong x w.core.sessions) own known.among) g)) in
         let go : GoesOn intents worker xs held last = record {
           session = here;
-          among = found.0;
+          among = found;
           front = front ++ back;
           back = [];
           split = all ∙ sym (append_none (front ++ back));
@@ -213,28 +205,28 @@ module _ (text : ℕ → Dispatch → List ℕ) (intents conn : ℕ) where
         let minds : all_minded m items ≡ minded held (Said (Resumed last)) =
         minded_join m older (texts ++ Said (Resumed last) ∷ []) ∙ (ap (λ n. all_minded n (texts ++ Said (Resumed last) ∷ [])) quiet ∙ minded_join m texts (Said (Resumed last) ∷ [])) in
         let good : Good intents worker xs m items =
-        good_join intents worker xs m older (texts ++ Said (Resumed last) ∷ []) (still_good worker xs m older (older_still (attached x.condition)))
+        good_join intents worker xs m older (texts ++ Said (Resumed last) ∷ []) (still_good intents worker xs m older (older_still (attached x.condition)))
         (subst (λ (n : Mind). Good intents worker xs n (texts ++ Said (Resumed last) ∷ [])) (sym quiet)
         (good_join intents worker xs m texts (Said (Resumed last) ∷ []) told.0 (go, tt))) in
         record {
           items = items;
           are =
               ap (flights conn) goes.outputs
-              ∙ (flights_join conn (older_sends (attached x.condition)) _
+              ∙ (flat_map-append (flight conn) (older_sends (attached x.condition)) _
               ∙ (ap (λ fs. fs ++ flights conn (sends text (Attached conn) seq (drop seq (dispatches x.sent)) ++ Says conn (Resumed last) ∷ [])) (older_fly (attached x.condition))
-              ∙ (ap (λ fs. all_flown text older ++ fs) (flights_join conn (sends text (Attached conn) seq (drop seq (dispatches x.sent))) (Says conn (Resumed last) ∷ [])
+              ∙ (ap (λ fs. all_flown text older ++ fs) (flat_map-append (flight conn) (sends text (Attached conn) seq (drop seq (dispatches x.sent))) (Says conn (Resumed last) ∷ [])
               ∙ (ap (λ fs. fs ++ flights conn (Says conn (Resumed last) ∷ [])) (ap (λ ds. flights conn (sends text (Attached conn) seq ds)) rest ∙ (flown_told text seq back conn ∙ ap (λ n. all_flown text (told_items n back)) number))
               ∙ (ap (λ b. all_flown text texts ++ ((if b then Text (said (Resumed last)) ∷ [] else []) ++ [])) (same_id conn)
               ∙ sym (map_join (flown text) texts (Said (Resumed last) ∷ [])))))
               ∙ sym (map_join (flown text) older (texts ++ Said (Resumed last) ∷ [])))));
           good = subst (λ (n : Mind). Good intents worker xs n items) (sym same) good;
-          stage = inr (inr (record {
+          stage = inr (record {
             ends = λ y among on.
-                let one : y ≡ here = one_on conn xs here y (sound.alone conn) found.0 among (same_id conn) on in
+                let one : y ≡ here = one_on conn xs here y (sound.alone conn) found among (same_id conn) on in
                 subst (λ (y : Session Sent). At intents worker (all_minded m (is ++ items)) y (dispatches y.sent)) (sym one)
                 (subst (λ (n : Mind). At intents worker n here (dispatches here.sent)) (sym (minded_join m is items ∙ (ap (λ n. all_minded n items) same ∙ minds))) ended);
             late = later_join is items (still_later is still) (later_join older (texts ++ Said (Resumed last) ∷ []) (still_later older (older_still (attached x.condition)))
                 (later_join texts (Said (Resumed last) ∷ []) (told_later (length front) back) (tt, tt)));
             beats = beats;
-          }));
+          });
         }

@@ -10,20 +10,20 @@ use Rattle.std.proofs.Math.Seq.{drop-append_seam}
 use Rattle.dispatch_types.specs.declared.dispatch.Dispatch.{Dispatch}
 use Rattle.edit_apply.specs.declared.Edit.{Edit}
 use Rattle.session_core.specs.declared.bot.Bot.{Bot}
-use Rattle.session_core.specs.State.{Session, is_on}
+use Rattle.session_core.specs.State.{Session}
 use Rattle.session_core.specs.Resume.{session_id}
 use Rattle.world_law.specs.TheLaw.{IsOf}
 use Rattle.world_law.specs.Inputs.{Input, Look, Rebase, Open, Frame, Lost, Closed, Tick, taken}
 use Rattle.world_law.specs.World.{World, Step, Edits, Looks, Opens, Frames, Loses, Leaves, Ticks, at_worker, first_of, first_world, lags, look_at, stepped}
 use Rattle.world_law.specs.Model.{Seen, Worker, in_model, first_worker, seen_with}
 use Rattle.world_law.specs.Sent.{Sent}
-use Rattle.world_law.specs.Sends.{AreOff}
 use Rattle.world_law.proofs.Lists.{append_none}
 use Rattle.world_law.proofs.Alone.{Ascend}
+use Rattle.world_law.proofs.Resumes.{found_meets}
 use Rattle.world_law.proofs.Workers.{SessionMeets}
 use Rattle.world_law.proofs.Worlds.{IsFront, Stays, taken_stays}
 use Rattle.two_ends.specs.Ends.{is_worker, worker_at, input_if, input_of}
-use Rattle.two_ends.specs.TwoEnds.{IsAmong}
+use Rattle.two_ends.proofs.Among.{IsAmong}
 
 -- ---- ids
 
@@ -60,34 +60,7 @@ same_session x y above made (z ∷ zs) up (inr a) (inl b) e =
     absurd (omega (arith, head, e, (among_below x z.number made zs up.1 a).0))
 same_session x y above made (z ∷ zs) up (inr a) (inr b) e = same_session x y z.number made zs up.1 a b e
 
-pub found_among : (p : Session Sent → Bool) (xs : List (Session Sent)) (x : Session Sent) → find p xs ≡ Some x → IsAmong x xs × (p x ≡ true)
-found_among p [] x found = absurd (cc found)
-found_among p (y ∷ ys) x found = by_test (p y) refl found (found_among p ys x)
-  where
-    by_test : (b : Bool) → p y ≡ b → (if b then Some y else find p ys) ≡ Some x → (find p ys ≡ Some x → IsAmong x ys × (p x ≡ true))
-        → IsAmong x (y ∷ ys) × (p x ≡ true)
-    by_test true passes here later = let same : y ≡ x = cc in (inl (sym same), subst (λ (z : Session Sent). p z ≡ true) same passes)
-    by_test false fails there later = let rest = later there in (inr rest.0, rest.1)
-
-pub off_among : (conn : ℕ) (x : Session Sent) (xs : List (Session Sent)) → AreOff conn xs → IsAmong x xs → is_on conn x.condition ≡ false
-off_among conn x [] off is = absurd is
-off_among conn x (y ∷ ys) off (inl same) = subst (λ (z : Session Sent). is_on conn z.condition ≡ false) (sym same) off.0
-off_among conn x (y ∷ ys) off (inr later) = off_among conn x ys off.1 later
-
-pub all_among : (P : Session Sent → Type 0) (x : Session Sent) (xs : List (Session Sent)) → All P xs → IsAmong x xs → P x
-all_among P x [] all is = absurd is
-all_among P x (y ∷ ys) all (inl same) = subst P (sym same) (All-head P y ys all)
-all_among P x (y ∷ ys) all (inr later) = all_among P x ys (All-tail P y ys all) later
-
 -- ---- the worker that is found
-
-found_passes : (p : Worker → Bool) (ws : List Worker) (w : Worker) → find p ws ≡ Some w → p w ≡ true
-found_passes p [] w found = absurd (cc found)
-found_passes p (v ∷ vs) w found = by_test (p v) refl found (found_passes p vs w)
-  where
-    by_test : (b : Bool) → p v ≡ b → (if b then Some v else find p vs) ≡ Some w → (find p vs ≡ Some w → p w ≡ true) → p w ≡ true
-    by_test true passes here later = let same : v ≡ w = cc in subst (λ (z : Worker). p z ≡ true) same passes
-    by_test false fails there later = later there
 
 found_of_all : (P : Worker → Type 0) (p : Worker → Bool) (ws : List Worker) (w : Worker) → All P ws → find p ws ≡ Some w → P w
 found_of_all P p [] w all found = absurd (cc found)
@@ -103,18 +76,16 @@ found_stays P n m w all found = found_of_all P (is_worker n) m.workers w all fou
 
 -- it has the number that was asked for
 pub worker_number : (n : ℕ) (m : World) (w : Worker) → worker_at n m ≡ Some w → w.core.worker ≡ n
-worker_number n m w found = eqb-true w.core.worker n (found_passes (is_worker n) m.workers w found)
+worker_number n m w found = eqb-true w.core.worker n (found_meets (is_worker n) m.workers w found)
 
--- no session and no connection
+-- no session
 abbrev IsFresh : Worker → Type 0
-IsFresh w = (w.core.sessions ≡ []) × ((w.core.made ≡ 0) × (w.core.connections ≡ []))
+IsFresh w = w.core.sessions ≡ []
 
--- the first world's worker of a number has no session and no connection
-pub first_worker_at : (bots : List Bot) (guilds : List ℕ) (places : List (ℕ × List ℕ)) (n : ℕ) (w : Worker) → worker_at n (first_world bots guilds places) ≡ Some w
-    → (w.core.sessions ≡ []) × ((w.core.made ≡ 0) × (w.core.connections ≡ []))
+-- the first world's worker of a number has none
+pub first_worker_at : (bots : List Bot) (guilds : List ℕ) (places : List (ℕ × List ℕ)) (n : ℕ) (w : Worker) → worker_at n (first_world bots guilds places) ≡ Some w → w.core.sessions ≡ []
 first_worker_at bots guilds places n w found =
-    found_of_all IsFresh (is_worker n) (map (first_of bots guilds) places) w
-    (All-map IsFresh (first_of bots guilds) places (λ k d h. (refl, (refl, refl)))) found
+    found_of_all IsFresh (is_worker n) (map (first_of bots guilds) places) w (All-map IsFresh (first_of bots guilds) places (λ k d h. refl)) found
 
 -- ---- a step
 
@@ -138,16 +109,6 @@ same_found f g same (Some w) = ap Some (same w)
 unmoved : (o : Option Worker) → o ≡ option_map (λ (w : Worker). w) o
 unmoved None = refl
 unmoved (Some w) = refl
-
--- the logs after a step
-abbrev pub logs_after : Seen → Step → Seen
-logs_after logs (Edits g e) = seen_with logs g e
-logs_after logs (Looks n g) = logs
-logs_after logs (Opens n conn) = logs
-logs_after logs (Frames n conn received) = logs
-logs_after logs (Loses n conn) = logs
-logs_after logs (Leaves n conn code) = logs
-logs_after logs (Ticks n now) = logs
 
 module _ (text : ℕ → Dispatch → List ℕ) where
   -- the worker after what it was given
@@ -181,16 +142,6 @@ module _ (text : ℕ → Dispatch → List ℕ) where
   worker_stepped keeps n m (Loses k conn) = moved_at keeps n k (λ (w : Worker). Lost conn) m.workers
   worker_stepped keeps n m (Leaves k conn code) = moved_at keeps n k (λ (w : Worker). Closed conn code) m.workers
   worker_stepped keeps n m (Ticks k now) = moved_at keeps n k (λ (w : Worker). Tick now) m.workers
-
-  -- the logs change with an entry alone
-  pub logs_stepped : (m : World) (step : Step) → (stepped text m step).logs ≡ logs_after m.logs step
-  logs_stepped m (Edits g e) = refl
-  logs_stepped m (Looks n g) = refl
-  logs_stepped m (Opens n conn) = refl
-  logs_stepped m (Frames n conn received) = refl
-  logs_stepped m (Loses n conn) = refl
-  logs_stepped m (Leaves n conn code) = refl
-  logs_stepped m (Ticks n now) = refl
 
 -- ---- what each worker of a world stays
 

@@ -1,6 +1,7 @@
 -- How far a client and its worker are on the client's connection.
-use Rattle.std.proofs.Common.{◌≡◌, ℕ, ◌≤◌, List, [], ◌∷◌, ◌++◌, false, Option, Some, length, refl, sym, ap, ◌∙◌, arith, ◌⊎◌}
+use Rattle.std.proofs.Common.{◌≡◌, ℕ, ◌+◌, ◌≤◌, List, [], ◌∷◌, ◌++◌, false, Option, Some, length, map, refl, sym, ap, ◌∙◌, arith, ◌⊎◌}
 use Rattle.std.proofs.lemmas.List.{length-append}
+use Rattle.dispatch_types.specs.declared.dispatch.Dispatch.{Dispatch}
 use Rattle.gateway_frames.specs.declared.out.Out.TheVariants.{Hello, Ack, Invalid, Reconnect, Resumed}
 use Rattle.gateway_frames.specs.declared.frame.Frame.{Frame}
 use Rattle.gateway_frames.specs.declared.frame.Frame.TheVariants as frame
@@ -10,10 +11,10 @@ use Rattle.client_session.specs.declared.session.Session.{Session as ClientSessi
 use Rattle.client_session.specs.Table.{identify, resume, frame_text}
 use Rattle.world_law.specs.Sends.{AreOff}
 use Rattle.world_law.specs.Sent.{Sent, dispatches}
-use Rattle.two_ends.specs.TwoEnds.{IsAmong}
-use Rattle.two_ends.proofs.Minds.{Item, Said, Told, Shut, Mind, all_minded, minded, AtEnds, Grows, Grown}
+use Rattle.two_ends.specs.Flights.{Close}
+use Rattle.two_ends.proofs.Among.{IsAmong, off_among}
+use Rattle.two_ends.proofs.Minds.{Item, Said, Told, Shut, all_flown, told_items, Mind, all_minded, minded, Grows, Grown, AtEnds, Good}
 use Rattle.two_ends.proofs.Growing.{grown_among}
-use Rattle.two_ends.proofs.Places.{off_among}
 
 -- ---- items
 
@@ -79,6 +80,31 @@ pub all_still_minded : (m : Mind) (is : List Item) → AreStill is → all_minde
 all_still_minded m [] still = refl
 all_still_minded m (i ∷ is) still = ap (λ n. all_minded n is) (still_minded m i still.0) ∙ all_still_minded m is still.1
 
+-- these are good, whatever the sessions are
+pub still_good : (intents worker : ℕ) (xs : List (Session Sent)) (m : Mind) (is : List Item) → AreStill is → Good intents worker xs m is
+still_good intents worker xs m [] still = tt
+still_good intents worker xs m (Said (Hello interval_ms) ∷ is) still = absurd still.0
+still_good intents worker xs m (Said Ack ∷ is) still = (tt, still_good intents worker xs m is still.1)
+still_good intents worker xs m (Said (Invalid resumable) ∷ is) still = absurd still.0
+still_good intents worker xs m (Said Reconnect ∷ is) still = absurd still.0
+still_good intents worker xs m (Said (Resumed n) ∷ is) still = absurd still.0
+still_good intents worker xs m (Told n d ∷ is) still = absurd still.0
+still_good intents worker xs m (Shut code ∷ is) still = (tt, still_good intents worker xs m is still.1)
+
+-- dispatches are later, and closes still
+
+pub told_later : (n : ℕ) (ds : List Dispatch) → AreLater (told_items n ds)
+told_later n [] = tt
+told_later n (d ∷ ds) = (tt, told_later (n + 1) ds)
+
+pub shut_still : (codes : List ℕ) → AreStill (map Shut codes)
+shut_still [] = tt
+shut_still (code ∷ codes) = (tt, shut_still codes)
+
+pub shut_flown : (text : ℕ → Dispatch → List ℕ) (codes : List ℕ) → map Close codes ≡ all_flown text (map Shut codes)
+shut_flown text [] = refl
+shut_flown text (code ∷ codes) = ap (λ fs. Close code ∷ fs) (shut_flown text codes)
+
 -- ---- frames
 
 abbrev pub IsBeat : List ℕ → Type 0
@@ -139,8 +165,7 @@ IsFirst intents m f =
     ⊎ ((token : List ℕ) × ((s : ClientSession) × ((m.session ≡ Some s) × (f ≡ resume token s))))
 
 -- Hello, or that the session cannot be resumed, is on its way to the client, which then sends a first frame
-pub record Prompts (conn : ℕ) (xs : List (Session Sent)) (is : List Item) (texts : List (List ℕ)) : Type 0 where
-  pub off : AreOff conn xs
+pub record Prompts (is : List Item) (texts : List (List ℕ)) : Type 0 where
   pub prompt : Item
   pub which : (prompt ≡ Said (Hello 41250)) ⊎ (prompt ≡ Said (Invalid false))
   pub front : List Item
@@ -151,8 +176,7 @@ pub record Prompts (conn : ℕ) (xs : List (Session Sent)) (is : List Item) (tex
   pub beats : AreBeats texts
 
 -- the first frame is on its way to the worker
-pub record Asks (intents : ℕ) (m : Mind) (conn : ℕ) (xs : List (Session Sent)) (is : List Item) (texts : List (List ℕ)) : Type 0 where
-  pub off : AreOff conn xs
+pub record Asks (intents : ℕ) (m : Mind) (is : List Item) (texts : List (List ℕ)) : Type 0 where
   pub still : AreStill is
   pub frame : Frame
   pub first : IsFirst intents m frame
@@ -168,8 +192,9 @@ pub record Has (intents worker : ℕ) (m : Mind) (conn : ℕ) (xs : List (Sessio
   pub late : AreLater is
   pub beats : AreBeats texts
 
+-- in the first two no session is on the connection
 abbrev pub Stage : (intents worker : ℕ) → Mind → ℕ → List (Session Sent) → List Item → List (List ℕ) → Type 0
-Stage intents worker m conn xs is texts = Prompts conn xs is texts ⊎ (Asks intents m conn xs is texts ⊎ Has intents worker m conn xs is texts)
+Stage intents worker m conn xs is texts = (AreOff conn xs × (Prompts is texts ⊎ Asks intents m is texts)) ⊎ Has intents worker m conn xs is texts
 
 pub off_ends : (intents worker conn : ℕ) (m : Mind) (xs : List (Session Sent)) → AreOff conn xs → AtEnds intents worker conn m xs
 off_ends intents worker conn m xs off x among on = absurd (cc (on, off_among conn x xs off among))

@@ -12,21 +12,16 @@ use Rattle.session_core.specs.State.{Session, Attached}
 use Rattle.session_core.specs.Resume.{session_id}
 use Rattle.client_session.specs.declared.session.Session.{Session as ClientSession}
 use Rattle.client_session.specs.Table.{begun, session_after}
-use Rattle.world_law.specs.Outputs.{Output, sends}
+use Rattle.world_law.specs.Outputs.{sends}
 use Rattle.world_law.specs.Sent.{Sent, dispatches}
 use Rattle.world_law.proofs.Folds.{fold_join, same_id}
 use Rattle.world_law.proofs.Lists.{all_at, append_none}
-use Rattle.two_ends.specs.Flights.{Text, flight, flights}
-use Rattle.two_ends.specs.TwoEnds.{IsAmong}
+use Rattle.two_ends.specs.Flights.{Text, flights}
+use Rattle.two_ends.proofs.Among.{IsAmong, all_among}
 use Rattle.two_ends.proofs.Minds.{Item, Said, Told, Shut, all_flown, told_items, Mind, with_dispatch, minded, all_minded, Grows, Grown, Keeps, SessionKeeps, At, Known, Knows, IsGreeting, Comes, Fine, Good}
 use Rattle.two_ends.proofs.Growing.{grown_among}
-use Rattle.two_ends.proofs.Places.{all_among}
 
 -- ---- lists
-
-pub flights_join : (conn : ℕ) (os more : List Output) → flights conn (os ++ more) ≡ flights conn os ++ flights conn more
-flights_join conn [] more = refl
-flights_join conn (o ∷ os) more = ap (λ fs. flight conn o ++ fs) (flights_join conn os more) ∙ sym (append_assoc (flight conn o) (flights conn os) (flights conn more))
 
 pub flown_told : (text : ℕ → Dispatch → List ℕ) (n : ℕ) (ds : List Dispatch) (conn : ℕ) → flights conn (sends text (Attached conn) n ds) ≡ all_flown text (told_items n ds)
 flown_told text n [] conn = refl
@@ -160,7 +155,7 @@ module _ (intents worker : ℕ) where
 
   -- ---- sessions that grow
 
-  at_grown : (m : Mind) (x y : Session Sent) (front : List Dispatch) → Grows x y → At intents worker m x front → At intents worker m y front
+  pub at_grown : (m : Mind) (x y : Session Sent) (front : List Dispatch) → Grows x y → At intents worker m x front → At intents worker m y front
   at_grown m x y front grows at = record {
     session = at.session;
     is = at.is;

@@ -5,6 +5,7 @@ use Rattle.std.proofs.lemmas.Bool.{eqb-true}
 use Rattle.std.proofs.lemmas.List.{length-append}
 use Rattle.std.proofs.lemmas.List.Elements.{All-nil}
 use Rattle.std.proofs.lemmas.Option.{same_Some}
+use Rattle.std.proofs.Math.Seq.{take-append_seam}
 use Rattle.dispatch_types.specs.declared.dispatch.Dispatch.{Dispatch}
 use Rattle.dispatch_types.specs.Fold.{fold}
 use Rattle.session_core.specs.declared.bot.Bot.{Bot}
@@ -24,6 +25,7 @@ use Rattle.two_ends.specs.Flights.{Flight, Text, Close, flights, ReadsBack, Fits
 use Rattle.two_ends.specs.Ends.{Ends, first_ends, worker_at, input_if, input_of, outputs_of, given_by, flights_of, moved}
 use Rattle.two_ends.specs.Events.{Event, Hears, Arrives, Cuts, Learns, Dials, Beats, Happens, IsHeard, IsElsewhere, IsUnused, WorkerFits, MayHappen, MayAllHappen, heard, arrived, after, after_all}
 use Rattle.two_ends.specs.TwoEnds.{SessionIsHeld, EndsHold, TwoEnds}
+use Rattle.two_ends.proofs.Among.{among_contains, all_among}
 use Rattle.two_ends.proofs.Minds.{SessionKeeps, Known}
 use Rattle.two_ends.proofs.Growing.{taken_worker}
 use Rattle.two_ends.proofs.Steps.{Advances, advances_same}
@@ -32,7 +34,7 @@ use Rattle.two_ends.proofs.Stages.{IsOwn}
 use Rattle.two_ends.proofs.Hearing.{mind, asks_mind, loses_mind}
 use Rattle.two_ends.proofs.Elsewhere.{IsElse}
 use Rattle.two_ends.proofs.Lasting.{Holds, flown_to, any_lasts, text_lasts, open_lasts, hear_lasts, hear_advances, beat_lasts, learn_lasts, cut_lasts}
-use Rattle.two_ends.proofs.Places.{after_input, worker_stepped, worker_number, found_stays, first_worker_at, stays_first, stays_stepped, all_among}
+use Rattle.two_ends.proofs.Places.{after_input, worker_stepped, worker_number, found_stays, first_worker_at, stays_first, stays_stepped}
 
 -- ---- which inputs a step gives
 
@@ -234,20 +236,16 @@ module _ (text : ℕ → Dispatch → List ℕ) (back : ReadsBack text) where
         let known : Known e.client.intents e.worker w.core.sessions (mind e.client) = old.knows s has in
         let same : known.at.session ≡ s = same_Some known.at.session s (sym known.at.is ∙ has) in
         let number : s.number ≡ length known.front = ap (λ (s : ClientSession). s.number) (sym same) ∙ known.at.number in
-        let front : take s.number (dispatches known.session.sent) ≡ known.front = ap (λ n. take n (dispatches known.session.sent)) number ∙ (ap (take (length known.front)) known.split ∙ front_taken known.front known.back) in
+        let front : take s.number (dispatches known.session.sent) ≡ known.front = ap (λ n. take n (dispatches known.session.sent)) number ∙ (ap (take (length known.front)) known.split ∙ take-append_seam known.front known.back) in
         record {
           session = known.session;
-          among = known.among;
+          among = among_contains known.session w.core.sessions known.among;
           id = ap (λ (s : ClientSession). s.id) (sym same) ∙ (known.at.id ∙ ap (λ n. session_id n known.session.number) (sym old.number));
           intents = known.at.intents;
           within = omega (arith, number, ap length known.split, length-append known.front known.back);
           folds = λ g. known.at.folds g ∙ ap (fold e.client.intents g) (sym front);
           holds = all_among (SessionHolds e.world.logs (cursors w.logs.seen)) known.session w.core.sessions (worker_holds e.world.logs w (stays_here e stand w found)) known.among;
         }
-      where
-        front_taken : (xs ys : List Dispatch) → take (length xs) (xs ++ ys) ≡ xs
-        front_taken [] ys = refl
-        front_taken (x ∷ xs) ys = ap (λ zs. x ∷ zs) (front_taken xs ys)
 
     pub ends_hold : EndsHold text e
     ends_hold = record {
@@ -272,7 +270,7 @@ module _ (text : ℕ → Dispatch → List ℕ) (back : ReadsBack text) where
           good = tt;
           knows = λ s is. absurd (cc is);
           own = tt;
-          keeps = subst (λ (xs : List (Session Sent)). All (SessionKeeps w.core.worker) xs) (sym fresh.0) (All-nil (SessionKeeps w.core.worker));
+          keeps = subst (λ (xs : List (Session Sent)). All (SessionKeeps w.core.worker) xs) (sym fresh) (All-nil (SessionKeeps w.core.worker));
           stage = λ k is whole. absurd (cc is);
         };
     alone = λ none. refl;

@@ -30,7 +30,7 @@ pub data Event : Type 0 where
 
 -- ---- which may happen
 
--- a text is the payload that it is read as, of a worker whose values fit
+-- what comes is a text of this payload
 abbrev pub IsHeard : List Flight → Received → Type 0
 IsHeard [] received = Unit {0}
 IsHeard (Text text ∷ later) received = IsTextOf text received

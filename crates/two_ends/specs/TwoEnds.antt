@@ -1,5 +1,5 @@
 -- The law of two ends: what a client holds of its session, whatever is lost and however it connects again.
-use Rattle.std.specs.Prelude.{◌≡◌, ◌⊎◌, ℕ, ◌≤◌, List, [], ◌∷◌, Some, length, take, All}
+use Rattle.std.specs.Prelude.{◌≡◌, ℕ, ◌≤◌, List, ◌∷◌, Some, length, take, All, Contains}
 use Rattle.dispatch_types.specs.declared.dispatch.Dispatch.{Dispatch}
 use Rattle.dispatch_types.specs.Fold.{fold}
 use Rattle.edit_apply.specs.declared.Edit.{Edit}
@@ -17,15 +17,10 @@ use Rattle.two_ends.specs.Flights.{ReadsBack}
 use Rattle.two_ends.specs.Ends.{Ends, first_ends, worker_at}
 use Rattle.two_ends.specs.Events.{Event, after, after_all, MayHappen, MayAllHappen}
 
--- a session is among a worker's
-abbrev pub IsAmong : Session Sent → List (Session Sent) → Type 0
-IsAmong x [] = ⊥
-IsAmong x (y ∷ ys) = (x ≡ y) ⊎ IsAmong x ys
-
 -- the session that a client has is one of its worker, whose dispatches it holds through its number
 pub record SessionIsHeld (logs : ℕ → List Edit) (w : Worker) (c : Client) (s : ClientSession) : Type 0 where
   pub session : Session Sent
-  pub among : IsAmong session w.core.sessions
+  pub among : Contains w.core.sessions session
   pub id : s.id ≡ session_id w.core.worker session.number
   pub intents : session.viewer.intents ≡ c.intents
   -- no number beyond the last
