@@ -11,14 +11,14 @@ const REST_MS: u64 = 1;
 
 /// A clock that answers what another one does. A pause of it ends when a bell is rung, or has been since
 /// the last pause.
-pub(crate) struct BellClock<'a, C, R: Wait> {
+pub(crate) struct BellClock<'a, C, R> {
     clock: C,
     rt: &'a R,
     bell: &'a Bell,
     heard: u64,
 }
 
-impl<'a, C, R: Wait> BellClock<'a, C, R> {
+impl<'a, C, R> BellClock<'a, C, R> {
     /// That clock, with the pauses of this bell.
     pub(crate) fn new(clock: C, rt: &'a R, bell: &'a Bell) -> BellClock<'a, C, R>
         ensures { result.clock ≡ clock }
@@ -33,7 +33,7 @@ impl<'a, C, R: Wait> BellClock<'a, C, R> {
 
     /// The clock that answers.
     pub(crate) fn into_clock(self) -> C
-        ensures { result ≡ self.clock }
+        ensures { result ≡ self.entry.clock }
     {
         let BellClock {
             clock,
