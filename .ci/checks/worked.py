@@ -1,14 +1,19 @@
 """Plays each step file of examples/worked, and compares its transcript, byte by byte, its status and its line on standard error with
-those that are wanted; then the first session through a pipe whose reader has left before the second write, which then has the Hello line
-alone. Without a built program nothing is played."""
+those that are wanted; then the first session through a pipe whose reader leaves before the second write, which then has the Hello line
+alone. Without a built program nothing is played.
+
+Where the reference is at hand (bench/faults/rig.py), it folds what each session was sent and has to find the projection of the record
+after each entry, in each transcript, and to find that a transcript with a garbled dispatch is wrong."""
 import glob
 import os
-import re
 import subprocess
 import sys
 import threading
 
 os.chdir(os.path.join(os.path.dirname(os.path.abspath(__file__)), "../.."))
+sys.path.insert(0, "bench/faults")
+import rig
+
 FOLDER = "examples/worked"
 SECONDS = 60
 tried, failures = [], []
@@ -20,9 +25,14 @@ def compare(what, wanted, found):
         failures.append(f"worked: {what}: wanted {wanted}, found {found}")
 
 
-def read(path):
-    with open(path, "rb") as file:
+def read(name):
+    with open(f"{FOLDER}/{name}", "rb") as file:
         return file.read()
+
+
+def names():
+    """The names of the step files and of the transcripts, each of which has to have the other."""
+    return sorted({os.path.splitext(os.path.basename(path))[0] for path in glob.glob(f"{FOLDER}/*.*")})
 
 
 def program():
@@ -31,42 +41,18 @@ def program():
     return os.path.abspath(built) if os.access(built, os.X_OK) else None
 
 
-def first_difference(wanted, found):
-    """The number of the first line, from 1, in which two transcripts differ, or None."""
-    if wanted == found:
-        return None
-    ours, theirs = wanted.split(b"\n"), found.split(b"\n")
-    same = (place for place, pair in enumerate(zip(ours, theirs)) if pair[0] != pair[1])
-    return next(same, min(len(ours), len(theirs))) + 1
-
-
-def said_of_lines():
-    """What standard error says of a line, by the name of its fault."""
-    with open("crates/gateway_main/src/complaint.rt", encoding="utf-8") as file:
-        return dict(re.findall(r'LineFault::(\w+) =>\s*\{?\s*"([^"]*)"', file.read()))
-
-
-def ending(path, wanted):
-    """The status of a play with this transcript, and what standard error then says: a line that is no step ends it with 5."""
-    last = wanted.decode().splitlines()[-1].split(" ")
-    if last[:2] != ["stop", "line"]:
-        return 0, ""
-    return 5, f"gate: line {last[2]} of {path}: {said_of_lines()[last[4]]} (status 5; see docs/STEPS.md)\n"
-
-
 def play_all(gate):
-    names = {os.path.splitext(os.path.basename(path))[0] for path in glob.glob(f"{FOLDER}/*.*")}
-    for name in sorted(names):
-        path = f"{FOLDER}/{name}.jsonl"
-        wanted = read(f"{FOLDER}/{name}.out")
+    for name in names():
+        path, wanted = f"{FOLDER}/{name}.jsonl", read(f"{name}.out")
         run = subprocess.run([gate, "run", path], capture_output=True, timeout=SECONDS)
-        compare(f"{name}: the first line that differs", None, first_difference(wanted, run.stdout))
-        compare(f"{name}: the end", ending(path, wanted), (run.returncode, run.stderr.decode()))
+        compare(name, "the same", "the same" if run.stdout == wanted else rig.first_difference(wanted, run.stdout))
+        status = 5 if wanted.splitlines()[-1].startswith(b"stop line ") else 0
+        compare(f"{name}: the end", (status, rig.complaint(status, path, wanted)), (run.returncode, run.stderr))
 
 
 def lose_the_second_write(gate):
     """The first write of the first session comes through, and its reader leaves before the second one."""
-    lines = read(f"{FOLDER}/first_session.jsonl").splitlines(True)
+    lines = read("first_session.jsonl").splitlines(True)
     opened = next(place for place, line in enumerate(lines) if b'"step":"open"' in line) + 1
     with subprocess.Popen([gate, "run", "-"], stdin=subprocess.PIPE, stdout=subprocess.PIPE, stderr=subprocess.PIPE) as run:
         clock = threading.Timer(SECONDS, run.kill)
@@ -77,12 +63,19 @@ def lose_the_second_write(gate):
         run.stdout.close()
         run.stdin.write(b"".join(lines[opened:]))
         run.stdin.close()
-        said = run.stderr.read().decode()
-        run.wait()
+        said = run.stderr.read()
+        status = run.wait()
         clock.cancel()
-    hello = read(f"{FOLDER}/first_session.out").splitlines(True)[0]
-    told = "gate: cannot write the transcript of standard input (status 4; see docs/TRANSCRIPT.md)\n"
-    compare("the second write fails", (4, hello, told), (run.returncode, shown, said))
+    hello = read("first_session.out").splitlines(True)[0]
+    compare("the second write fails", (4, hello, rig.complaint(4, "standard input")), (status, shown, said))
+
+
+def verify_all(oracle):
+    """What the reference finds wrong of each transcript: nothing, but of one in which a dispatch is garbled."""
+    for name in names():
+        compare(f"{name}: what is held", [], oracle.verify_bytes(read(f"{name}.jsonl"), read(f"{name}.out").decode(), rig.STAGE)[:3])
+    garbled = read("first_session.out").decode().replace('"name":"hut","owner_id":"5"', '"name":"hut"')
+    compare("a garbled dispatch is found", True, bool(oracle.verify_bytes(read("first_session.jsonl"), garbled, rig.STAGE)))
 
 
 gate = program()
@@ -91,6 +84,9 @@ if not gate:
     sys.exit(0)
 play_all(gate)
 lose_the_second_write(gate)
+oracle = rig.oracle()
+if oracle:
+    verify_all(oracle)
 print(*failures, sep="\n", end="\n" if failures else "")
-print(f"worked: {len(tried)} compared, {len(failures)} otherwise")
+print(f"worked: {len(tried)} compared, {len(failures)} otherwise" + ("" if oracle else "; the reference was not at hand"))
 sys.exit(bool(failures))
