@@ -1,9 +1,8 @@
 #!/usr/bin/env bash
-# Measures a hub whose one writer publishes entries to four readers, each on a thread of its own: the
-# time and the peak of memory at ever more entries. Neither the time of one entry nor the memory is to
-# grow with their number.
+# Measures `gate serve` with one guild and four workers, each of which follows the guild's log: the time and the peak of memory
+# at ever more entries, with the reading of their lines. Neither the time of one entry nor the memory is to grow with their number.
 set -euo pipefail
 here=$(cd "$(dirname "${BASH_SOURCE[0]}")/.." && pwd)
-[ $# -gt 0 ] || set -- 100000 1000000
-(cd "$here/crates/hub_bench" && rt run -- 10000 >&2)
-python3 "$here/bench/hub.py" "$here/crates/hub_bench/out/hub_bench" "$@"
+[ $# -gt 0 ] || set -- 100000 900000
+"$here/gate" run /dev/null
+python3 "$here/bench/hub.py" "$here/out/gate" "$@"

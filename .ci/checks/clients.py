@@ -1,5 +1,6 @@
 """Serves examples/clients/edits.jsonl to bots that lose their links twice and resume, to `gate client`, and to the bot that
-docs/SERVE.md shows, if the built program knows `serve`."""
+docs/SERVE.md shows, and a guild at two workers to links of which one at each is lost beside another, if the built program knows
+`serve`."""
 import ast
 import collections
 import glob
@@ -8,6 +9,8 @@ import os
 import re
 import shutil
 import signal
+import socket
+import struct
 import subprocess
 import sys
 import threading
@@ -17,6 +20,7 @@ os.chdir(os.path.join(os.path.dirname(os.path.abspath(__file__)), "../.."))
 FOLDER = "examples/clients"
 sys.path.insert(0, FOLDER)
 from feed import parts
+from gateway import Link
 from server import Server, free_port
 
 LIMIT_SECONDS = 60
@@ -155,6 +159,61 @@ def follow(gate):
                 process.kill()
 
 
+# A guild, and what the second bot of worker W is sent of it, at a URL.
+DEN = [b'{"step":"bot","token":"t1","user":"9","name":"bee","privileged":2}\n', b'{"step":"guild","id":"1"}\n',
+       b'{"step":"edit","guild":"1","do":"guild_open","name":"den","owner":"5","owner_name":"ann","perms":"0","at":0}\n',
+       b'{"step":"edit","guild":"1","do":"member_add","user":"9","name":"bee","bot":true,"at":0}\n']
+RENAME = b'{"step":"edit","guild":"1","do":"guild_rename","name":"hut"}\n'
+HELLO = '{"d":{"heartbeat_interval":41250},"op":10,"s":null,"t":null}'
+IDENTIFY = '{"op":2,"d":{"token":"t1","intents":1,"properties":{}}}'
+IDLE = '{"op":3,"d":{"since":null,"activities":[],"status":"idle","afk":false}}'
+SENT = ['{"d":{"application":{"flags":0,"id":"9"},"guilds":[{"id":"1","unavailable":true}],"resume_gateway_url":"URL","session_id":"wWs2",'
+        '"user":{"bot":true,"id":"9","username":"bee"},"v":10},"op":0,"s":1,"t":"READY"}',
+        '{"d":{"channels":[],"id":"1","large":false,"member_count":2,"members":[{"communication_disabled_until":null,"joined_at":'
+        '"1970-01-01T00:00:00.000000+00:00","nick":null,"roles":[],"user":{"bot":true,"id":"9","username":"bee"}}],"name":"den","owner_id":"5",'
+        '"presences":[],"roles":[{"id":"1","name":"@everyone","permissions":"0","position":0}],"threads":[],"voice_states":[]},"op":0,"s":2,'
+        '"t":"GUILD_CREATE"}',
+        '{"d":{"id":"1","name":"hut","owner_id":"5"},"op":0,"s":3,"t":"GUILD_UPDATE"}']
+ENDED = ["guild 1 entries 4 accepted 4 members 2 roles 1 channels 0 active 0 archived 0", "strays 0"]
+
+
+def reset(link):
+    """Lets go of the connection so that what is sent on it fails."""
+    link.socket.setsockopt(socket.SOL_SOCKET, socket.SO_LINGER, struct.pack("ii", 1, 0))
+    link.drop()
+
+
+def lose_one_of_two(gate):
+    """Two workers at once, each with two links: none identifies before all were sent Hello. The first link of each is lost before an
+    edit, and the second one is sent what it is sent alone, text by text; at last one of them asks for a wish, which enters the log."""
+    server = Server(DEN, 2, 2, gate)
+    try:
+        links = [(place, Link(url, LIMIT_SECONDS)) for place, url in enumerate(server.urls) for _ in range(2)]
+        compare("Hello of two workers", [HELLO] * 4, [link.receive(time.monotonic() + LIMIT_SECONDS) for _, link in links])
+        first, second = links[::2], links[1::2]
+        for _, link in first:
+            link.send(IDENTIFY)
+            while '"t":"GUILD_CREATE"' not in link.receive(time.monotonic() + LIMIT_SECONDS):
+                pass
+        for _, link in second:
+            link.send(IDENTIFY)
+        shown = [[link.receive(time.monotonic() + LIMIT_SECONDS) for _ in range(2)] for _, link in second]
+        for _, link in first:
+            reset(link)
+        server.write([RENAME])
+        for place, link in second:
+            shown[place].append(link.receive(time.monotonic() + LIMIT_SECONDS))
+            wanted = [text.replace("URL", server.urls[place]).replace("wWs", f"w{place}s") for text in SENT]
+            compare(f"a link beside one that is lost, at worker {place}", wanted, shown[place])
+        second[0][1].send(IDLE)
+        for _, link in second:
+            link.end()
+        compare("serve beside links that are lost", (0, ENDED), server.end())
+    finally:
+        if server.process.poll() is None:
+            server.process.kill()
+
+
 def run_page(gate):
     """The test process that docs/SERVE.md shows."""
     with open("docs/SERVE.md") as file:
@@ -183,6 +242,7 @@ def main():
     try:
         serve(gate, found)
         follow(gate)
+        lose_one_of_two(gate)
         run_page(gate)
     except (OSError, subprocess.TimeoutExpired) as fault:
         failures.append(f"clients: {fault}")

@@ -275,7 +275,7 @@ def add_objects(kind, value, found):
 
 def compare_payloads():
     found = collections.defaultdict(list)
-    for text in re.findall(r"^send \d+ (.*)$", text_of("examples/*.out", "crates/worked_examples/data/*.out"), re.M):
+    for text in re.findall(r"^send \d+ (.*)$", text_of("examples/*.out", "examples/worked/*.out"), re.M):
         sent = json.loads(text)
         if sent["op"] == 0:
             add_objects(OBJECT_OF.get(sent["t"], sent["t"]), sent["d"], found)

@@ -306,6 +306,22 @@ def try_threads(gate, folder):
         compare(what, (8, "", said(8, what, page)), (run.returncode, run.stdout.decode(), run.stderr.decode()))
 
 
+def try_each_start(gate, folder):
+    """A server of two actors, a script and a worker, of whose four threads each in turn does not start; a library makes it so."""
+    if not shutil.which("gcc"):
+        print("mistakes: each thread of serve: not tried: there is no gcc")
+        return
+    library = os.path.join(folder, "refused.so")
+    subprocess.run(["gcc", "-O2", "-shared", "-fPIC", "-o", library, "bench/refused/refused.c", "-ldl"], check=True)
+    with socket.create_server(("127.0.0.1", 0)) as door:
+        port = str(door.getsockname()[1])
+    told = said(8, f"a thread of serve {port} did not start", "docs/SERVE.md")
+    for start in range(1, 5):
+        env = dict(os.environ, LD_PRELOAD=library, REFUSED_START=str(start))
+        run = subprocess.run([gate, "serve", port, "1", "1", "examples/clients/edits.jsonl"], capture_output=True, timeout=60, env=env)
+        compare(f"start {start} of serve fails", (8, "", told), (run.returncode, run.stdout.decode(), run.stderr.decode()))
+
+
 def answer_once(door, frame):
     """Answers the handshake of one WebSocket client, and sends it this frame."""
     peer, _ = door.accept()
@@ -355,6 +371,7 @@ with tempfile.TemporaryDirectory() as folder:
     try_little_memory(gate, folder)
     try_serve(gate, folder)
     try_threads(gate, folder)
+    try_each_start(gate, folder)
 try_words(gate)
 try_outside(gate)
 try_load(gate)

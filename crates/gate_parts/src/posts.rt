@@ -85,11 +85,3 @@ impl<R: Drop> Posts<R> {
         &self.office.shown
     }
 }
-
-// One call drops a share, so that no crate above proves the drop of what it holds again.
-impl<R: Drop> Drop for Posts<R> {
-    fn drop(self) {
-        let Posts { office } = self;
-        drop(office);
-    }
-}

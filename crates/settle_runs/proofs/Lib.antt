@@ -1,2 +1,0 @@
-pub mod OpenPasses
-pub mod SealedHubs
