@@ -31,7 +31,7 @@ returns-clause-follows g c =
     let drives =
     subst (λ (t : WatchTale). Drives f.url First vs (outside (client_of f) d0 (seen t0 t)) (outside client d1 (seen t1 told)) ended) start
     (subst (λ (s : ClientState Cached). Drives f.url First vs (outside s d0 (seen t0 begun)) (outside client d1 (seen t1 told)) ended) c.new-client.ensures
-    (subst (λ (url : List ℕ). Drives url First vs (outside c.new-client.result d0 (seen t0 begun)) (outside client d1 (seen t1 told)) ended) (let e1 = c.as_str.ensures in let e2 = c.url.view_is in cc) did.1.0)) in
+    (subst (λ (url : List ℕ). Drives url First vs (outside c.new-client.result d0 (seen t0 begun)) (outside client d1 (seen t1 told)) ended) c.as_str.ensures did.1.0)) in
     let folds = subst (λ (s : ClientState Cached). Folds s vs client) c.new-client.ensures did.1.1.0 in
     let ends = subst (λ (kept : Cached). (said : List ℕ) × Says kept ended said × Ends ended said mid sink2 c.end.result) c.cache.ensures c.end.ensures in
     (vs, follows f vs (around d0 t0 sink0) (around d1 t1 sink2) client watch.asked watch.count watch.failed watch.waiting.items mid ended c.end.result drives folds c.drive-ended.ensures.tells ends)
