@@ -111,14 +111,36 @@ class Bot:
         compare(f"{self.name}: dispatches were replayed", True, replayed.split(" ")[0] not in ("", "0"))
 
 
+def wait_for_opening(url, token):
+    """Waits until the worker at a URL has looked at the edits that come before the bots: a session of its own is told of guild 1's
+    channel, which is the last of them there, and of the last of the four members of guild 2."""
+    deadline = time.monotonic() + LIMIT_SECONDS
+    link, channels, members = Link(url, LIMIT_SECONDS), 0, 0
+    link.receive(deadline)
+    link.send(json.dumps({"op": 2, "d": {"token": token, "intents": int(INTENTS), "properties": {}}}))
+    while channels == 0 or members < 4:
+        payload = json.loads(link.receive(deadline))
+        name, body = payload["t"], payload["d"]
+        if name == "GUILD_CREATE" and body["id"] == "1":
+            channels += len(body["channels"])
+        elif name == "GUILD_CREATE":
+            members += body["member_count"]
+        elif name == "CHANNEL_CREATE":
+            channels += 1
+        elif name == "GUILD_MEMBER_ADD" and body["guild_id"] == "2":
+            members += 1
+    link.end()
+
+
 def serve(gate, found):
     opening, later = parts(f"{FOLDER}/edits.jsonl")
     guilds = sum(json.loads(line)["step"] == "guild" for line in opening)
     notes = " ".join(json.loads(line)["note"] for line in later).replace("nothing", "").split()
     sent = collections.Counter(["READY", *["GUILD_CREATE"] * guilds, *["RESUMED"] * (CONNECTIONS - 1), *notes])
-    server, at_work = Server(opening, len(found), CONNECTIONS, gate), []
+    server, at_work = Server(opening, len(found), 1 + CONNECTIONS, gate), []
     try:
         for place, (name, words) in enumerate(found.items()):
+            wait_for_opening(server.urls[place], f"t{place + 1}")
             at_work.append(Bot(name, words, server.urls[place], f"t{place + 1}"))
         for bot in at_work:
             bot.greeted(guilds)
@@ -142,7 +164,8 @@ def follow(gate):
     with open("docs/CLIENT.md") as file:
         page = re.findall(r"^    (\d+ [A-Z_]+|guild \d.*)$", file.read(), re.M)
     opening, later = parts(f"{FOLDER}/edits.jsonl")
-    server = Server(opening, 1, 2, gate)
+    server = Server(opening, 1, 3, gate)
+    wait_for_opening(server.urls[0], "t1")
     words = [gate, "client", server.urls[0]]
     run = subprocess.run([*words, "t0", INTENTS, "1"], stdout=subprocess.PIPE, stderr=subprocess.DEVNULL, timeout=LIMIT_SECONDS)
     compare("client with a token that no bot has", (10, "closed 4004\n"), (run.returncode, run.stdout.decode()))
