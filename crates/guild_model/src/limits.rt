@@ -4,7 +4,7 @@
 pub const ROLES: u32 = 250;
 
 /// Members of a guild.
-pub const MEMBERS: u32 = 1000;
+pub const MEMBERS: u32 = 5000;
 
 /// Channels of a guild, without threads.
 pub const CHANNELS: u32 = 500;

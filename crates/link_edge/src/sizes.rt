@@ -7,10 +7,10 @@ use tungstenite::WebSocketConfig;
 pub const MOST_FRAME_BYTES: usize = 4096;
 
 /// The longest message that a client takes of a server, in bytes.
-pub const MOST_TEXT_BYTES: usize = 16777216;
+pub const MOST_TEXT_BYTES: usize = 67108864;
 
 /// How many bytes may wait for a peer that does not read.
-pub const MOST_WAITING_BYTES: usize = 16777216;
+pub const MOST_WAITING_BYTES: usize = 67108864;
 
 /// How long a handshake may take, in milliseconds.
 pub const HANDSHAKE_MS: u64 = 5000;
@@ -45,8 +45,8 @@ pub(crate) fn server_config() -> WebSocketConfig
 
 /// The configuration of a client's socket.
 pub(crate) fn client_config() -> WebSocketConfig
-    ensures message { result.max_message_size ≡ Some 16777216 }
-    ensures frame { result.max_frame_size ≡ Some 16777216 }
+    ensures message { result.max_message_size ≡ Some 67108864 }
+    ensures frame { result.max_frame_size ≡ Some 67108864 }
 {
     config_for(MOST_TEXT_BYTES, CLIENT_READ_BYTES)
 }

@@ -6,9 +6,6 @@ use Rattle.std.proofs.lemmas.List.{append-nil, map-append, length-drop, take_min
 use Rattle.std.proofs.lemmas.List.Elements.{filter_map-append}
 
 module _ {X Y : Type 0} (f : X → Y) (xs : List X) where
-  pub take_mapped : (n : ℕ) → map f (take n xs) ≡ take n (map f xs)
-  take_mapped n = sym (take-map f n xs)
-
   -- at most 1,000 from a place on
   pub piece : (n start end : ℕ) → start ≡ min n (length xs) → end ≡ min (start + 1000) (length xs)
       → map f (take (end - start) (drop start xs)) ≡ take 1000 (drop n (map f xs))

@@ -1,6 +1,6 @@
 //! The members that are asked for, and the user ids that are no members'.
 
-ghost use Rattle.std.specs.Prelude.{◌≡◌, IfOk, map, filter, filter_map, not, unwrap_or};
+ghost use Rattle.std.specs.Prelude.{◌≡◌, IfOk, map, filter, filter_map, take, not, unwrap_or};
 ghost use Rattle.collections.specs.ById.{find_id, has_id};
 ghost use Rattle.guild_model.specs.Record.{member_id};
 ghost use Rattle.member_chunks.specs.Answered.{most, at_most, is_named, each_once, found, not_found};
@@ -42,17 +42,21 @@ fn named<'a>(
         .collect(alloc)
 }
 
-// The first of these members, at most so many.
-#[tactic(auto, using(crate::proofs::Steps::take_mapped))]
-fn first<'a>(list: Vec<&'a Member>, most: Option<usize>) -> Vec<&'a Member>
-    ensures { map (λ member. member.now) result.items
-        ≡ at_most most (map (λ member. member.now) list.entry.items) }
+// The first members with such a name, at most so many. It looks at no member behind the last of them.
+fn first_named<'a>(
+    alloc: Global,
+    members: &'a [Member],
+    query: &Text,
+    most: usize,
+) -> Result<Vec<&'a Member>, AllocError>
+    ensures { IfOk result (λ list. map (λ member. member.now) list.items
+        ≡ take most (filter (is_named query.now) members.now)) }
 {
-    let mut list = list;
-    if let Some(most) = most {
-        list.truncate(most);
-    }
-    list
+    members
+        .iter()
+        .filter(|member| is_named(member, query))
+        .take(most)
+        .collect(alloc)
 }
 
 // The members that a query finds.
@@ -65,8 +69,11 @@ fn queried<'a>(
     ensures { IfOk result (λ list. map (λ member. member.now) list.items
         ≡ at_most (most query.now limit) (filter (is_named query.now) guild.now.members)) }
 {
-    let list = named(alloc, guild.members.as_slice(), query)?;
-    Ok(first(list, most(query, limit)))
+    let members = guild.members.as_slice();
+    match most(query, limit) {
+        Some(most) => first_named(alloc, members, query, most),
+        None => named(alloc, members, query),
+    }
 }
 
 fn each_once(alloc: Global, ids: &Seq<Snowflake>) -> Result<ById<Snowflake>, AllocError>

@@ -15,7 +15,7 @@ use Rattle.role_member_edit.specs.declared.member_timeout.MemberTimeout.{MemberT
 abbrev pub member_add_verdict : Record → MemberAdd → Option Verdict
 member_add_verdict g edit = first_of (
     refused_if (has_id member_id edit.user g.members) IdTaken
-    ∷ too_many 1000 (length g.members)
+    ∷ too_many 5000 (length g.members)
     ∷ too_long 100 edit.name
     ∷ [])
 
