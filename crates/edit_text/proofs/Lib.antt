@@ -1,3 +1,4 @@
+pub mod AllowedReads
 pub mod EditsBack
 pub mod IntentBits
 pub mod LinesBack

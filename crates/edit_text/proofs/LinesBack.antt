@@ -1,6 +1,6 @@
 -- What a line is written as reads back as that line.
-use Rattle.std.proofs.Common.{◌≡◌, ℕ, ◌<◌, ◌≤◌, ◌^◌, List, length, Bool, true, false, not, ◌&&◌, ◌||◌, Some, Result, Ok, Err, IfOk, String, Global, string_bytes, codes, refl, sym, ap, ◌∙◌, arith}
-use Rattle.std.specs.Prelude.{nat_lt}
+use Rattle.std.proofs.Common.{◌≡◌, ℕ, ◌<◌, ◌≤◌, ◌^◌, List, length, Bool, true, false, not, ◌&&◌, ◌||◌, Some, Result, Ok, Err, IfOk, String, Global, string_bytes, codes, refl, sym, ap, ◌∙◌, arith, eqb-true}
+use Rattle.std.specs.Prelude.{nat_lt, ◌==◌}
 use Rattle.std.specs.declared.alloc.AllocError.{AllocError}
 use Rattle.std.proofs.lemmas.Str.{IsUtf8-string_bytes}
 use Rattle.std.proofs.lemmas.Bool.Decides.{nat_tests}
@@ -14,6 +14,7 @@ use Rattle.snowflake_id.proofs.Texts.{id_of_decimal}
 use Rattle.edit_apply.specs.declared.Edit.{Edit}
 use Rattle.edit_text.specs.declared.line.Line.{Line}
 use Rattle.edit_text.specs.declared.line.Line.TheVariants.{Bot, Guild, Edit as EditLine, Look, Open, Frame, Lost, Closed, Tick}
+use Rattle.edit_text.specs.declared.ring_size.RingSize.{RingSize}
 use Rattle.edit_text.specs.declared.step_name.StepName.{StepName}
 use Rattle.edit_text.specs.declared.step_name.StepName.TheVariants as step
 use Rattle.edit_text.specs.declared.reader_state.ReaderState.{ReaderState}
@@ -21,6 +22,9 @@ use Rattle.edit_fields.specs.Fields.{text_at}
 use Rattle.edit_text.specs.StepNames.{step_named, step_text}
 use Rattle.edit_fields.proofs.NamesBack.{named_back}
 use Rattle.edit_fields.specs.Edits.{edit_name}
+use Rattle.edit_fields.specs.Fits.{IdFits}
+use Rattle.edit_text.specs.Intents.{are_intents}
+use Rattle.edit_text.specs.RingSizes.{is_between, is_size}
 use Rattle.edit_text.specs.Fits.{LineFits}
 use Rattle.edit_text.specs.Lines.{is_allowed, is_blank, fields_from, line_from, line_of}
 use Rattle.edit_text.specs.Written.{step_name, line_data, line_within, allows}
@@ -69,9 +73,50 @@ below n limit h = grind (arith, nat_tests, h)
 abbrev LineBack : List ℕ → Line → Type 0
 LineBack gs line = (text_at (codes "step") (line_data line) ≡ Ok (step_text (step_name line))) × (fields_from gs (step_name line) (line_data line) ≡ Ok line)
 
+-- a bot line within its limits, in one version or the other
+record BotFits (token : List ℕ) (user privileged : ℕ) : Type 0 where
+  is_short : nat_lt 100 (length token) ≡ false
+  is_id : IdFits user
+  is_set : are_intents privileged ≡ true
+
+first_version_back : (gs token : List ℕ) (user : ℕ) (name : List ℕ) (privileged : ℕ) → BotFits token user privileged
+    → LineBack gs (Bot token user name privileged 1 1024 4194304)
+unfolding serde_json_on_literals
+first_version_back gs token user name privileged f = (refl, rw (f.is_short, id_of_decimal user f.is_id, f.is_set) refl)
+
+second_version_back : (gs token : List ℕ) (user : ℕ) (name : List ℕ) (privileged items bytes : ℕ) → BotFits token user privileged
+    → is_between 1 16384 items ≡ true → is_between 1024 16777216 bytes ≡ true
+    → LineBack gs (Bot token user name privileged 2 items bytes)
+unfolding serde_json_on_literals
+second_version_back gs token user name privileged items bytes f i b =
+    (refl, rw (f.is_short, id_of_decimal user f.is_id, f.is_set, i, b) refl)
+
+bot_back : (gs token : List ℕ) (user : ℕ) (name : List ℕ) (privileged v items bytes : ℕ) → BotFits token user privileged
+    → is_size (record { v = v; ring_items = items; ring_bytes = bytes }) ≡ true
+    → LineBack gs (Bot token user name privileged v items bytes)
+bot_back gs token user name privileged v items bytes f s = by_version (v == 1) refl
+  where
+    by_version : (b : Bool) → (v == 1) ≡ b → LineBack gs (Bot token user name privileged v items bytes)
+    by_version true is =
+        let both : (items == 1024 && bytes == 4194304) ≡ true = rw is at s in
+        rw (
+          eqb-true v 1 is,
+          eqb-true items 1024 (first_true (items == 1024) (bytes == 4194304) both),
+          eqb-true bytes 4194304 (second_true (items == 1024) (bytes == 4194304) both),
+        ) (first_version_back gs token user name privileged f)
+    by_version false is =
+        let both : (v == 2 && (is_between 1 16384 items && is_between 1024 16777216 bytes)) ≡ true = rw is at s in
+        let fit : (is_between 1 16384 items && is_between 1024 16777216 bytes) ≡ true = second_true (v == 2) (is_between 1 16384 items && is_between 1024 16777216 bytes) both in
+        rw (eqb-true v 2 (first_true (v == 2) (is_between 1 16384 items && is_between 1024 16777216 bytes) both))
+        (second_version_back gs token user name privileged items bytes f
+        (first_true (is_between 1 16384 items) (is_between 1024 16777216 bytes) fit) (second_true (is_between 1 16384 items) (is_between 1024 16777216 bytes) fit))
+
 line_back : (gs : List ℕ) (line : Line) → line_within gs line ≡ true → LineFits line → LineBack gs line
 unfolding serde_json_on_literals
-line_back gs (Bot token user name privileged) w f = (refl, rw (not_true _ w, id_of_decimal user f.0, f.1) refl)
+line_back gs (Bot token user name privileged v items bytes) w f =
+    bot_back gs token user name privileged v items bytes
+    (record { is_short = not_true (nat_lt 100 (length token)) (first_true (not (nat_lt 100 (length token))) (is_size (record { v = v; ring_items = items; ring_bytes = bytes })) w); is_id = f.0; is_set = f.1 })
+    (second_true (not (nat_lt 100 (length token))) (is_size (record { v = v; ring_items = items; ring_bytes = bytes })) w)
 line_back gs (Guild id) w f = (refl, rw (id_of_decimal id f, w) refl)
 line_back gs (EditLine guild e) w f =
     let back : Back guild e = edit_back guild e f.0 f.1 w in
@@ -84,9 +129,15 @@ line_back gs (Closed conn code) w f = (refl, rw (below conn (2 ^ 32) f.0, below 
 line_back gs (Tick worker now) w f =
     (refl, rw (first_true (nat_lt worker 4) (nat_lt now (2 ^ 53)) w, second_true (nat_lt worker 4) (nat_lt now (2 ^ 53)) w) refl)
 
+bot_plain : (token : List ℕ) (user : ℕ) (name : List ℕ) (privileged v items bytes : ℕ) (b : Bool) → (v == 1) ≡ b
+    → Plain (line_data (Bot token user name privileged v items bytes))
+unfolding serde_json_on_literals
+bot_plain token user name privileged v items bytes true is = rw is (omega arith, refl)
+bot_plain token user name privileged v items bytes false is = rw is (omega arith, refl)
+
 line_plain : (line : Line) → Plain (line_data line)
 unfolding serde_json_on_literals
-line_plain (Bot token user name privileged) = (omega arith, refl)
+line_plain (Bot token user name privileged v items bytes) = bot_plain token user name privileged v items bytes (v == 1) refl
 line_plain (Guild id) = (omega arith, refl)
 line_plain (EditLine guild e) = edit_plain guild e
 line_plain (Look worker guild) = (omega arith, refl)

@@ -9,7 +9,7 @@ abbrev pub ConnectionFits : ℕ → Type 0
 ConnectionFits conn = conn < 2 ^ 32
 
 abbrev pub LineFits : Line → Type 0
-LineFits (Bot token user name privileged) = IdFits user × (are_intents privileged ≡ true)
+LineFits (Bot token user name privileged v items bytes) = IdFits user × (are_intents privileged ≡ true)
 LineFits (Guild id) = IdFits id
 LineFits (EditLine guild edit) = IdFits guild × EditFits edit
 LineFits (Look worker guild) = IdFits guild

@@ -1,5 +1,7 @@
 pub mod StepNames
 pub mod Intents
+pub mod RingSizes
 pub mod Fits
 pub mod Lines
 pub mod Written
+pub mod Lifted

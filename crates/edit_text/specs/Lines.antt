@@ -17,6 +17,7 @@ use Rattle.edit_text.specs.declared.step_name.StepName.TheVariants as step
 use Rattle.edit_text.specs.declared.reader_state.ReaderState.{ReaderState}
 use Rattle.edit_fields.specs.Fields.{text_at, id_at, number_below}
 use Rattle.edit_text.specs.Intents.{intents_at}
+use Rattle.edit_text.specs.RingSizes.{ring_size_from}
 use Rattle.edit_fields.specs.Names.{edit_named}
 use Rattle.edit_text.specs.StepNames.{step_named, is_head}
 use Rattle.edit_fields.specs.Edits.{edit_from}
@@ -33,7 +34,8 @@ bot_from d =
     and_then (id_at (codes "user") d) (λ user.
     and_then (text_at (codes "name") d) (λ name.
     and_then (intents_at (codes "privileged") d) (λ privileged.
-    Ok (Bot token user name privileged)))))
+    and_then (ring_size_from d) (λ size.
+    Ok (Bot token user name privileged size.v size.ring_items size.ring_bytes))))))
 
 abbrev pub has_id : ℕ → List ℕ → Bool
 has_id id ids = list_any (λ n. n == id) ids
@@ -173,7 +175,7 @@ abbrev pub with_guild : ℕ → List ℕ → List ℕ
 with_guild id guilds = if has_id id guilds then guilds else guilds ++ id ∷ []
 
 abbrev pub noted : Line → ReaderState → ReaderState
-noted (Bot token user name privileged) r = r
+noted (Bot token user name privileged v items bytes) r = r
 noted (Guild id) r = record r { guilds = with_guild id r.guilds }
 noted (Edit guild edit) r = record r { stepped = true }
 noted (Look worker guild) r = record r { stepped = true }

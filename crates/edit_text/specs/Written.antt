@@ -10,11 +10,12 @@ use Rattle.edit_fields.specs.Within.{edit_within}
 use Rattle.edit_fields.specs.Members.{count, id_data, put_all}
 use Rattle.edit_fields.specs.Names.{name_text}
 use Rattle.edit_text.specs.StepNames.{step_text}
+use Rattle.edit_text.specs.RingSizes.{ring_size_fields, is_size}
 use Rattle.edit_fields.specs.Edits.{edit_name, edit_fields}
 use Rattle.edit_text.specs.Lines.{has_room, is_allowed}
 
 abbrev pub step_name : Line → StepName
-step_name (Bot token user name privileged) = step.Bot
+step_name (Bot token user name privileged v items bytes) = step.Bot
 step_name (Guild id) = step.Guild
 step_name (EditLine guild edit) = step.Edit
 step_name (Look worker guild) = step.Look
@@ -26,9 +27,10 @@ step_name (Tick worker now) = step.Tick
 
 -- the fields after `step`, in the order in which they are read
 abbrev pub line_fields : Line → List (List ℕ × Data)
-line_fields (Bot token user name privileged) =
+line_fields (Bot token user name privileged v items bytes) =
     (codes "token", string token) ∷ (codes "user", id_data user) ∷ (codes "name", string name)
-    ∷ (codes "privileged", count privileged) ∷ []
+    ∷ (codes "privileged", count privileged)
+    ∷ ring_size_fields (record { v = v; ring_items = items; ring_bytes = bytes })
 line_fields (Guild id) = (codes "id", id_data id) ∷ []
 line_fields (EditLine guild edit) =
     (codes "guild", id_data guild) ∷ (codes "do", string (name_text (edit_name edit)))
@@ -49,7 +51,9 @@ line_data line =
 
 -- within the limits of its fields, after these guilds
 abbrev pub line_within : List ℕ → Line → Bool
-line_within guilds (Bot token user name privileged) = not (nat_lt 100 (length token))
+line_within guilds (Bot token user name privileged v items bytes) =
+    not (nat_lt 100 (length token))
+    && is_size (record { v = v; ring_items = items; ring_bytes = bytes })
 line_within guilds (Guild id) = has_room guilds id
 line_within guilds (EditLine guild edit) = edit_within edit
 line_within guilds (Look worker guild) = nat_lt worker 4

@@ -17,12 +17,20 @@ pub enum FileKind {
 /// What a line of a step file says.
 #[derive(Drop)]
 pub enum Line {
-    /// Declares a bot and the privileged intents that it may ask for.
+    /// Declares a bot, the privileged intents that it may ask for, and how much the server keeps of what
+    /// a session of it was sent: the last dispatches, at most so many and of at most so many bytes of
+    /// text, which a Resume sends again. `v` is the version of the line, 1 or 2. Version 1 always means
+    /// [`crate::RING_ITEMS`] and [`crate::RING_BYTES`]. A bot in version 2 has 1 to
+    /// [`crate::MAX_RING_ITEMS`] dispatches, and [`crate::MIN_RING_BYTES`] to
+    /// [`crate::MAX_RING_BYTES`] bytes.
     Bot {
         token: Text,
         user: Snowflake,
         name: Text,
         privileged: Intents,
+        v: u8,
+        ring_items: u32,
+        ring_bytes: u32,
     },
     /// Declares a guild, with an empty log.
     Guild {

@@ -7,6 +7,7 @@ ghost use Rattle.edit_fields.specs.Fields.{number_below};
 ghost use Rattle.edit_text.specs.Lines.{bot_from, has_id, has_room, guild_from, worker_at, connection_at, edit_line_from, look_from, open_from, frame_from, lost_from, closed_from, tick_from, fields_from};
 
 use crate::intents::intents_at;
+use crate::ring_size::ring_size_from;
 use crate::step_name::StepName;
 use crate::{Line, LineFault};
 use collections::Text;
@@ -32,6 +33,7 @@ fn bot_from(alloc: Global, object: &Node<'_>) -> Result<Line, LineFault>
     let user = id_at(object, "user")?;
     let name = text_at(object, "name")?;
     let privileged = intents_at(object, "privileged")?;
+    let size = ring_size_from(object)?;
     let token = Text::new(alloc, token)?;
     let name = Text::new(alloc, name)?;
     Ok(Line::Bot {
@@ -39,6 +41,9 @@ fn bot_from(alloc: Global, object: &Node<'_>) -> Result<Line, LineFault>
         user,
         name,
         privileged,
+        v: size.v,
+        ring_items: size.ring_items,
+        ring_bytes: size.ring_bytes,
     })
 }
 

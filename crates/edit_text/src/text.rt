@@ -12,6 +12,7 @@ ghost use Rattle.edit_text.specs.Written.{step_name, line_fields, line_data, all
 
 use crate::Line;
 use crate::intents::put_intents;
+use crate::ring_size::{RingSize, put_ring_size};
 use crate::step_name::StepName;
 use collections::Text;
 use edit_apply::Edit;
@@ -152,12 +153,20 @@ impl Line {
                 user,
                 name,
                 privileged,
+                v,
+                ring_items,
+                ring_bytes,
             } => {
                 put_text(alloc, members, "token", token)?;
                 put_id(alloc, members, "user", *user)?;
                 put_text(alloc, members, "name", name)?;
                 put_intents(alloc, members, "privileged", *privileged)?;
-                Ok(())
+                let size = RingSize {
+                    v: *v,
+                    ring_items: *ring_items,
+                    ring_bytes: *ring_bytes,
+                };
+                put_ring_size(alloc, members, size)
             }
             Line::Guild { id } => put_id(alloc, members, "id", *id),
             Line::Edit { guild, edit } => put_edit(alloc, members, *guild, edit),
@@ -181,7 +190,8 @@ impl Line {
     }
 
     /// The text of the line, without spaces and with its keys in byte order. Ids and permissions
-    /// are written as texts, and a field without a value as null. A reader that allows the line
+    /// are written as texts, and a field without a value as null. A bot line of version 1 has neither
+    /// its version nor what it means. A reader that allows the line
     /// reads it back if the text has at most 65,536 bytes.
     pub fn text(&self, alloc: Global) -> Result<String, AllocError>
         ensures text { IfOk result (λ text. string_bytes text ≡ compact_text (line_data self.now)) }

@@ -48,7 +48,7 @@ one_head_more (x ∷ xs) line are is =
     ap₂ (λ a b. a && b) both.0 (one_head_more xs line both.1 is)
 
 no_edit : (line : Line) → is_head_line line ≡ true → edit_in line ≡ []
-no_edit (Bot token user name privileged) is = refl
+no_edit (Bot token user name privileged v items bytes) is = refl
 no_edit (Guild id) is = refl
 no_edit (Edit guild edit) is = absurd (cc)
 no_edit (Look worker guild) is = refl

@@ -6,7 +6,7 @@ use Rattle.edit_text.specs.declared.line.Line.TheVariants.{Bot, Guild, Edit, Loo
 use Rattle.session_core.specs.declared.bot.Bot.{Bot as ABot}
 
 abbrev pub is_head_line : Line → Bool
-is_head_line (Bot token user name privileged) = true
+is_head_line (Bot token user name privileged v items bytes) = true
 is_head_line (Guild id) = true
 is_head_line (Edit guild edit) = false
 is_head_line (Look worker guild) = false
@@ -26,7 +26,8 @@ AreHeads lines = list_all is_head_line lines ≡ true
 
 -- the bot and the guild of a line
 abbrev pub bot_in : Line → List ABot
-bot_in (Bot token user name privileged) = record { token = token; user = user; name = name; privileged = privileged } ∷ []
+bot_in (Bot token user name privileged v items bytes) =
+    record { token = token; user = user; name = name; privileged = privileged; ring_items = items; ring_bytes = bytes } ∷ []
 bot_in _ = []
 
 abbrev pub guild_in : Line → List ℕ

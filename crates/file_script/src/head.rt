@@ -50,12 +50,17 @@ impl Declared {
                 user,
                 name,
                 privileged,
+                v: _,
+                ring_items,
+                ring_bytes,
             } => {
                 self.bots.push(Bot {
                     token,
                     user,
                     name,
                     privileged,
+                    ring_items,
+                    ring_bytes,
                 })?;
                 Ok(None)
             }

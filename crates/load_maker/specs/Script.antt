@@ -12,7 +12,7 @@ guild_line number = Guild (guild_id number)
 
 -- bot 1 to 3, which may ask for every privileged intent
 abbrev pub bot_line : ℕ → Line
-bot_line bot = Bot (bot_name bot) bot (bot_name bot) 33026
+bot_line bot = Bot (bot_name bot) bot (bot_name bot) 33026 1 1024 4194304
 
 unfoldable pub head : List Line
 head = map guild_line (range_with_len 1 8) ++ map bot_line (range_with_len 1 3)

@@ -5,7 +5,7 @@ ghost use Rattle.std.specs.List.{range_with_len};
 ghost use Rattle.load_maker.specs.Script.{guild_line, bot_line, head};
 
 use crate::ids::{bot_name, guild_id, id_in, user_id};
-use edit_text::Line;
+use edit_text::{Line, RING_BYTES, RING_ITEMS};
 use intent_set::Intents;
 use std::alloc::{AllocError, Global};
 
@@ -30,6 +30,9 @@ fn bot_line(alloc: Global, bot: u32) -> Result<Line, AllocError>
         user: user_id(bot),
         name,
         privileged: privileged(),
+        v: 1,
+        ring_items: RING_ITEMS,
+        ring_bytes: RING_BYTES,
     })
 }
 

@@ -5,6 +5,7 @@ ghost use Rattle.load_maker.specs.Edits.{bot_name};
 ghost use Rattle.load_stage.specs.Bots.{load_bot, load_bots, worker_url};
 
 use collections::Text;
+use edit_text::{RING_BYTES, RING_ITEMS};
 use intent_set::Intents;
 use session_core::Bot;
 use snowflake_id::Snowflake;
@@ -51,6 +52,8 @@ fn bot(alloc: Global, number: u8) -> Result<Bot, AllocError>
         user: Snowflake(u64::from(number)),
         name,
         privileged: privileged(),
+        ring_items: RING_ITEMS,
+        ring_bytes: RING_BYTES,
     })
 }
 

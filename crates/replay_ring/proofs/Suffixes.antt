@@ -24,10 +24,12 @@ unfolding is_within
 is_within-more i b xs ys past =
     grind (arith, nat_tests, past, length-append xs ys, sum_by-append length xs ys)
 
-is_within-long : (i b : ℕ) (t : List ℕ) (xs : List (List ℕ)) → b < length t → is_within i b (xs ++ t ∷ []) ≡ false
+is_within-long : (i b : ℕ) (t : List ℕ) (xs : List (List ℕ)) → (b < length t) ⊎ (i ≡ 0) → is_within i b (xs ++ t ∷ []) ≡ false
 unfolding is_within
-is_within-long i b t xs long =
+is_within-long i b t xs (inl long) =
     grind (arith, nat_tests, sum_by-append length xs (t ∷ []), sum_by-cons length t [])
+is_within-long i b t xs (inr none) =
+    grind (arith, nat_tests, none, length-append xs (t ∷ []))
 
 append_either : (c : Bool) (xs ys zs : List (List ℕ)) → (if c then xs ++ zs else (ys ++ zs)) ≡ (if c then xs else ys) ++ zs
 append_either true xs ys zs = refl
@@ -42,8 +44,8 @@ longest_suffix-push i b t (x ∷ xs) room fits =
     rw (is_within-push i b t (x ∷ xs) room fits, longest_suffix-push i b t xs room fits)
     (append_either (is_within (i - 1) (b - length t) (x ∷ xs)) (x ∷ xs) (longest_suffix (i - 1) (b - length t) xs) (t ∷ []))
 
--- a text that is too long by itself leaves nothing
-pub longest_suffix-long : (i b : ℕ) (t : List ℕ) (xs : List (List ℕ)) → b < length t → longest_suffix i b (xs ++ t ∷ []) ≡ []
+-- a text that is too long by itself leaves nothing, nor does any where none may be held
+pub longest_suffix-long : (i b : ℕ) (t : List ℕ) (xs : List (List ℕ)) → (b < length t) ⊎ (i ≡ 0) → longest_suffix i b (xs ++ t ∷ []) ≡ []
 unfolding longest_suffix
 longest_suffix-long i b t [] long = rw (is_within-long i b t [] long) refl
 longest_suffix-long i b t (x ∷ xs) long = rw (is_within-long i b t (x ∷ xs) long) (longest_suffix-long i b t xs long)

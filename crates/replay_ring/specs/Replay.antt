@@ -23,7 +23,6 @@ replay_code =
 pub record IsCounted (texts : Buffer (List ℕ)) (bytes limit last : ℕ) : Type 0 where
   pub counted : bytes ≡ sum_by length texts.items
   pub within : bytes ≤ limit
-  pub room : 0 < texts.capacity
   pub numbered : length texts.items ≤ last
 
 -- at most so many texts of at most so many bytes in all

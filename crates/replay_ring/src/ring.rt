@@ -48,7 +48,6 @@ impl Ring {
     /// An empty buffer that holds at most so many texts, of at most so many bytes in all. It takes
     /// its room for texts here.
     pub fn new(alloc: Global, items: usize, bytes: usize) -> Result<Ring, AllocError>
-        requires { 0 < items }
         ensures { IfOk result (λ ring. ring ≡ fresh items bytes) }
     {
         Ok(Ring {
@@ -60,14 +59,14 @@ impl Ring {
     }
 
     /// Gives the text the next number, and drops from the front what is past a limit. A text of
-    /// more bytes than the limit leaves nothing. It does not allocate, and its time goes into this
+    /// more bytes than the limit leaves nothing, nor does a limit of no texts. It does not allocate, and its time goes into this
     /// text and those that it drops alone.
     pub fn push(&mut self, text: Payload)
         requires { self.old.last < 2 ^ 64 - 1 }
         ensures { self.new ≡ pushed self.old text }
     {
         self.last += 1;
-        if self.limit < text.len() {
+        if self.limit < text.len() || self.texts.capacity() == 0 {
             self.texts.clear();
             self.bytes = 0;
             return;

@@ -171,7 +171,7 @@ unfolding line_of
 tests r line o e = within (nat_lt 65536 (length line)) (nat_lt r.lines 1000000) _ o e
 
 noted_lines : (line : Line) (r : ReaderState) → (noted line r).lines ≡ r.lines
-noted_lines (Bot token user name privileged) r = refl
+noted_lines (Bot token user name privileged v items bytes) r = refl
 noted_lines (Guild id) r = refl
 noted_lines (Edit guild edit) r = refl
 noted_lines (Look worker guild) r = refl

@@ -82,7 +82,7 @@ on_worker step conn p = option_map (λ (o : Opened). step o.worker) (find_id ope
 
 -- a look at a guild without a head line, an open of a number that was used, and what comes on one that was not, are no step
 abbrev pub step_of : Server → Line → Option Step
-step_of p (Bot token user name privileged) = None
+step_of p (Bot token user name privileged v items bytes) = None
 step_of p (Guild id) = None
 step_of p (Edit guild edit) = edit_step p guild edit
 step_of p (Look worker guild) = if contains guild p.guilds then Some (Looks worker guild) else None
@@ -111,7 +111,8 @@ abbrev pub with_opened : Opened → Server → Server
 with_opened o p = if has_id opened_id o.number p.used then p else record p { used = put_id opened_id o p.used }
 
 abbrev pub noted : Server → Line → Server
-noted p (Bot token user name privileged) = before_steps p (with_bot (record { token = token; user = user; name = name; privileged = privileged }) p)
+noted p (Bot token user name privileged v items bytes) =
+    before_steps p (with_bot (record { token = token; user = user; name = name; privileged = privileged; ring_items = items; ring_bytes = bytes }) p)
 noted p (Guild id) = before_steps p (with_guild id p)
 noted p (Edit guild edit) = p
 noted p (Look worker guild) = p

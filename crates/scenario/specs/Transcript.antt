@@ -39,7 +39,7 @@ outputs_text p number (o ∷ os) = output_text p number o ++ outputs_text (follo
 
 -- why the edit of a line is refused, if it is one that is
 abbrev pub line_refusal : Server → Line → Option Verdict
-line_refusal p (Bot token user name privileged) = None
+line_refusal p (Bot token user name privileged v items bytes) = None
 line_refusal p (Guild id) = None
 line_refusal p (Edit guild edit) = refusal p guild edit
 line_refusal p (Look worker guild) = None
@@ -51,7 +51,7 @@ line_refusal p (Tick worker now) = None
 
 -- the look of a line, if it lags
 abbrev pub line_lag : Server → Line → Option Lagged
-line_lag p (Bot token user name privileged) = None
+line_lag p (Bot token user name privileged v items bytes) = None
 line_lag p (Guild id) = None
 line_lag p (Edit guild edit) = None
 line_lag p (Look worker guild) = if contains guild p.guilds then lag_of worker guild (log p guild) (find_id worker_id worker (world p).workers) else None

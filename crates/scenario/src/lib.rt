@@ -14,3 +14,4 @@ mod writing;
 
 pub use fault::PlayFault;
 pub use playing::play;
+pub use writing::write_stop;

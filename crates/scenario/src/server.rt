@@ -1,5 +1,5 @@
 //! The server that a step file drives: bots, guilds, logs and workers.
-ghost use Rattle.std.specs.Prelude.{◌≡◌, Some, option_map, OnOk, IfOk, MatchResult, []};
+ghost use Rattle.std.specs.Prelude.{◌≡◌, ℕ, Some, option_map, OnOk, IfOk, MatchResult, []};
 ghost use Rattle.edit_text.specs.declared.line.Line.{Line};
 ghost use Rattle.world_law.specs.Inputs.{Input as ModelInput};
 ghost use Rattle.collections.specs.ById.{find_id};
@@ -109,7 +109,7 @@ impl Server {
     }
 
     fn add_bot(&mut self, bot: Bot) -> Result<(), AllocError>
-        ensures { OnOk result ((p : ModelServer) → Represents self.old p → Plays p (line.Bot bot.token bot.user bot.name bot.privileged) self.new []) }
+        ensures { OnOk result ((p : ModelServer) (v : ℕ) → Represents self.old p → Plays p (line.Bot bot.token bot.user bot.name bot.privileged v bot.ring_items bot.ring_bytes) self.new []) }
     {
         if !self.slots.is_empty() || knows(self.bots.as_slice(), bot.token.as_str()) {
             return Ok(());
@@ -265,12 +265,17 @@ impl Server {
                 user,
                 name,
                 privileged,
+                v: _,
+                ring_items,
+                ring_bytes,
             } => {
                 self.add_bot(Bot {
                     token,
                     user,
                     name,
                     privileged,
+                    ring_items,
+                    ring_bytes,
                 })?;
                 Ok(Answer::sends(Vec::new(self.alloc)))
             }

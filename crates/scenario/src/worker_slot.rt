@@ -127,23 +127,12 @@ fn url_of(alloc: Global, number: u8) -> Result<Text, AllocError>
     Ok(Text::from_string(url))
 }
 
-fn copy_of(alloc: Global, bot: &Bot) -> Result<Bot, AllocError>
-    ensures { IfOk result (λ copy. copy ≡ bot.now) }
-{
-    Ok(Bot {
-        token: bot.token.copy(alloc)?,
-        user: bot.user,
-        name: bot.name.copy(alloc)?,
-        privileged: bot.privileged,
-    })
-}
-
 fn copies_of(alloc: Global, bots: &[Bot]) -> Result<Vec<Bot>, AllocError>
     ensures { IfOk result (λ copies. copies.items ≡ bots.now) }
 {
     let mut copies = Vec::new(alloc);
     for bot in bots {
-        copies.push(copy_of(alloc, bot)?)?;
+        copies.push(bot.copy(alloc)?)?;
     }
     Ok(copies)
 }

@@ -131,9 +131,9 @@ module _ {A : Type 0} where
   is_spent (Resumes number older seq held) s = false
   is_spent (Wants number want) s = false
 
--- nothing was sent yet
+-- nothing was sent yet, and as much will be held as the bot's limits let
 abbrev pub none_sent : Bot → Viewer → ℕ → Replay
-none_sent bot viewer n = fresh 1024 4194304
+none_sent bot viewer n = fresh bot.ring_items bot.ring_bytes
 
 -- all of what is kept is what a resume needs
 abbrev pub as_kept : Replay → Replay

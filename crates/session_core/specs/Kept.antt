@@ -8,7 +8,7 @@ use Rattle.session_core.specs.declared.kept.Connection.{Connection as KeptConnec
 use Rattle.session_core.specs.declared.kept.Session.{Session as KeptSession}
 use Rattle.session_core.specs.declared.kept.Condition.{Condition as KeptCondition}
 use Rattle.session_core.specs.declared.kept.Condition.TheVariants as condition
-use Rattle.replay_ring.specs.Replay.{Replay, fresh}
+use Rattle.replay_ring.specs.Replay.{Replay}
 use Rattle.session_core.specs.State.{Connection, Session, Condition, Attached, Detached}
 use Rattle.session_core.specs.Holders.{holder_of}
 
@@ -29,9 +29,9 @@ connection_of e = record { number = e.0; last_heartbeat_ms = e.1.last_heartbeat_
 abbrev pub session_of : ℕ × KeptSession → Session Replay
 session_of e = record { number = e.0; token = e.1.token; name = e.1.holder.name; viewer = e.1.viewer; condition = condition_of e.1.condition; sent = e.1.sent }
 
--- what is kept of a session on a connection that had no dispatch yet
-abbrev pub new_session : List ℕ → Holder → Viewer → ℕ → KeptSession
-new_session token holder viewer conn = record { token = token; holder = holder; viewer = viewer; condition = condition.Attached conn; sent = fresh 1024 4194304 }
+-- what is kept of a session on a connection
+abbrev pub new_session : List ℕ → Holder → Viewer → ℕ → Replay → KeptSession
+new_session token holder viewer conn sent = record { token = token; holder = holder; viewer = viewer; condition = condition.Attached conn; sent = sent }
 
 -- the session of a connection
 abbrev pub session_at : List (ℕ × KeptConnection) → ℕ → Option ℕ

@@ -18,11 +18,18 @@ pub struct Bot {
     pub name: Text,
     /// The privileged intents that it may ask for.
     pub privileged: Intents,
+    /// The most dispatches that a session of it keeps for a resume.
+    pub ring_items: u32,
+    /// The most bytes of their texts.
+    pub ring_bytes: u32,
 }
 
 impl Bot {
     /// A bot equal to this one.
-    pub(crate) fn copy(&self, alloc: Global) -> Result<Bot, AllocError>
+    ///
+    /// # Errors
+    /// Out of memory.
+    pub fn copy(&self, alloc: Global) -> Result<Bot, AllocError>
         ensures { IfOk result (λ copy. copy ≡ self.now) }
     {
         let token = self.token.copy(alloc)?;
@@ -32,6 +39,8 @@ impl Bot {
             user: self.user,
             name,
             privileged: self.privileged,
+            ring_items: self.ring_items,
+            ring_bytes: self.ring_bytes,
         })
     }
 }

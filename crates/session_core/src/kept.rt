@@ -1,13 +1,12 @@
 //! What the code keeps of a connection and of a session.
 
-ghost use Rattle.std.specs.Prelude.{◌≡◌, ℕ, IfOk};
+ghost use Rattle.std.specs.Prelude.{◌≡◌, ℕ};
 
 use crate::Holder;
 use crate::window::Window;
 use collections::Text;
 use dispatch_types::Viewer;
 use replay_ring::Ring;
-use std::alloc::{AllocError, Global};
 
 /// An open connection.
 pub struct Connection {
@@ -67,12 +66,6 @@ impl Drop for Session {
     }
 }
 
-/// The most dispatches that a session keeps for a resume.
-const HELD_ITEMS: usize = 1_024;
-
-/// The most bytes of their texts.
-const HELD_BYTES: usize = 4_194_304;
-
 /// The milliseconds without a heartbeat after which a connection is closed: two intervals.
 const SILENT_AFTER_MS: u64 = 82_500;
 
@@ -94,23 +87,17 @@ impl Connection {
 impl Session {
     ghost use Rattle.session_core.specs.Kept.{new_session};
 
-    /// A session without dispatches, on a connection.
-    pub fn new(
-        alloc: Global,
-        token: Text,
-        holder: Holder,
-        viewer: Viewer,
-        conn: u32,
-    ) -> Result<Session, AllocError>
-        ensures { IfOk result (λ session. session ≡ new_session token holder viewer conn) }
+    /// A session on a connection, with what it keeps for a resume.
+    pub fn new(token: Text, holder: Holder, viewer: Viewer, conn: u32, sent: Ring) -> Session
+        ensures { result ≡ new_session token holder viewer conn sent }
     {
-        Ok(Session {
+        Session {
             token,
             holder,
             viewer,
             condition: Condition::Attached(conn),
-            sent: Ring::new(alloc, HELD_ITEMS, HELD_BYTES)?,
-        })
+            sent,
+        }
     }
 }
 

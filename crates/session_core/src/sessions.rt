@@ -22,6 +22,7 @@ use dispatch_types::Viewer;
 use gateway_frames::close::{AUTHENTICATION_FAILED, UNKNOWN_ERROR};
 use gateway_frames::{Identify, Out};
 use indexmap::IndexMap;
+use replay_ring::Ring;
 use std::alloc::{AllocError, Global};
 use std::marker::Model;
 
@@ -332,7 +333,8 @@ impl Sessions {
     {
         let number = self.made + 1;
         let holder = Holder::new(self.alloc, self.worker, number, bot.name, &viewer)?;
-        let session = Session::new(self.alloc, bot.token, holder, viewer, conn)?;
+        let sent = Ring::new(self.alloc, bot.ring_items as usize, bot.ring_bytes as usize)?;
+        let session = Session::new(bot.token, holder, viewer, conn, sent);
         self.sessions.insert(number, session)?;
         self.made = number;
         let Some(connection) = self.connections.get_mut(&conn) else {

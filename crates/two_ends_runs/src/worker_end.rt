@@ -5,6 +5,7 @@ use crate::script::{BOT_NAME, BOT_USER, GUILDS};
 use anyhow::bail;
 use collections::Text;
 use edit_apply::Edit;
+use edit_text::{RING_BYTES, RING_ITEMS};
 use intent_set::Intents;
 use session_core::Bot;
 use snowflake_id::Snowflake;
@@ -27,6 +28,8 @@ fn bot(alloc: Global) -> anyhow::Result<Bot> {
         user: BOT_USER,
         name: Text::new(alloc, BOT_NAME)?,
         privileged: Intents::of_bits(PRIVILEGED)?,
+        ring_items: RING_ITEMS,
+        ring_bytes: RING_BYTES,
     })
 }
 

@@ -61,7 +61,7 @@ module _ (seen : Seen) (g : ℕ) (e : Edit) (replicas : List Replica) where
   one_told x = by_condition x.condition
     where
       more : replay wire_text (record x.sent { told = x.sent.told ++ batch seen g e x }) ≡ held_with (due here e x.viewer) (replay wire_text x.sent)
-      more = replay_told wire_text x.sent.told x.sent.end (Entry g (length (seen g) + 1)) (cursors seen) (cursors (seen_with seen g e)) (due here e x.viewer)
+      more = replay_told wire_text x.sent (Entry g (length (seen g) + 1)) (cursors seen) (cursors (seen_with seen g e)) (due here e x.viewer)
 
       by_condition : (condition : Condition) → kept_session (told_entry seen g e (record x { condition = condition })) ≡ map (after_entry in_code replicas g here e) (kept_session (record x { condition = condition }))
       by_condition (Attached conn) = ap (λ r. record { number = x.number; token = x.token; name = x.name; viewer = x.viewer; condition = Attached conn; sent = r } ∷ []) more

@@ -304,7 +304,7 @@ resume_out conn (Some c) seq held = ap (λ out. Closes c 4000 ∷ out) (texts_ou
 module _ (k : KeptWorker) (conn : ℕ) where
   -- the session that has begun
   abbrev begun_with : Bot → Viewer → Session Replay
-  begun_with bot v = record { number = k.machine.core.made + 1; token = bot.token; name = bot.name; viewer = v; condition = Attached conn; sent = fresh 1024 4194304 }
+  begun_with bot v = record { number = k.machine.core.made + 1; token = bot.token; name = bot.name; viewer = v; condition = Attached conn; sent = fresh bot.ring_items bot.ring_bytes }
 
   abbrev first_count : Bot → Viewer → ℕ
   first_count bot v = length (first_dispatches in_code k.machine v bot.name (k.machine.core.made + 1))

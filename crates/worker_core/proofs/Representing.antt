@@ -86,13 +86,14 @@ looked_kept (e ∷ es) k w same g s is there =
 -- ---- what is kept of a session that was sent chunks
 
 -- chunks leave the same as dispatches under one mark
-replay_chunks : (ts : List SentDispatch) (end : Option Cursors) (made : ℕ) (now : Cursors) (ds : List Dispatch) → let old : Sent = record { told = ts; end = end } in
-    replay wire_text (record { told = ts ++ chunks_told made now ds; end = end }) ≡ held_with ds (replay wire_text old)
-replay_chunks ts end made now ds =
-    ap (λ xs. replay_of 1024 4194304 (texts_from wire_text 0 xs))
+replay_chunks : (old : Sent) (made : ℕ) (now : Cursors) (ds : List Dispatch)
+    → replay wire_text (record old { told = old.told ++ chunks_told made now ds }) ≡ held_with ds (replay wire_text old)
+replay_chunks old made now ds =
+    let ts : List SentDispatch = old.told in
+    ap (λ xs. replay_of old.ring_items old.ring_bytes (texts_from wire_text 0 xs))
     (map_join dispatch_of ts (chunks_told made now ds) ∙ (ap (λ xs. map dispatch_of ts ++ xs) (chunk_dispatches wire_text made now ds ∙ sym (dispatches_told Start now now ds))
     ∙ sym (map_join dispatch_of ts (told Start now now ds))))
-    ∙ replay_told wire_text ts end Start now now ds
+    ∙ replay_told wire_text old Start now now ds
 
 -- ---- the session of a number
 
@@ -168,7 +169,7 @@ module _ (k : KeptMachine) (w : Worker) (same : IsKept k w) where
   told_kept ask x live = by_condition x.condition live
     where
       more : replay wire_text (after_answer wire_model w ask x).sent ≡ held_with (answer_to in_code k ask (counted x)) (replay wire_text x.sent)
-      more = replay_chunks x.sent.told x.sent.end w.chunks (cursors w.logs.seen) (answer_to wire_model w ask x)
+      more = replay_chunks x.sent w.chunks (cursors w.logs.seen) (answer_to wire_model w ask x)
           ∙ ap (λ ds. held_with ds (replay wire_text x.sent)) (sym (answer_kept ask x))
 
       by_condition : (condition : Condition) → is_live condition ≡ true
@@ -268,14 +269,14 @@ module _ (k : KeptMachine) (w : Worker) (same : IsKept k w) where
     where
       same_start : (bot : Bot) (v : Viewer) (n : ℕ) → begins_with in_code k bot v n ≡ begins_kept w bot v n
       same_start bot v n =
-          ap (λ ds. pushed_all (fresh 1024 4194304) (texts_from wire_text 0 ds)) (first_kept v bot.name n)
-          ∙ sym (replay_first wire_text None Start (cursors w.logs.seen) (cursors w.logs.seen) (first_dispatches wire_model w v bot.name n))
+          ap (λ ds. pushed_all (fresh bot.ring_items bot.ring_bytes) (texts_from wire_text 0 ds)) (first_kept v bot.name n)
+          ∙ sym (replay_first wire_text bot (cursors w.logs.seen) (first_dispatches wire_model w v bot.name n))
 
       by_move : (move : Move) → moved conn w.now (begins_with in_code k) move (kept w.core) ≡ moved conn w.now (begins_kept w) move (kept w.core)
       by_move Nothing = refl
       by_move Answers = refl
       by_move (ClosesWith code) = refl
-      by_move (Begins bot v) = ap (λ start. record (begun conn bot v (λ n. fresh 1024 4194304) (kept w.core)) {
+      by_move (Begins bot v) = ap (λ start. record (begun conn bot v (λ n. fresh bot.ring_items bot.ring_bytes) (kept w.core)) {
         sessions = (kept w.core).sessions ++ record { number = w.core.made + 1; token = bot.token; name = bot.name; viewer = v; condition = Attached conn; sent = start } ∷ [];
       }) (same_start bot v (w.core.made + 1))
       by_move Denies = refl

@@ -1,16 +1,18 @@
 -- What is kept of a session's dispatches for a resume, as more are made.
-use Rattle.std.proofs.Common.{◌≡◌, ℕ, ◌+◌, List, [], ◌∷◌, ◌++◌, suc, Option, length, map, refl, sym, ap, ◌∙◌, arith}
+use Rattle.std.proofs.Common.{◌≡◌, ℕ, ◌+◌, List, [], ◌∷◌, ◌++◌, suc, length, map, refl, sym, ap, ◌∙◌, arith}
 use Rattle.std.proofs.lemmas.List.{length-map}
 use Rattle.std.proofs.lemmas.Grind.{fold-append}
 use Rattle.dispatch_types.specs.declared.dispatch.Dispatch.{Dispatch}
-use Rattle.replay_ring.specs.Replay.{fresh, pushed, pushed_all, replay_of}
+use Rattle.replay_ring.specs.Replay.{Replay, fresh, pushed, pushed_all, replay_of}
 use Rattle.replay_ring.proofs.Suffixes.{pushed_all-fresh}
+use Rattle.session_core.specs.declared.bot.Bot.{Bot}
 use Rattle.session_core.specs.declared.reply.Mark.{Mark}
+use Rattle.session_core.specs.declared.reply.Mark.TheVariants.{Start}
 use Rattle.world_law.specs.Keeping.{Cursors}
 use Rattle.world_law.specs.Sent.{Sent, SentDispatch, dispatch_of, dispatches, told}
 use Rattle.world_law.proofs.Folds.{dispatches_told}
 use Rattle.world_law.proofs.Lists.{map_join}
-use Rattle.world_law.specs.Model.{replay}
+use Rattle.world_law.specs.Model.{replay, in_model}
 use Rattle.world_law.specs.Outputs.{texts_from}
 
 module _ (text : ℕ → Dispatch → List ℕ) where
@@ -37,20 +39,24 @@ module _ (text : ℕ → Dispatch → List ℕ) where
   none_before n = omega arith
 
   -- of dispatches that follow, what is kept is what pushes of their texts leave
-  pub replay_told : (ts : List SentDispatch) (end : Option Cursors) (mark : Mark) (b a : Cursors) (ds : List Dispatch)
-      → let old : Sent = record { told = ts; end = end } in
-      replay text (record { told = ts ++ told mark b a ds; end = end }) ≡ pushed_all (replay text old) (texts_from text (replay text old).last ds)
-  replay_told ts end mark b a ds =
+  pub replay_told : (old : Sent) (mark : Mark) (b a : Cursors) (ds : List Dispatch)
+      → replay text (record old { told = old.told ++ told mark b a ds }) ≡ pushed_all (replay text old) (texts_from text (replay text old).last ds)
+  replay_told old mark b a ds =
+      let ts : List SentDispatch = old.told in
       let all : map dispatch_of (ts ++ told mark b a ds) ≡ map dispatch_of ts ++ ds =
       map_join dispatch_of ts (told mark b a ds) ∙ ap (λ xs. map dispatch_of ts ++ xs) (dispatches_told mark b a ds) in
       let count : 0 + length (map dispatch_of ts) ≡ length (texts_from text 0 (map dispatch_of ts)) = none_before (length (map dispatch_of ts)) ∙ sym (length_texts 0 (map dispatch_of ts)) in
-      ap (λ xs. replay_of 1024 4194304 (texts_from text 0 xs)) all
-      ∙ (ap (λ ts. replay_of 1024 4194304 ts) (texts_join 0 (map dispatch_of ts) ds)
-      ∙ (ap (λ n. replay_of 1024 4194304 (texts_from text 0 (map dispatch_of ts) ++ texts_from text n ds)) count
-      ∙ replay_join 1024 4194304 (texts_from text 0 (map dispatch_of ts)) (texts_from text (length (texts_from text 0 (map dispatch_of ts))) ds)))
+      ap (λ xs. held (texts_from text 0 xs)) all
+      ∙ (ap (λ ts. held ts) (texts_join 0 (map dispatch_of ts) ds)
+      ∙ (ap (λ n. held (texts_from text 0 (map dispatch_of ts) ++ texts_from text n ds)) count
+      ∙ replay_join old.ring_items old.ring_bytes (texts_from text 0 (map dispatch_of ts)) (texts_from text (length (texts_from text 0 (map dispatch_of ts))) ds)))
+    where
+      held : List (List ℕ) → Replay
+      held texts = replay_of old.ring_items old.ring_bytes texts
 
   -- of the first dispatches, what is kept is what pushes leave on nothing
-  pub replay_first : (end : Option Cursors) (mark : Mark) (b a : Cursors) (ds : List Dispatch)
-      → replay text (record { told = told mark b a ds; end = end }) ≡ pushed_all (fresh 1024 4194304) (texts_from text 0 ds)
-  replay_first end mark b a ds =
-      ap (λ xs. replay_of 1024 4194304 (texts_from text 0 xs)) (dispatches_told mark b a ds) ∙ sym (pushed_all-fresh 1024 4194304 (texts_from text 0 ds))
+  pub replay_first : (bot : Bot) (now : Cursors) (ds : List Dispatch)
+      → replay text ((in_model text).begins bot now ds) ≡ pushed_all (fresh bot.ring_items bot.ring_bytes) (texts_from text 0 ds)
+  replay_first bot now ds =
+      ap (λ xs. replay_of bot.ring_items bot.ring_bytes (texts_from text 0 xs)) (dispatches_told Start now now ds)
+      ∙ sym (pushed_all-fresh bot.ring_items bot.ring_bytes (texts_from text 0 ds))

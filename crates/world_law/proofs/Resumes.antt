@@ -158,7 +158,7 @@ module _ (text : ℕ → Dispatch → List ℕ) where
       → texts_from text seq (drop seq (dispatches sent)) ≡ texts_after (replay text sent) seq
   resent_texts sent seq low high =
       ap (λ n. texts_from text n (drop seq (dispatches sent))) (none_before seq)
-      ∙ (drop_texts 0 seq (dispatches sent) ∙ sym (texts_after-replay_of 1024 4194304 (texts_from text 0 (dispatches sent)) seq low high))
+      ∙ (drop_texts 0 seq (dispatches sent) ∙ sym (texts_after-replay_of sent.ring_items sent.ring_bytes (texts_from text 0 (dispatches sent)) seq low high))
     where
       none_before : (n : ℕ) → n ≡ 0 + n
       none_before n = omega arith

@@ -110,7 +110,7 @@ pub record SessionMeets (seen : Seen) (x : Session Sent) : Type 0 where
   pub entries : Entries seen (last_cursors (cursors seen) x) x.viewer x.sent.told
 
 abbrev pub at : Session Sent → Condition → Option Cursors → Session Sent
-at x condition end = record x { condition = condition; sent = record { told = x.sent.told; end = end } }
+at x condition end = record x { condition = condition; sent = record x.sent { end = end } }
 
 -- a session that has ended saw less than what was handled since
 ended_grown : (was is : Seen) → ((g p : ℕ) → p ≤ length (was g) → take p (is g) ≡ take p (was g)) → ((g : ℕ) → length (was g) ≤ length (is g))

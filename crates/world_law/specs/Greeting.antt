@@ -44,4 +44,4 @@ module _ {A R : Type 0} (keeping : Keeping A R) (w : Machine A R) (viewer : View
 module _ {A R : Type 0} (keeping : Keeping A R) where
   -- what a session of a number begins with
   abbrev pub begins_with : Machine A R → Bot → Viewer → ℕ → A
-  begins_with w bot viewer n = keeping.begins (keeping.cursors w.logs) (first_dispatches keeping w viewer bot.name n)
+  begins_with w bot viewer n = keeping.begins bot (keeping.cursors w.logs) (first_dispatches keeping w viewer bot.name n)

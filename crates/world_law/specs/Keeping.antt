@@ -6,6 +6,7 @@ use Rattle.guild_model.specs.Record.{Record}
 use Rattle.dispatch_types.specs.declared.dispatch.Dispatch.{Dispatch}
 use Rattle.edit_apply.specs.declared.Edit.{Edit}
 use Rattle.replay_ring.specs.Replay.{Replay}
+use Rattle.session_core.specs.declared.bot.Bot.{Bot}
 use Rattle.session_core.specs.declared.reply.Mark.{Mark}
 use Rattle.session_core.specs.State.{State, Session}
 
@@ -28,8 +29,8 @@ pub record Keeping (A R : Type 0) : Type 0 where
   pub last : A → ℕ
   -- what a resume needs
   pub replay : A → Replay
-  -- a session's first dispatches, with the cursors then
-  pub begins : Cursors → List Dispatch → A
+  -- the first dispatches of a bot's session, with the cursors then
+  pub begins : Bot → Cursors → List Dispatch → A
   -- dispatches more, under one mark, with the cursors before and after
   pub tells : Mark → Cursors → Cursors → List Dispatch → A → A
   -- chunks of members, each under a mark of its own, after so many chunks

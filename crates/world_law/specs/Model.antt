@@ -45,9 +45,9 @@ abbrev pub Worker : Type 0
 Worker = Machine Sent Logs
 
 module _ (text : ℕ → Dispatch → List ℕ) where
-  -- what a resume needs: how many dispatches there are, and the latest texts within two limits
+  -- what a resume needs: how many dispatches there are, and the latest texts within the bot's limits
   abbrev pub replay : Sent → Replay
-  replay sent = replay_of 1024 4194304 (texts_from text 0 (dispatches sent))
+  replay sent = replay_of sent.ring_items sent.ring_bytes (texts_from text 0 (dispatches sent))
 
   abbrev pub in_model : Keeping Sent Logs
   in_model = record {
@@ -58,7 +58,7 @@ module _ (text : ℕ → Dispatch → List ℕ) where
     rebased = λ g log logs. record logs { seen = seen_as logs.seen g log };
     last = λ sent. length sent.told;
     replay = λ sent. replay sent;
-    begins = λ now ds. record { told = told Start now now ds; end = None };
+    begins = λ bot now ds. record { told = told Start now now ds; ring_items = bot.ring_items; ring_bytes = bot.ring_bytes; end = None };
     tells = λ mark before after ds sent. record sent { told = sent.told ++ told mark before after ds };
     answers = λ made now ds sent. record sent { told = sent.told ++ chunks_told made now ds };
     ends = λ now x. ended_at now x;

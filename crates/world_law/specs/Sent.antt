@@ -26,9 +26,12 @@ chunks_told made now (d ∷ ds) = record { mark = Chunk (made + 1); dispatch = d
 abbrev pub dispatch_of : SentDispatch → Dispatch
 dispatch_of t = t.dispatch
 
--- all dispatches of a session, in order, and the cursors of its worker as it ended
+-- all dispatches of a session, in order, the most of them and the most bytes that its bot may have held for a
+-- resume, and the cursors of its worker as it ended
 pub record Sent : Type 0 where
   pub told : List SentDispatch
+  pub ring_items : ℕ
+  pub ring_bytes : ℕ
   pub end : Option Cursors
 
 abbrev pub dispatches : Sent → List Dispatch

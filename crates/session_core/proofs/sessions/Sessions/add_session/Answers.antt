@@ -28,9 +28,9 @@ invariant_of-self-2 c =
     let below : c.self.inside.made < 2 ^ 32 - 1 = rw (← c.self.view_is) at c.requires.counted in
     let room : c.self.inside.made + 1 < 2 ^ 32 = omega (arith, below) in (
       IsKept-tie c.self.inside.made c.self.inside.connections.entries (c.get_mut.follows.lender l).entries c.self.inside.sessions.entries c.insert.new.self.entries
-          c.args.conn l c.in_ok-session.session c.self.invariant.0 room free refl (rw c.in_ok-session.ensures refl) w.4 (w.3 (rw there refl)).0 h.unique h.updates.0,
-      AreHeld-set c.self.inside.worker _ _ (c.self.inside.made + 1) (Some c.in_ok-session.session) c.self.invariant.1 h.updates.0
-          (rw (c.in_ok-session.ensures, c.in_ok-holder.ensures) refl),
+          c.args.conn l c.new-session.result c.self.invariant.0 room free refl (rw c.new-session.ensures refl) w.4 (w.3 (rw there refl)).0 h.unique h.updates.0,
+      AreHeld-set c.self.inside.worker _ _ (c.self.inside.made + 1) (Some c.new-session.result) c.self.invariant.1 h.updates.0
+          (rw (c.new-session.ensures, c.in_ok-holder.ensures) refl),
     )
 
 pub returns-clause-ok : goal.returns-clause-ok
@@ -40,6 +40,6 @@ returns-clause-ok c =
     let w = c.get_mut.follows.holds l in
     let h = c.in_ok-insert.ensures in
     let new : lookup (nat_eq (c.self.inside.made + 1)) c.self.inside.sessions.entries ≡ None = c.self.invariant.0.counted (c.self.inside.made + 1) (omega arith) in
-    let sessions = added-kept session_of c.self.inside.sessions.entries c.insert.new.self.entries (c.self.inside.made + 1, c.in_ok-session.session)
-    (h.entries ∙ insert_entry-new nat_eq c.self.inside.sessions (c.self.inside.made + 1) c.in_ok-session.session new) in
-    rw (← c.self.view_is, w.0, tied-kept c.self.inside.connections.entries c.args.conn c.in-Some.connection.now (Some (c.self.inside.made + 1)) there, sessions, c.in_ok-session.ensures, c.in_ok-holder.ensures) refl
+    let sessions = added-kept session_of c.self.inside.sessions.entries c.insert.new.self.entries (c.self.inside.made + 1, c.new-session.result)
+    (h.entries ∙ insert_entry-new nat_eq c.self.inside.sessions (c.self.inside.made + 1) c.new-session.result new) in
+    rw (← c.self.view_is, w.0, tied-kept c.self.inside.connections.entries c.args.conn c.in-Some.connection.now (Some (c.self.inside.made + 1)) there, sessions, c.new-session.ensures, c.in_ok-sent.ensures, c.in_ok-holder.ensures) refl
