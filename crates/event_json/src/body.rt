@@ -5,7 +5,7 @@ ghost use Rattle.serde_json.specs.Data.{object, no_members};
 ghost use Rattle.serde_json.specs.Written.{compact_text};
 ghost use Rattle.object_json.specs.Added.{Adds};
 ghost use Rattle.event_json.specs.Body.{body_data, body_from, DispatchFits};
-ghost use Rattle.serde_json.specs.View.{view};
+ghost use Rattle.json_view.specs.Nodes.{view};
 ghost use Rattle.object_json.specs.Reading.{UnlessMemory};
 
 use crate::guild::{
@@ -30,11 +30,11 @@ use crate::voice::{read_voice_state_update, write_voice_state_update};
 use dispatch_types::{ChannelObject, Dispatch, MessageObject, PresenceObject, ThreadObject};
 use intent_set::Kind;
 use json::Writer;
+use json_view::Node;
 use object_json::fault::ReadFault;
 use object_json::field::{close, open};
 use object_json::readable::Readable;
 use object_json::written::Written;
-use serde_json::Value;
 use std::alloc::{AllocError, Global};
 use std::marker::Model;
 
@@ -124,7 +124,7 @@ fn write_body(alloc: Global, out: &mut Writer, of: &Dispatch) -> Result<(), Allo
 }
 
 /// The one dispatch of a kind whose field `d` this can be.
-pub fn read_body(alloc: Global, kind: Kind, body: &Value) -> Result<Dispatch, ReadFault>
+pub fn read_body(alloc: Global, kind: Kind, body: &Node<'_>) -> Result<Dispatch, ReadFault>
     ensures { UnlessMemory result (body_from kind (view body.now)) }
 {
     match kind {

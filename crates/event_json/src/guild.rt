@@ -1,13 +1,14 @@
 //! The bodies of GUILD_CREATE, GUILD_UPDATE, GUILD_DELETE, and of those of roles.
 
 ghost use Rattle.std.specs.Prelude.{◌≡◌, OnOk};
-ghost use Rattle.serde_json.specs.View.{view};
+ghost use Rattle.json_view.specs.Nodes.{view};
 ghost use Rattle.object_json.specs.Reading.{UnlessMemory};
 ghost use Rattle.object_json.specs.Added.{Adds, Ends};
 ghost use Rattle.event_json.specs.Guild.{guild_create_data, guild_create_rest, guild_update_data, guild_delete_data, guild_role_data, guild_role_delete_data, guild_create_from, guild_update_from, guild_delete_from, guild_role_from, guild_role_delete_from, GuildRestFits, GuildCreateFits, GuildUpdateFits, GuildDeleteFits, GuildRoleFits, GuildRoleDeleteFits};
 
 use dispatch_types::{GuildCreate, GuildDelete, GuildRole, GuildRoleDelete, GuildUpdate};
 use json::Writer;
+use json_view::Node;
 use object_json::fault::ReadFault;
 use object_json::field::{
     close, flag_field, id_field, open, small_field, text_field, true_field_if,
@@ -15,7 +16,6 @@ use object_json::field::{
 use object_json::readable::{list_at, value_at};
 use object_json::reading::{flag_at, id_at, is_there, small_at, text_at};
 use object_json::written::{list_field, value_field};
-use serde_json::Value;
 use std::alloc::{AllocError, Global};
 
 fn end_guild_create(alloc: Global, out: &mut Writer, guild: &GuildCreate) -> Result<(), AllocError>
@@ -101,7 +101,7 @@ pub fn write_guild_role_delete(out: &mut Writer, delete: &GuildRoleDelete) -> Re
 }
 
 /// Reads the body of Guild Create.
-pub fn read_guild_create(alloc: Global, body: &Value) -> Result<GuildCreate, ReadFault>
+pub fn read_guild_create(alloc: Global, body: &Node<'_>) -> Result<GuildCreate, ReadFault>
     ensures { UnlessMemory result (guild_create_from (view body.now)) }
 {
     let channels = list_at(alloc, body, "channels")?;
@@ -131,7 +131,7 @@ pub fn read_guild_create(alloc: Global, body: &Value) -> Result<GuildCreate, Rea
 }
 
 /// Reads the body of Guild Update.
-pub fn read_guild_update(alloc: Global, body: &Value) -> Result<GuildUpdate, ReadFault>
+pub fn read_guild_update(alloc: Global, body: &Node<'_>) -> Result<GuildUpdate, ReadFault>
     ensures { UnlessMemory result (guild_update_from (view body.now)) }
 {
     let id = id_at(body, "id")?;
@@ -141,7 +141,7 @@ pub fn read_guild_update(alloc: Global, body: &Value) -> Result<GuildUpdate, Rea
 }
 
 /// Reads the body of Guild Delete.
-pub fn read_guild_delete(body: &Value) -> Result<GuildDelete, ReadFault>
+pub fn read_guild_delete(body: &Node<'_>) -> Result<GuildDelete, ReadFault>
     ensures { result ≡ guild_delete_from (view body.now) }
 {
     let id = id_at(body, "id")?;
@@ -150,7 +150,7 @@ pub fn read_guild_delete(body: &Value) -> Result<GuildDelete, ReadFault>
 }
 
 /// Reads the body of Guild Role Create and of Guild Role Update.
-pub fn read_guild_role(alloc: Global, body: &Value) -> Result<GuildRole, ReadFault>
+pub fn read_guild_role(alloc: Global, body: &Node<'_>) -> Result<GuildRole, ReadFault>
     ensures { UnlessMemory result (guild_role_from (view body.now)) }
 {
     let guild = id_at(body, "guild_id")?;
@@ -159,7 +159,7 @@ pub fn read_guild_role(alloc: Global, body: &Value) -> Result<GuildRole, ReadFau
 }
 
 /// Reads the body of Guild Role Delete.
-pub fn read_guild_role_delete(body: &Value) -> Result<GuildRoleDelete, ReadFault>
+pub fn read_guild_role_delete(body: &Node<'_>) -> Result<GuildRoleDelete, ReadFault>
     ensures { result ≡ guild_role_delete_from (view body.now) }
 {
     let guild = id_at(body, "guild_id")?;

@@ -1,7 +1,7 @@
 //! The bodies of GUILD_MEMBER_ADD, GUILD_MEMBER_UPDATE, GUILD_MEMBER_REMOVE and GUILD_MEMBERS_CHUNK.
 
 ghost use Rattle.std.specs.Prelude.{OnOk, IfSome, codes, option_map};
-ghost use Rattle.serde_json.specs.View.{view};
+ghost use Rattle.json_view.specs.Nodes.{view};
 ghost use Rattle.object_json.specs.Reading.{UnlessMemory};
 ghost use Rattle.object_json.specs.Reading.{optional_at, list_from};
 ghost use Rattle.object_json.specs.Added.{Adds, AddsTokens, member_tokens_if};
@@ -13,13 +13,13 @@ ghost use Rattle.event_json.specs.Member.{guild_member_data, guild_member_remove
 use collections::Seq;
 use dispatch_types::{GuildMember, GuildMemberRemove, MemberObject, MembersChunk, PresenceObject};
 use json::Writer;
+use json_view::{JsonValue, Node};
 use object_json::fault::ReadFault;
 use object_json::field::{close, id_field, open, small_field, text_field_if};
 use object_json::member::write_member;
 use object_json::readable::{Readable, list_at, list_from, list_if_at, optional_at, value_at};
 use object_json::reading::{id_at, small_at};
 use object_json::written::{list_field, list_field_if, value_field};
-use serde_json::Value;
 use std::alloc::{AllocError, Global};
 
 /// Writes the body of Guild Member Add and of Guild Member Update.
@@ -89,7 +89,7 @@ pub fn write_members_chunk(
 }
 
 /// Reads the body of Guild Member Add and of Guild Member Update.
-pub fn read_guild_member(alloc: Global, body: &Value) -> Result<GuildMember, ReadFault>
+pub fn read_guild_member(alloc: Global, body: &Node<'_>) -> Result<GuildMember, ReadFault>
     ensures { UnlessMemory result (guild_member_from (view body.now)) }
 {
     let guild = id_at(body, "guild_id")?;
@@ -98,7 +98,10 @@ pub fn read_guild_member(alloc: Global, body: &Value) -> Result<GuildMember, Rea
 }
 
 /// Reads the body of Guild Member Remove.
-pub fn read_guild_member_remove(alloc: Global, body: &Value) -> Result<GuildMemberRemove, ReadFault>
+pub fn read_guild_member_remove(
+    alloc: Global,
+    body: &Node<'_>,
+) -> Result<GuildMemberRemove, ReadFault>
     ensures { UnlessMemory result (guild_member_remove_from (view body.now)) }
 {
     let guild = id_at(body, "guild_id")?;
@@ -106,17 +109,17 @@ pub fn read_guild_member_remove(alloc: Global, body: &Value) -> Result<GuildMemb
     Ok(GuildMemberRemove { guild, user })
 }
 
-fn presences_at(alloc: Global, body: &Value) -> Result<Option<Seq<PresenceObject>>, ReadFault>
+fn presences_at(alloc: Global, body: &Node<'_>) -> Result<Option<Seq<PresenceObject>>, ReadFault>
     ensures { UnlessMemory result (optional_at (list_from presence_from) (codes "presences") (view body.now)) }
 {
-    match body.get("presences") {
+    match body.member("presences") {
         None => Ok(None),
         Some(presences) => Ok(Some(list_from(alloc, presences)?)),
     }
 }
 
 /// Reads the body of Guild Members Chunk.
-pub fn read_members_chunk(alloc: Global, body: &Value) -> Result<MembersChunk, ReadFault>
+pub fn read_members_chunk(alloc: Global, body: &Node<'_>) -> Result<MembersChunk, ReadFault>
     ensures { UnlessMemory result (members_chunk_from (view body.now)) }
 {
     let count = small_at(body, "chunk_count")?;

@@ -1,7 +1,7 @@
 //! The bodies of MESSAGE_DELETE, of the reactions' dispatches and of TYPING_START.
 
 ghost use Rattle.std.specs.Prelude.{◌≡◌, OnOk, codes};
-ghost use Rattle.serde_json.specs.View.{view};
+ghost use Rattle.json_view.specs.Nodes.{view};
 ghost use Rattle.object_json.specs.Reading.{UnlessMemory};
 ghost use Rattle.object_json.specs.Added.{Adds, AddsTokens, member_tokens};
 ghost use Rattle.event_json.specs.Message.{message_delete_data, emoji_data, reaction_data, typing_start_data, message_delete_from, emoji_at, reaction_from, typing_start_from, MessageDeleteFits, ReactionFits, TypingStartFits};
@@ -9,10 +9,10 @@ ghost use Rattle.event_json.specs.Message.{message_delete_data, emoji_data, reac
 use collections::Text;
 use dispatch_types::{MessageDelete, Reaction, TypingStart};
 use json::Writer;
+use json_view::Node;
 use object_json::fault::ReadFault;
 use object_json::field::{close, id_field, key, null_field, number_field, open, text_field};
 use object_json::reading::{field_at, id_at, number_at, text_at};
-use serde_json::Value;
 use std::alloc::{AllocError, Global};
 
 /// Writes the body of Message Delete.
@@ -69,7 +69,7 @@ pub fn write_typing_start(out: &mut Writer, typing: &TypingStart) -> Result<(), 
 }
 
 /// Reads the body of Message Delete.
-pub fn read_message_delete(body: &Value) -> Result<MessageDelete, ReadFault>
+pub fn read_message_delete(body: &Node<'_>) -> Result<MessageDelete, ReadFault>
     ensures { result ≡ message_delete_from (view body.now) }
 {
     let channel = id_at(body, "channel_id")?;
@@ -78,7 +78,7 @@ pub fn read_message_delete(body: &Value) -> Result<MessageDelete, ReadFault>
     Ok(MessageDelete { guild, channel, id })
 }
 
-fn emoji_at(alloc: Global, body: &Value) -> Result<Text, ReadFault>
+fn emoji_at(alloc: Global, body: &Node<'_>) -> Result<Text, ReadFault>
     ensures { UnlessMemory result (emoji_at (view body.now)) }
 {
     let emoji = field_at(body, "emoji")?;
@@ -86,7 +86,7 @@ fn emoji_at(alloc: Global, body: &Value) -> Result<Text, ReadFault>
 }
 
 /// Reads the body of Message Reaction Add and of Message Reaction Remove.
-pub fn read_reaction(alloc: Global, body: &Value) -> Result<Reaction, ReadFault>
+pub fn read_reaction(alloc: Global, body: &Node<'_>) -> Result<Reaction, ReadFault>
     ensures { UnlessMemory result (reaction_from (view body.now)) }
 {
     let channel = id_at(body, "channel_id")?;
@@ -104,7 +104,7 @@ pub fn read_reaction(alloc: Global, body: &Value) -> Result<Reaction, ReadFault>
 }
 
 /// Reads the body of Typing Start.
-pub fn read_typing_start(body: &Value) -> Result<TypingStart, ReadFault>
+pub fn read_typing_start(body: &Node<'_>) -> Result<TypingStart, ReadFault>
     ensures { result ≡ typing_start_from (view body.now) }
 {
     let channel = id_at(body, "channel_id")?;

@@ -1,13 +1,16 @@
 //! Reading a dispatch from its text.
 
-ghost use Rattle.std.specs.Prelude.{◌≡◌, ◌≢◌, ◌≤◌, ◌⊎◌, ℕ, true, false, Ok, IfOk, IfErr, OnOk, codes, option_map};
-ghost use Rattle.serde_json.specs.Data.{depth};
-ghost use Rattle.serde_json.specs.Read.{max_depth};
-ghost use Rattle.serde_json.specs.View.{view};
+ghost use Rattle.std.specs.Prelude.{◌≡◌, ◌≢◌, ◌⊎◌, ℕ, true, false, Ok, Some, IfOk, IfErr, OnOk, codes, option_map};
+ghost use Rattle.std.specs.Option.{ok_or};
+ghost use Rattle.serde_json.specs.Data.{Data};
+ghost use Rattle.serde_json.specs.Written.{compact_text};
+ghost use Rattle.written_json.specs.Writable.{IsWritable};
+ghost use Rattle.json_view.specs.Fields.{and_then};
+ghost use Rattle.json_view.specs.Nodes.{view};
 ghost use Rattle.json_view.specs.Reading.{reading};
 ghost use Rattle.object_json.specs.Reading.{value_at};
 ghost use Rattle.dispatch_types.specs.declared.dispatch.Dispatch.{Dispatch as ADispatch};
-ghost use Rattle.event_json.specs.declared.fault.DispatchFault.TheVariants.{Memory};
+ghost use Rattle.event_json.specs.declared.fault.DispatchFault.TheVariants.{Memory, NotJson};
 ghost use Rattle.event_json.specs.Body.{body_from, DispatchFits};
 ghost use Rattle.event_json.specs.Text.{data_of};
 ghost use Rattle.event_json.specs.Read.{IsTextOf, name_in, kind_in, fault_of, UnlessMemory, faulted, candidate};
@@ -17,31 +20,30 @@ use crate::fault::DispatchFault;
 use crate::text::write;
 use dispatch_types::Dispatch;
 use intent_set::Kind;
-use json_view::value_of;
+use json_view::{JsonValue, Node, Scratch, node_of, value_of};
 use object_json::reading::{field_at, number_at};
-use serde_json::Value;
 use std::alloc::{AllocError, Global};
 use written_json::is_written_as;
 
-fn name_in(value: &Value) -> Option<&str>
+fn name_in<'a>(value: &'a Node<'_>) -> Option<&'a str>
     ensures { option_map (λ s. s.now) result ≡ name_in (view value.now) }
 {
-    let op = value.get("op").and_then(Value::as_u64);
+    let op = value.member("op").and_then(|op| op.whole());
     if op != Some(0) {
         return None;
     }
-    let _number = value.get("s").and_then(Value::as_u64)?;
-    value.get("t").and_then(Value::as_str)
+    let _number = value.member("s").and_then(|number| number.whole())?;
+    value.member("t").and_then(|name| name.text())
 }
 
-fn kind_in(value: &Value) -> Result<Kind, DispatchFault>
+fn kind_in(value: &Node<'_>) -> Result<Kind, DispatchFault>
     ensures { result ≡ kind_in (view value.now) }
 {
     let name = name_in(value).ok_or(DispatchFault::NotDispatch)?;
     Kind::of_name(name).ok_or(DispatchFault::UnknownName)
 }
 
-fn body_in(alloc: Global, kind: Kind, value: &Value) -> Result<Dispatch, DispatchFault>
+fn body_in(alloc: Global, kind: Kind, value: &Node<'_>) -> Result<Dispatch, DispatchFault>
     ensures { UnlessMemory result (faulted (value_at (body_from kind) (codes "d") (view value.now))) }
 {
     let body = field_at(value, "d")?;
@@ -49,7 +51,7 @@ fn body_in(alloc: Global, kind: Kind, value: &Value) -> Result<Dispatch, Dispatc
 }
 
 // The one dispatch that the value can be.
-fn candidate(alloc: Global, value: &Value) -> Result<(Dispatch, u64), DispatchFault>
+fn candidate(alloc: Global, value: &Node<'_>) -> Result<(Dispatch, u64), DispatchFault>
     ensures { UnlessMemory result (candidate (view value.now)) }
 {
     let kind = kind_in(value)?;
@@ -58,15 +60,39 @@ fn candidate(alloc: Global, value: &Value) -> Result<(Dispatch, u64), DispatchFa
     Ok((dispatch, number))
 }
 
-// Whether the value is that of the dispatch.
-fn is_of(alloc: Global, value: &Value, dispatch: &Dispatch, number: u64) -> Result<bool, AllocError>
-    requires { depth (view value.now) ≤ max_depth }
-    ensures yes { IfOk result (λ same. same ≡ true → view value.now ≡ data_of dispatch.now number) }
-    ensures no { IfOk result (λ same. same ≡ false → view value.now ≢ data_of dispatch.now number) }
+// The one dispatch that the text can be of.
+fn candidate_in(alloc: Global, text: &str) -> Result<(Dispatch, u64), DispatchFault>
+    ensures { UnlessMemory result (and_then (ok_or (reading text.now) NotJson) candidate) }
+{
+    let mut scratch = Scratch::new(alloc);
+    let Some(value) = node_of(alloc, text.as_bytes(), &mut scratch)? else {
+        return Err(DispatchFault::NotJson);
+    };
+    candidate(alloc, &value)
+}
+
+// Whether a text's JSON is that for which a compact text was written.
+fn is_read_as(alloc: Global, text: &str, written: &str) -> Result<bool, AllocError>
+    ensures yes { (d : Data) → IsWritable d → written.now ≡ compact_text d → IfOk result (λ same. same ≡ true → reading text.now ≡ Some d) }
+    ensures no { (d : Data) → IsWritable d → written.now ≡ compact_text d → IfOk result (λ same. same ≡ false → reading text.now ≢ Some d) }
+{
+    match value_of(alloc, text.as_bytes())? {
+        Some(value) => is_written_as(alloc, &value, written),
+        None => Ok(false),
+    }
+}
+
+// Whether the text's JSON is that of the dispatch. A text as [`write`] gives it is not read again.
+fn is_of(alloc: Global, text: &str, dispatch: &Dispatch, number: u64) -> Result<bool, AllocError>
+    ensures yes { IfOk result (λ same. same ≡ true → reading text.now ≡ Some (data_of dispatch.now number)) }
+    ensures no { IfOk result (λ same. same ≡ false → reading text.now ≢ Some (data_of dispatch.now number)) }
     ensures fits { OnOk result (DispatchFits dispatch.now) }
 {
-    let text = write(alloc, dispatch, number)?;
-    is_written_as(alloc, value, text.as_str())
+    let written = write(alloc, dispatch, number)?;
+    if written.as_str() == text {
+        return Ok(true);
+    }
+    is_read_as(alloc, text, written.as_str())
 }
 
 /// Reads a dispatch and its number from a text, whatever its spaces and the order of its keys.
@@ -79,11 +105,8 @@ pub fn read(alloc: Global, text: &str) -> Result<(Dispatch, u64), DispatchFault>
     ensures each { (dispatch : ADispatch) → (number : ℕ) → IsTextOf text.now dispatch number → UnlessMemory result (Ok (dispatch, number)) }
     ensures fault { IfErr result (λ fault. (fault ≡ Memory) ⊎ (fault ≡ fault_of (reading text.now))) }
 {
-    let Some(value) = value_of(alloc, text.as_bytes())? else {
-        return Err(DispatchFault::NotJson);
-    };
-    let (dispatch, number) = candidate(alloc, &value)?;
-    let Ok(is_exact) = is_of(alloc, &value, &dispatch, number) else {
+    let (dispatch, number) = candidate_in(alloc, text)?;
+    let Ok(is_exact) = is_of(alloc, text, &dispatch, number) else {
         drop(dispatch);
         return Err(DispatchFault::Memory);
     };

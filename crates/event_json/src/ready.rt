@@ -1,7 +1,7 @@
 //! The body of READY.
 
 ghost use Rattle.std.specs.Prelude.{◌≡◌, OnOk, IfSome, codes, option_map};
-ghost use Rattle.serde_json.specs.View.{view, items_view};
+ghost use Rattle.json_view.specs.Nodes.{view, items_view};
 ghost use Rattle.object_json.specs.Reading.{UnlessMemory};
 ghost use Rattle.object_json.specs.Reading.{items_from, list_at, optional_at};
 ghost use Rattle.object_json.specs.Added.{Adds, AddsTokens, member_tokens, member_tokens_if};
@@ -12,12 +12,12 @@ ghost use Rattle.object_json.specs.Fits.{Each, IsId};
 use collections::Seq;
 use dispatch_types::{Ready, Shard};
 use json::Writer;
+use json_view::{JsonValue, Node, list_of};
 use object_json::fault::ReadFault;
 use object_json::field::{close, flag_field, id_field, key, number_field, open, text_field};
 use object_json::readable::value_at;
 use object_json::reading::{field_at, id_at, text_at};
 use object_json::written::value_field;
-use serde_json::Value;
 use snowflake_id::Snowflake;
 use std::alloc::{AllocError, Global};
 
@@ -105,7 +105,7 @@ pub fn write_ready(alloc: Global, out: &mut Writer, ready: &Ready) -> Result<(),
     Ok(())
 }
 
-fn guilds_from(alloc: Global, list: &[Value]) -> Result<Seq<Snowflake>, ReadFault>
+fn guilds_from(alloc: Global, list: &[Node<'_>]) -> Result<Seq<Snowflake>, ReadFault>
     ensures { UnlessMemory result (items_from unavailable_from (items_view list.now)) }
 {
     let mut guilds = Seq::new(alloc);
@@ -116,19 +116,17 @@ fn guilds_from(alloc: Global, list: &[Value]) -> Result<Seq<Snowflake>, ReadFaul
     Ok(guilds)
 }
 
-fn guilds_at(alloc: Global, body: &Value) -> Result<Seq<Snowflake>, ReadFault>
+fn guilds_at(alloc: Global, body: &Node<'_>) -> Result<Seq<Snowflake>, ReadFault>
     ensures { UnlessMemory result (list_at unavailable_from (codes "guilds") (view body.now)) }
 {
-    let guilds = field_at(body, "guilds")?
-        .as_array()
-        .ok_or(ReadFault::BadField)?;
-    guilds_from(alloc, guilds.as_slice())
+    let guilds = list_of(field_at(body, "guilds")?).ok_or(ReadFault::BadField)?;
+    guilds_from(alloc, guilds)
 }
 
-fn whole_from(value: &Value) -> Result<u64, ReadFault>
+fn whole_from(value: &Node<'_>) -> Result<u64, ReadFault>
     ensures { result ≡ whole_from (view value.now) }
 {
-    value.as_u64().ok_or(ReadFault::BadField)
+    value.whole().ok_or(ReadFault::BadField)
 }
 
 fn shard_of(id: u64, count: u64) -> Result<Shard, ReadFault>
@@ -137,7 +135,7 @@ fn shard_of(id: u64, count: u64) -> Result<Shard, ReadFault>
     Shard::new(id, count).map_err(|_| ReadFault::BadField)
 }
 
-fn pair_from(list: &[Value]) -> Result<Shard, ReadFault>
+fn pair_from(list: &[Node<'_>]) -> Result<Shard, ReadFault>
     ensures { result ≡ pair_from (items_view list.now) }
 {
     if list.len() != 2 {
@@ -148,24 +146,24 @@ fn pair_from(list: &[Value]) -> Result<Shard, ReadFault>
     shard_of(id, count)
 }
 
-fn shard_from(value: &Value) -> Result<Shard, ReadFault>
+fn shard_from(value: &Node<'_>) -> Result<Shard, ReadFault>
     ensures { result ≡ shard_from (view value.now) }
 {
-    let pair = value.as_array().ok_or(ReadFault::BadField)?;
-    pair_from(pair.as_slice())
+    let pair = list_of(value).ok_or(ReadFault::BadField)?;
+    pair_from(pair)
 }
 
-fn shard_at(body: &Value) -> Result<Option<Shard>, ReadFault>
+fn shard_at(body: &Node<'_>) -> Result<Option<Shard>, ReadFault>
     ensures { result ≡ optional_at shard_from (codes "shard") (view body.now) }
 {
-    match body.get("shard") {
+    match body.member("shard") {
         None => Ok(None),
         Some(shard) => Ok(Some(shard_from(shard)?)),
     }
 }
 
 /// Reads the body of Ready.
-pub fn read_ready(alloc: Global, body: &Value) -> Result<Ready, ReadFault>
+pub fn read_ready(alloc: Global, body: &Node<'_>) -> Result<Ready, ReadFault>
     ensures { UnlessMemory result (ready_from (view body.now)) }
 {
     let guilds = guilds_at(alloc, body)?;

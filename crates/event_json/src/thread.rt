@@ -1,7 +1,7 @@
 //! The bodies of THREAD_CREATE, THREAD_DELETE, THREAD_LIST_SYNC and THREAD_MEMBERS_UPDATE.
 
 ghost use Rattle.std.specs.Prelude.{◌≡◌, OnOk};
-ghost use Rattle.serde_json.specs.View.{view};
+ghost use Rattle.json_view.specs.Nodes.{view};
 ghost use Rattle.object_json.specs.Reading.{UnlessMemory};
 ghost use Rattle.object_json.specs.Added.{Adds};
 ghost use Rattle.event_json.specs.Thread.{thread_create_data, thread_delete_data, thread_list_sync_data, thread_members_update_data, thread_create_from, thread_delete_from, thread_list_sync_from, thread_members_update_from, ThreadCreateFits, ThreadDeleteFits, ThreadListSyncFits, ThreadMembersUpdateFits};
@@ -10,13 +10,13 @@ use dispatch_types::{
     ThreadCreate, ThreadDelete, ThreadListSync, ThreadMembersUpdate, ThreadObject,
 };
 use json::Writer;
+use json_view::Node;
 use object_json::fault::ReadFault;
 use object_json::field::{close, id_field, open};
 use object_json::readable::{Readable, list_at, list_if_at, optional_at};
 use object_json::reading::{id_at, is_there, thread_kind_at};
 use object_json::thread::{thread_count_at, thread_count_field, thread_kind_field, write_thread};
 use object_json::written::{list_field, list_field_if};
-use serde_json::Value;
 use std::alloc::{AllocError, Global};
 
 /// Writes the body of Thread Create.
@@ -89,7 +89,7 @@ pub fn write_thread_members_update(
 }
 
 /// Reads the body of Thread Create.
-pub fn read_thread_create(alloc: Global, body: &Value) -> Result<ThreadCreate, ReadFault>
+pub fn read_thread_create(alloc: Global, body: &Node<'_>) -> Result<ThreadCreate, ReadFault>
     ensures { UnlessMemory result (thread_create_from (view body.now)) }
 {
     let thread = ThreadObject::read(alloc, body)?;
@@ -103,7 +103,7 @@ pub fn read_thread_create(alloc: Global, body: &Value) -> Result<ThreadCreate, R
 }
 
 /// Reads the body of Thread Delete.
-pub fn read_thread_delete(body: &Value) -> Result<ThreadDelete, ReadFault>
+pub fn read_thread_delete(body: &Node<'_>) -> Result<ThreadDelete, ReadFault>
     ensures { result ≡ thread_delete_from (view body.now) }
 {
     let guild = id_at(body, "guild_id")?;
@@ -119,7 +119,7 @@ pub fn read_thread_delete(body: &Value) -> Result<ThreadDelete, ReadFault>
 }
 
 /// Reads the body of Thread List Sync.
-pub fn read_thread_list_sync(alloc: Global, body: &Value) -> Result<ThreadListSync, ReadFault>
+pub fn read_thread_list_sync(alloc: Global, body: &Node<'_>) -> Result<ThreadListSync, ReadFault>
     ensures { UnlessMemory result (thread_list_sync_from (view body.now)) }
 {
     let channels = list_at(alloc, body, "channel_ids")?;
@@ -137,7 +137,7 @@ pub fn read_thread_list_sync(alloc: Global, body: &Value) -> Result<ThreadListSy
 /// Reads the body of Thread Members Update.
 pub fn read_thread_members_update(
     alloc: Global,
-    body: &Value,
+    body: &Node<'_>,
 ) -> Result<ThreadMembersUpdate, ReadFault>
     ensures { UnlessMemory result (thread_members_update_from (view body.now)) }
 {

@@ -1,18 +1,18 @@
 //! The body of VOICE_STATE_UPDATE.
 
 ghost use Rattle.std.specs.Prelude.{OnOk};
-ghost use Rattle.serde_json.specs.View.{view};
+ghost use Rattle.json_view.specs.Nodes.{view};
 ghost use Rattle.object_json.specs.Reading.{UnlessMemory};
 ghost use Rattle.object_json.specs.Added.{Adds};
 ghost use Rattle.event_json.specs.Voice.{voice_state_update_data, voice_state_update_from, VoiceStateUpdateFits};
 
 use dispatch_types::{VoiceObject, VoiceStateUpdate};
 use json::Writer;
+use json_view::Node;
 use object_json::fault::ReadFault;
 use object_json::readable::Readable;
 use object_json::reading::id_at;
 use object_json::voice::write_voice;
-use serde_json::Value;
 use std::alloc::{AllocError, Global};
 
 /// Writes the body of Voice State Update.
@@ -27,7 +27,10 @@ pub fn write_voice_state_update(
 }
 
 /// Reads the body of Voice State Update.
-pub fn read_voice_state_update(alloc: Global, body: &Value) -> Result<VoiceStateUpdate, ReadFault>
+pub fn read_voice_state_update(
+    alloc: Global,
+    body: &Node<'_>,
+) -> Result<VoiceStateUpdate, ReadFault>
     ensures { UnlessMemory result (voice_state_update_from (view body.now)) }
 {
     let guild = id_at(body, "guild_id")?;

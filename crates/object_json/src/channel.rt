@@ -15,7 +15,7 @@ use crate::written::{Written, list_field};
 use dispatch_types::{ChannelObject, OverwriteObject};
 use guild_model::{ChannelKind, OverwriteKind};
 use json::Writer;
-use serde_json::Value;
+use json_view::Node;
 use std::alloc::{AllocError, Global};
 
 fn overwrite_kind_field(out: &mut Writer, kind: OverwriteKind) -> Result<(), AllocError>
@@ -78,7 +78,7 @@ impl Readable for OverwriteObject {
 
     ghost from = { overwrite_from };
 
-    fn read(_alloc: Global, object: &Value) -> Result<OverwriteObject, ReadFault> {
+    fn read(_alloc: Global, object: &Node<'_>) -> Result<OverwriteObject, ReadFault> {
         let allow = mask_at(object, "allow")?;
         let deny = mask_at(object, "deny")?;
         let id = id_at(object, "id")?;
@@ -97,7 +97,7 @@ impl Readable for ChannelObject {
 
     ghost from = { channel_from };
 
-    fn read(alloc: Global, object: &Value) -> Result<ChannelObject, ReadFault> {
+    fn read(alloc: Global, object: &Node<'_>) -> Result<ChannelObject, ReadFault> {
         let guild = id_at(object, "guild_id")?;
         let id = id_at(object, "id")?;
         let name = text_at(alloc, object, "name")?;

@@ -11,7 +11,7 @@ use crate::readable::{Readable, list_at, nullable_at, value_at};
 use crate::written::{Written, list_field, value_field};
 use dispatch_types::MemberObject;
 use json::Writer;
-use serde_json::Value;
+use json_view::Node;
 use snowflake_id::Snowflake;
 use std::alloc::{AllocError, Global};
 
@@ -56,7 +56,7 @@ impl Readable for MemberObject {
 
     ghost from = { member_from };
 
-    fn read(alloc: Global, object: &Value) -> Result<MemberObject, ReadFault> {
+    fn read(alloc: Global, object: &Node<'_>) -> Result<MemberObject, ReadFault> {
         let timeout = nullable_at(alloc, object, "communication_disabled_until")?;
         let joined = value_at(alloc, object, "joined_at")?;
         let nick = nullable_at(alloc, object, "nick")?;

@@ -13,7 +13,7 @@ use crate::written::{Written, list_field, parts_field, value_field};
 use dispatch_types::MessageObject;
 use guild_model::Moment;
 use json::Writer;
-use serde_json::Value;
+use json_view::Node;
 use snowflake_id::Snowflake;
 use std::alloc::{AllocError, Global};
 
@@ -69,7 +69,7 @@ impl Readable for MessageObject {
 
     ghost from = { message_from };
 
-    fn read(alloc: Global, object: &Value) -> Result<MessageObject, ReadFault> {
+    fn read(alloc: Global, object: &Node<'_>) -> Result<MessageObject, ReadFault> {
         let attachments = parts_at(object, "attachments")?;
         let author = value_at(alloc, object, "author")?;
         let channel = id_at(object, "channel_id")?;

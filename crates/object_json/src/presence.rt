@@ -7,7 +7,7 @@ ghost use Rattle.guild_model.specs.Statuses.{status_name, status_of_shown};
 ghost use Rattle.object_json.specs.Fits.{IsId};
 ghost use Rattle.object_json.specs.Presence.{partial_user_data, partial_user_at};
 ghost use Rattle.std.specs.Prelude.{◌≡◌};
-ghost use Rattle.serde_json.specs.View.{view};
+ghost use Rattle.json_view.specs.Nodes.{view};
 
 use crate::fault::ReadFault;
 use crate::field::{close, empty_field, id_field, key, open};
@@ -17,7 +17,7 @@ use crate::written::Written;
 use dispatch_types::PresenceObject;
 use guild_model::{ShownStatus, Status};
 use json::Writer;
-use serde_json::Value;
+use json_view::Node;
 use snowflake_id::Snowflake;
 use std::alloc::{AllocError, Global};
 
@@ -59,7 +59,7 @@ impl Written for PresenceObject {
     }
 }
 
-fn partial_user_at(object: &Value) -> Result<Snowflake, ReadFault>
+fn partial_user_at(object: &Node<'_>) -> Result<Snowflake, ReadFault>
     ensures { result ≡ partial_user_at (view object.now) }
 {
     let user = field_at(object, "user")?;
@@ -71,7 +71,7 @@ impl Readable for PresenceObject {
 
     ghost from = { presence_from };
 
-    fn read(_alloc: Global, object: &Value) -> Result<PresenceObject, ReadFault> {
+    fn read(_alloc: Global, object: &Node<'_>) -> Result<PresenceObject, ReadFault> {
         let guild = id_at(object, "guild_id")?;
         let status = status_at(object, "status")?;
         let user = partial_user_at(object)?;

@@ -7,7 +7,7 @@ use crate::reading::{id_at, mask_at, small_at, text_at};
 use crate::written::Written;
 use guild_model::Role;
 use json::Writer;
-use serde_json::Value;
+use json_view::Node;
 use std::alloc::{AllocError, Global};
 
 impl Written for Role {
@@ -34,7 +34,7 @@ impl Readable for Role {
 
     ghost from = { role_from };
 
-    fn read(alloc: Global, object: &Value) -> Result<Role, ReadFault> {
+    fn read(alloc: Global, object: &Node<'_>) -> Result<Role, ReadFault> {
         let id = id_at(object, "id")?;
         let name = text_at(alloc, object, "name")?;
         let permissions = mask_at(object, "permissions")?;

@@ -5,7 +5,7 @@ ghost use Rattle.json.specs.Token.{begin_object};
 ghost use Rattle.object_json.specs.Added.{Adds, AddsTokens, Ends, member_tokens, member_tokens_if};
 ghost use Rattle.object_json.specs.Kinds.{digits, count};
 ghost use Rattle.guild_model.specs.Numbers.{thread_kind_number};
-ghost use Rattle.serde_json.specs.View.{view};
+ghost use Rattle.json_view.specs.Nodes.{view};
 ghost use Rattle.object_json.specs.Reading.{UnlessMemory, optional_at};
 ghost use Rattle.object_json.specs.Fits.{IsId, IsMoment};
 ghost use Rattle.object_json.specs.Thread.{ThreadMemberFits, ThreadRestFits, ThreadFits, thread_count_at, archived_at, joined_from, thread_data, thread_rest, thread_member_data, joined_data, metadata_data};
@@ -21,7 +21,7 @@ use crate::written::{Written, value_field};
 use dispatch_types::{JoinedThread, ThreadCount, ThreadMemberObject, ThreadObject};
 use guild_model::{Moment, ThreadKind};
 use json::Writer;
-use serde_json::Value;
+use json_view::{JsonValue, Node};
 use std::alloc::{AllocError, Global};
 
 /// Writes a thread's type under its key.
@@ -198,7 +198,7 @@ impl Readable for ThreadMemberObject {
 
     ghost from = { thread_member_from };
 
-    fn read(alloc: Global, object: &Value) -> Result<ThreadMemberObject, ReadFault> {
+    fn read(alloc: Global, object: &Node<'_>) -> Result<ThreadMemberObject, ReadFault> {
         let thread = id_at(object, "id")?;
         let joined = value_at(alloc, object, "join_timestamp")?;
         let user = id_at(object, "user_id")?;
@@ -211,13 +211,13 @@ impl Readable for ThreadMemberObject {
 }
 
 /// How many users are in a thread, at most 50.
-pub fn thread_count_at(object: &Value) -> Result<ThreadCount, ReadFault>
+pub fn thread_count_at(object: &Node<'_>) -> Result<ThreadCount, ReadFault>
     ensures { result ≡ thread_count_at (view object.now) }
 {
     ThreadCount::new(number_at(object, "member_count")?).map_err(|_| ReadFault::BadField)
 }
 
-fn archived_at(object: &Value) -> Result<bool, ReadFault>
+fn archived_at(object: &Node<'_>) -> Result<bool, ReadFault>
     ensures { result ≡ archived_at (view object.now) }
 {
     let metadata = field_at(object, "thread_metadata")?;
@@ -229,7 +229,7 @@ impl Readable for ThreadObject {
 
     ghost from = { thread_from };
 
-    fn read(alloc: Global, object: &Value) -> Result<ThreadObject, ReadFault> {
+    fn read(alloc: Global, object: &Node<'_>) -> Result<ThreadObject, ReadFault> {
         let guild = id_at(object, "guild_id")?;
         let id = id_at(object, "id")?;
         let count = thread_count_at(object)?;
@@ -251,10 +251,10 @@ impl Readable for ThreadObject {
     }
 }
 
-fn joined_at(alloc: Global, object: &Value) -> Result<Option<Moment>, ReadFault>
+fn joined_at(alloc: Global, object: &Node<'_>) -> Result<Option<Moment>, ReadFault>
     ensures { UnlessMemory result (optional_at joined_from (codes "member") (view object.now)) }
 {
-    match object.get("member") {
+    match object.member("member") {
         None => Ok(None),
         Some(member) => Ok(Some(value_at(alloc, member, "join_timestamp")?)),
     }
@@ -265,7 +265,7 @@ impl Readable for JoinedThread {
 
     ghost from = { joined_thread_from };
 
-    fn read(alloc: Global, object: &Value) -> Result<JoinedThread, ReadFault> {
+    fn read(alloc: Global, object: &Node<'_>) -> Result<JoinedThread, ReadFault> {
         let thread = ThreadObject::read(alloc, object)?;
         let joined = joined_at(alloc, object)?;
         Ok(JoinedThread { thread, joined })

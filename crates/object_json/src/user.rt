@@ -7,7 +7,7 @@ use crate::reading::{flag_at, id_at, text_at};
 use crate::written::Written;
 use guild_model::User;
 use json::Writer;
-use serde_json::Value;
+use json_view::Node;
 use std::alloc::{AllocError, Global};
 
 impl Written for User {
@@ -33,7 +33,7 @@ impl Readable for User {
 
     ghost from = { user_from };
 
-    fn read(alloc: Global, object: &Value) -> Result<User, ReadFault> {
+    fn read(alloc: Global, object: &Node<'_>) -> Result<User, ReadFault> {
         let bot = flag_at(object, "bot")?;
         let id = id_at(object, "id")?;
         let name = text_at(alloc, object, "username")?;

@@ -12,7 +12,7 @@ use crate::reading::{flag_at, id_at};
 use crate::written::Written;
 use dispatch_types::VoiceObject;
 use json::Writer;
-use serde_json::Value;
+use json_view::Node;
 use snowflake_id::Snowflake;
 use std::alloc::{AllocError, Global};
 
@@ -55,7 +55,7 @@ impl Readable for VoiceObject {
 
     ghost from = { voice_from };
 
-    fn read(alloc: Global, object: &Value) -> Result<VoiceObject, ReadFault> {
+    fn read(alloc: Global, object: &Node<'_>) -> Result<VoiceObject, ReadFault> {
         let channel = nullable_at(alloc, object, "channel_id")?;
         let self_deaf = flag_at(object, "self_deaf")?;
         let self_mute = flag_at(object, "self_mute")?;

@@ -1,5 +1,5 @@
 use Rattle.std.proofs.Common.{◌≡◌, ◌++◌, drop, Ok}
-use Rattle.serde_json.specs.View.{items_view}
+use Rattle.json_view.specs.Nodes.{items_view}
 use Rattle.json_view.specs.Fields.{and_then}
 use Rattle.object_json.specs.Reading.{items_from}
 use Rattle.event_json.specs.Ready.{unavailable_from}
