@@ -1,3 +1,4 @@
 pub mod TierFacts
 pub mod Grants
 pub mod Granted
+pub mod Alike

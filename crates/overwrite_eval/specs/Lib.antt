@@ -1,3 +1,4 @@
 pub mod FromBase
 pub mod Looks
 pub mod Tiers
+pub mod MaskIn

@@ -2,11 +2,13 @@
 #![tactic(auto)]
 
 mod bounded;
+mod mask_source;
 mod masks;
 mod sight;
 mod standing;
 mod tiers;
 
 pub use bounded::{base_mask, channel_mask, mask_from, sees_channel, sees_thread};
+pub use mask_source::MaskSource;
 pub use masks::part_mask;
 pub use standing::StandingRef;
