@@ -2,15 +2,13 @@
 ghost use Rattle.std.specs.Prelude.{◌≡◌};
 
 use gate_outside::clocks::Clock;
+use gate_outside::machine_clock::PAUSE_MS;
 use std::sync::Wait;
 use std::time::Duration;
 use wake_bell::Bell;
 
-// For so many milliseconds at most a pause rests.
-const REST_MS: u64 = 1;
-
-/// A clock that answers what another one does. A pause of it ends when a bell is rung, or has been since
-/// the last pause.
+/// A clock that answers what another one does. Its pauses are not those of that clock: one ends when a
+/// bell is rung, or has been since the last pause.
 pub(crate) struct BellClock<'a, C, R> {
     clock: C,
     rt: &'a R,
@@ -54,7 +52,7 @@ impl<'a, C: Clock, R: Wait> Clock for BellClock<'a, C, R> {
 
     fn pause(&mut self) {
         self.bell
-            .rest(self.rt, self.heard, Duration::from_millis(REST_MS));
+            .rest(self.rt, self.heard, Duration::from_millis(PAUSE_MS));
         self.heard = self.bell.heard();
     }
 }

@@ -1,13 +1,11 @@
 //! The word by which all parts of a run begin.
 
+use gate_outside::machine_clock::PAUSE_MS;
 use std::alloc::{AllocError, Global};
 use std::sync::atomic::{AtomicBool, Ordering};
 use std::sync::{Arc, Wait};
 use std::thread;
 use std::time::{Clock, Duration};
-
-// For so many milliseconds a part rests before it looks again whether the word was given.
-const REST_MS: u64 = 1;
 
 /// The word by which all parts of a run begin. Each part has a share of it.
 pub struct StartWord {
@@ -53,7 +51,7 @@ impl StartWord {
             if self.given.load(Ordering::SeqCst) {
                 return;
             }
-            thread::sleep(rt, Duration::from_millis(REST_MS));
+            thread::sleep(rt, Duration::from_millis(PAUSE_MS));
         }
         unreachable!()
     }

@@ -23,7 +23,8 @@ use Rattle.guild_places.specs.Places.{AreDistinct, guilds_of}
 use Rattle.worker_run.specs.Notes.{AreNoted}
 use Rattle.worker_run.specs.Turns.{AreTurns}
 use Rattle.guild_posts.specs.Posts.{ArePasses}
-use Rattle.worker_run.specs.Moves.{Serving, Now, now, IsReady, CountsLinks, DoorFails}
+use Rattle.worker_run.specs.Moves.{Serving, Now, now, IsReady, CountsLinks}
+use Rattle.worker_run.specs.Faults.{DoorFails}
 use Rattle.worker_run.specs.Running.{serving, Leaves, Runs, Reports}
 use Rattle.worker_run.specs.Works.{outside, IsWhole, OfEach, IsReport, Answers, Works}
 use Rattle.worker_run.specs.declared.fault.WorkFault.{WorkFault}
@@ -73,6 +74,7 @@ works_not law k door faults clock readers passes ended noted all is =
       to_open = λ w represents bots guilds number url first. tt;
       law = λ w represents bots guilds number url. law_is_met law.workers [] readers readers turns (all_read_none readers all) w bots guilds number url;
       answers = inl (noted_none noted);
+      failed = refl;
     }
 
 -- ---- after the last turn
@@ -109,9 +111,9 @@ module _ (law : TheLaw) (k : KeptWorker) (readers : List (ℕ × Seeing)) (passe
 
     works_by : (result : Result WorkReport WorkFault) → CountsLinks (serving k no_links readers passes false) s d0 d1
         → ((es : Events) (before : Option (List ReturnedLink)) → Meets es s.links before d1.returned → AllMeet es s.links.count before d2.returned)
-        → Answers k h s.links.count (outside d0 n0 c0 readers passes m0) (outside d2 n2 c1 s.readers s.passes m1) result
+        → Answers k h s.links.count (outside d0 n0 c0 readers passes m0) (outside d2 n2 c1 s.readers s.passes m1) result → DoorFails n0 n2 result
         → Works k h (outside d0 n0 c0 readers passes m0) (outside d2 n2 c1 s.readers s.passes m1) result
-    works_by result counts back answers =
+    works_by result counts back answers failed =
         let more : d1.given + 0 ≡ d0.given + s.links.count = counts in
         record {
           turns = runs.turns;
@@ -127,6 +129,7 @@ module _ (law : TheLaw) (k : KeptWorker) (readers : List (ℕ × Seeing)) (passe
           to_open = λ w represents. goes_to_open law.outputs h w (front_given h worked runs.leaves w represents) links_meet.in_place;
           law = λ w represents bots guilds number url. law_is_met law.workers (inputs h) readers s.readers runs.turns runs.readers w bots guilds number url;
           answers = answers;
+          failed = failed;
         }
 
     answers_ok : (report : WorkReport) → FollowsAll k h [] s.worker → AreNoted (inputs h) m0 m1 → (d1.ended ≡ true) × (s.links.links ≡ []) × All HasSeenAll s.readers → Reports s.worker s.links.count report
@@ -142,6 +145,13 @@ module _ (law : TheLaw) (k : KeptWorker) (readers : List (ℕ × Seeing)) (passe
   answers_err h fault.Quit leaves rose faults = (leaves.1.1, (whole_given h leaves.0, leaves.1.0))
   answers_err h fault.Spent leaves rose faults = (leaves.1.1, leaves.1.0)
   answers_err h fault.Memory leaves rose faults = leaves.1
+
+-- links that the door takes back leave its count
+failed_at : (n0 n1 n2 : ℕ) (f : WorkFault) → DoorFails {T = Unit {0}} n0 n1 (Err f) → n2 ≡ n1 → DoorFails {T = WorkReport} n0 n2 (Err f)
+failed_at n0 n1 n2 fault.Door cause same = subst (λ n. Rose n0 n) (sym same) cause
+failed_at n0 n1 n2 fault.Quit cause same = same ∙ cause
+failed_at n0 n1 n2 fault.Spent cause same = same ∙ cause
+failed_at n0 n1 n2 fault.Memory cause same = same ∙ cause
 
 -- what `run` and `hand_back` leave, and what `work` makes of it
 pub record HasRun (k : KeptWorker) (readers back_readers : List (ℕ × Seeing)) (passes back_passes : List Sender) (start s : Serving) (d0 d1 d2 : DoorTale) (n0 n1 n2 : ℕ) (c0 c1 : ClockTale) (m0 m1 : Option (List Given)) (worked : Result (Unit {0}) WorkFault) : Type 0 where
@@ -188,7 +198,7 @@ module _ (k : KeptWorker) (readers back_readers : List (ℕ × Seeing)) (passes 
       works_back (Ok report) ran.readers_back ran.passes_back (
         h,
         works_by ran.law k readers passes s d0 d1 d2 n0 n1 n2 c0 c1 m0 m1 h (Ok u) runs ran.same (Ok report) (counts_from (Ok u) done) ran.back
-            (answers_ok ran.law k readers passes s d0 d1 d2 n0 n1 n2 c0 c1 m0 m1 h (Ok u) runs ran.same report runs.leaves.0 runs.leaves.1 done.over reports),
+            (answers_ok ran.law k readers passes s d0 d1 d2 n0 n1 n2 c0 c1 m0 m1 h (Ok u) runs ran.same report runs.leaves.0 runs.leaves.1 done.over reports) (ran.faults ∙ done.cause),
       )
 
   pub works_cut : (worked : Result (Unit {0}) WorkFault) (result : Result WorkReport WorkFault) (f : WorkFault) → worked ≡ Err f → result ≡ Err f → Ran worked
@@ -202,5 +212,5 @@ module _ (k : KeptWorker) (readers back_readers : List (ℕ × Seeing)) (passes 
       (works_back (Err f) ran.readers_back ran.passes_back (
         h,
         works_by ran.law k readers passes s d0 d1 d2 n0 n1 n2 c0 c1 m0 m1 h (Err f) runs ran.same (Err f) (counts_from (Err f) done) ran.back
-            (answers_err ran.law k readers passes s d0 d1 d2 n0 n1 n2 c0 c1 m0 m1 h f runs.leaves done.cause ran.faults),
+            (answers_err ran.law k readers passes s d0 d1 d2 n0 n1 n2 c0 c1 m0 m1 h f runs.leaves done.cause ran.faults) (failed_at n0 n1 n2 f done.cause ran.faults),
       ))

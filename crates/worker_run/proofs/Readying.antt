@@ -17,8 +17,8 @@ use Rattle.worker_run.specs.Hubs.{AllRead, IsReader}
 use Rattle.guild_places.specs.Places.{AreDistinct}
 use Rattle.guild_posts.specs.Posts.{ArePasses}
 use Rattle.worker_run.specs.Turns.{is_loss}
-use Rattle.worker_run.specs.Faults.{by_door}
-use Rattle.worker_run.specs.Moves.{Serving, Now, IsReady, CountsLinks, DoorFails, MayStop, Goes, Stops, GoesOrStops, Handles, HandlesNot}
+use Rattle.worker_run.specs.Faults.{by_door, DoorFails}
+use Rattle.worker_run.specs.Moves.{Serving, Now, IsReady, CountsLinks, MayStop, Goes, Stops, GoesOrStops, Handles, HandlesNot}
 use Rattle.worker_run.specs.declared.fault.WorkFault.{WorkFault}
 use Rattle.worker_run.specs.declared.fault.WorkFault.TheVariants as fault
 use Rattle.worker_run.proofs.Hubs.{readers_kept, same_guilds, all_read_none}

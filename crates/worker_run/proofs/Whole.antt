@@ -14,7 +14,8 @@ use Rattle.worker_run.specs.Stopping.{TakesNot}
 use Rattle.worker_run.specs.Turns.{AreWholeTurns, AreTurns}
 use Rattle.guild_posts.specs.Posts.{AreSent, has_sent_all}
 use Rattle.worker_run.specs.Works.{IsSpent}
-use Rattle.worker_run.specs.Moves.{Serving, Now, now, GoesOutside, Goes, Halts, Stops, DoorFails, GoesOrStops, AreAllTurns, AreAllTurnsCut}
+use Rattle.worker_run.specs.Moves.{Serving, Now, now, GoesOutside, Goes, Halts, Stops, GoesOrStops, AreAllTurns, AreAllTurnsCut}
+use Rattle.worker_run.specs.Faults.{DoorFails}
 use Rattle.worker_run.specs.Running.{Quietly, Leaves, Runs}
 use Rattle.worker_run.specs.declared.fault.WorkFault.{WorkFault}
 use Rattle.worker_run.specs.declared.fault.WorkFault.TheVariants as fault

@@ -1,6 +1,7 @@
 -- The faults of what lies below, as faults of a worker.
-use Rattle.std.specs.Prelude.{◌≡◌, List, true}
+use Rattle.std.specs.Prelude.{◌≡◌, ℕ, List, true, Result, Ok, Err}
 use Rattle.std.specs.List.{list_any}
+use Rattle.gate_outside.specs.Causes.{Rose}
 use Rattle.gate_outside.specs.declared.faults.Fault.{Fault}
 use Rattle.gate_outside.specs.declared.faults.Fault.TheVariants as outside
 use Rattle.edit_post.specs.declared.send_refused.SendRefused.{SendRefused}
@@ -24,6 +25,12 @@ by_post post.Memory = fault.Memory
 abbrev pub by_door : Fault → WorkFault
 by_door outside.Failed = fault.Door
 by_door outside.Memory = fault.Memory
+
+-- only a fault of the door raises its count
+abbrev pub DoorFails : {T : Type 0} → ℕ → ℕ → Result T WorkFault → Type 0
+DoorFails before after (Ok x) = after ≡ before
+DoorFails before after (Err fault.Door) = Rose before after
+DoorFails before after (Err _) = after ≡ before
 
 -- a fault that no door and no hub has: `Spent` only if this is so, and `Memory`
 abbrev pub SpentOnlyIf : Type 0 → WorkFault → Type 0

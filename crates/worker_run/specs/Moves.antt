@@ -181,12 +181,6 @@ Stops h fault.Quit old new = Goes h old new × (list_any (λ (r : ℕ × Seeing)
 Stops h fault.Spent old new = Halts h old new × IsSpent h old.serving.worker new.serving.passes
 Stops h fault.Memory old new = Halts h old new
 
--- only a fault of the door raises its count
-abbrev pub DoorFails : {T : Type 0} → ℕ → ℕ → Result T WorkFault → Type 0
-DoorFails before after (Ok x) = after ≡ before
-DoorFails before after (Err fault.Door) = Rose before after
-DoorFails before after (Err _) = after ≡ before
-
 -- a part of a turn goes whole, by a history of one shape, or stops by one of another
 abbrev pub GoesOrStops : {T : Type 0} → (History → Type 0) → (History → Type 0) → Result T WorkFault → Now → Now → Type 0
 GoesOrStops IsWhole IsCut result old new = MatchResult result (λ _. (h : History) × (Goes h old new × IsWhole h)) (λ f. (h : History) × (Stops h f old new × IsCut h))

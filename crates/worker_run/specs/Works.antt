@@ -20,6 +20,7 @@ use Rattle.worker_run.specs.Histories.{History, inputs, events, ticks, wishes, t
 use Rattle.worker_run.specs.Workers.{any_spends}
 use Rattle.worker_run.specs.Hubs.{AllRead, IsUnread, IsAmong, HasSeenAll, logs_of}
 use Rattle.guild_places.specs.Places.{guilds_of}
+use Rattle.worker_run.specs.Faults.{DoorFails}
 use Rattle.worker_run.specs.Notes.{AreNoted, AreNotedButLast}
 use Rattle.guild_posts.specs.Posts.{AreSent, has_sent_all}
 use Rattle.worker_run.specs.Turns.{AreTurns}
@@ -109,3 +110,5 @@ pub record Works (k : KeptWorker) (h : History) (old new : Outside) (result : Re
   pub to_open : OfEach k (GoesToOpen h)
   pub law : OfEach k (MeetsLaw h old.readers new.readers)
   pub answers : Answers k h count old new result
+  -- the door's count rose exactly if it failed
+  pub failed : DoorFails old.door_faults new.door_faults result

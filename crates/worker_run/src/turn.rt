@@ -5,7 +5,8 @@ ghost use Rattle.gate_outside.specs.Clocks.{ClockTale};
 ghost use Rattle.open_links.specs.Links.{Holding};
 ghost use Rattle.open_links.specs.Calls.{IsSameDoor, Says};
 ghost use Rattle.guild_places.specs.Places.{guilds_of};
-ghost use Rattle.worker_run.specs.Moves.{IsReady, CountsLinks, DoorFails, GoesOrStops, AreLooks, AreFirstLooks, IsLookOf, IsLookOfOrNone, OpensOne, IsHeard, AreHeard, IsOneTick, IsOneTurn, IsOneTurnCut, AreAllTurns, AreAllTurnsCut, now};
+ghost use Rattle.worker_run.specs.Moves.{IsReady, CountsLinks, GoesOrStops, AreLooks, AreFirstLooks, IsLookOf, IsLookOfOrNone, OpensOne, IsHeard, AreHeard, IsOneTick, IsOneTurn, IsOneTurnCut, AreAllTurns, AreAllTurnsCut, now};
+ghost use Rattle.worker_run.specs.Faults.{DoorFails};
 
 use crate::fault::WorkFault;
 use crate::looks::Seen;
