@@ -1,8 +1,8 @@
 #!/usr/bin/env python3
 """Lets each call of the system fail while `gate run` plays a file: failing_calls.py [EVERY [SECONDS [NAMES]]]
 
-The files are all examples, three that end at a line that is no step, and one with a transcript, each of more than 65,536 bytes;
-each is played from a file and from standard input. First each is played with reads, with writes and with both of at most 1, 2, 3
+The files are all examples, three of examples/worked, three that end at a line that is no step, and others, one with a transcript of more
+than 65,536 bytes; each is played from a file and from standard input. First each is played with reads, with writes and with both of at most 1, 2, 3
 and 7 bytes: the transcript and the status stay. Then each opening, read, write and closing fails in turn, once alone and once
 with all after it, with several errors, with an end of the input or a write that takes nothing in its place, and with short reads
 and writes beside it, where at most 400 calls of a file are drawn. After a read that fails the status has to be 3 and the transcript that of the whole lines read; after a write
@@ -14,7 +14,6 @@ One of EVERY (1) such failures is tried, drawn by a fixed seed. After SECONDS (3
 separated by commas, the files with such a name alone are played.
 Where the reference is at hand (bench/faults/rig.py) it has said what each line prints; else a play of one byte a read does."""
 import collections
-import glob
 import os
 import queue
 import random
@@ -52,9 +51,7 @@ def long_file():
 
 
 def files():
-    for path in sorted(glob.glob(os.path.join(rig.ROOT, "examples/*.jsonl"))):
-        with open(path, "rb") as file:
-            yield os.path.basename(path), file.read()
+    yield from rig.examples()
     with open(os.path.join(rig.ROOT, "examples/first.jsonl"), "rb") as file:
         first = file.read()
     yield "no step", first + b'{"step":"edit","guild":"1","do":"nope"}\n' + first
@@ -189,7 +186,7 @@ class Trial:
             # An opening that is interrupted is tried again, and a closing without an error does not fail.
             numbers = [number for number, call in enumerate(known.calls, 1)
                        if reason not in ("nothing", "EINTR") or call.letter == "w" or call.letter == "r" and (call.answer > 0 or reason == "EINTR")]
-            if len(numbers) > MOST_CALLS:
+            if len(numbers) > MOST_CALLS and (read_most or write_most):
                 numbers = sorted(random.Random(wanted.name).sample(numbers, MOST_CALLS))
             for number in numbers:
                 # A call that is interrupted may be tried again, so not all are.
@@ -244,11 +241,9 @@ def main(every=1, seconds=3600, names=None):
         for worker in workers:
             worker.join()
     counts = trial.counts
-    print(f"failing calls: {counts['whole']} files whole, {counts['short']} plays with short reads and writes; failed: "
-          + ", ".join(f"{counts[place]} {name}" for place, name in enumerate(("openings", "reads", "writes", "closings", "lines on standard error")))
-          + (f"; {trial.left} plays or files left when the time was up" if trial.left else "") + f"; {len(trial.bad)} not as they should be"
-          + ("" if oracle else "; the reference was not at hand"))
-    sys.exit(bool(trial.bad) or not counts["whole"])
+    told = ", ".join(f"{counts[place]} {name}" for place, name in enumerate(("openings", "reads", "writes", "closings", "lines on standard error")))
+    rig.end(f"failing calls: {counts['whole']} files whole, {counts['short']} plays with short reads and writes; failed: {told}",
+            counts[1] + counts[2], len(trial.bad), [f"{trial.left} plays or files"] if trial.left else [], oracle)
 
 
 if __name__ == "__main__":

@@ -1,5 +1,6 @@
 #!/usr/bin/env python3
-"""Mutated lines of step files and mutated frames of clients, against the reference: fuzz_lines.py [LINES [FRAMES [SECONDS [SEED]]]]
+"""Mutated lines of step files and mutated frames of clients, against the reference: fuzz_lines.py [LINES [FRAMES [SECONDS [SEED]]]], or
+fuzz_lines.py --count COUNT, of COUNT lines and COUNT frames
 
 LINES (1,000) lines and FRAMES (10,000) frames are made of good ones, of the examples and of the reference's generator: fields left
 out, doubled, renamed, swapped, or of another kind; numbers at each bound and in odd spellings; bytes that are changed, left out,
@@ -8,8 +9,8 @@ the last of a file, after nothing, after a head or after a guild with a session.
 each. Frames go to a connection without a session and to one with, a new one wherever the last was closed. Status and
 transcript have to be the reference's, and the line on standard error has to name the file, the line and the fault.
 
-Of a difference the file is made small, and printed. What was tried depends on SEED (1) alone; SECONDS (3,600) end it before,
-and then it says how much was tried. Several processes play at once."""
+Of a difference the file is made small, and printed. What was tried depends on SEED (1) alone; SECONDS (3,600, and with a
+COUNT 36,000) end it before, and then it says how much was tried. Several processes play at once."""
 import collections
 import glob
 import json
@@ -414,9 +415,10 @@ def pieces(kind, seed, count, size, until):
         yield kind, f"{seed}/{kind}/{place}", min(size, count - place), until
 
 
-def main(lines=1000, frames=10000, seconds=3600, seed=1):
+def main(lines=1000, frames=10000, seconds=None, seed=1, count=None):
     rig.needed_program(), rig.needed_oracle()
-    until = time.monotonic() + float(seconds)
+    lines, frames = count or lines, count or frames
+    until = time.monotonic() + float(seconds or (36000 if count else 3600))
     tasks = [*pieces("lines", seed, int(lines), LINES_OF_A_PIECE, until), *pieces("frames", seed, int(frames), FRAMES_OF_A_FILE, until)]
     counts, bad, left = {"lines": collections.Counter(), "frames": collections.Counter()}, 0, 0
     with rig.Room() as room, multiprocessing.Pool(os.cpu_count() or 1, begin, (room.folder,)) as pool:

@@ -14,7 +14,7 @@ import tempfile
 
 BASE = dict(members=100, channels=100, threads=100, sessions=8)
 ROWS = (
-    [("members", count) for count in (10, 100, 1000)]
+    [("members", count) for count in (10, 100, 1000, 5000)]
     + [("channels", count) for count in (10, 100, 500)]
     + [("threads", count) for count in (10, 100, 1000)]
     + [("sessions", count) for count in (1, 8, 64)]

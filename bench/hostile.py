@@ -5,11 +5,12 @@ For SECONDS (600) kinds of hostile peers come one after another at a worker of P
 of one, or with one byte by byte; half a frame, random bytes (by a seed, SEED or 1), huge messages, an end in the middle of a
 message; CONNECTIONS (10,000) that come one after another; and 63 that never read, beside
 whom a worker has no room but for the good one. All the time the guild is renamed, and a
-bot at the same worker is sent each name, in order and under the next number. For each kind the peak of the server's memory is
-said. At the end the rest of its connections come and go, so that it ends by itself; if it does not, it is killed."""
+bot at the same worker is sent each name, in order and under the next number. For each visit the peak of the server's memory is
+said, and at the end the highest for each kind. At the end the rest of its connections come and go, so that it ends by itself; if it does not, it is killed."""
 import json
 import os
 import random
+import re
 import socket
 import struct
 import sys
@@ -32,8 +33,8 @@ RENAME = '{"step":"edit","guild":"1","do":"guild_rename","name":"%s"}\n'
 MESSAGE = ('{"step":"edit","guild":"1","do":"message_create","message":"%d","channel":"7","author":"9","content":"%s",'
            '"mentions":[],"embeds":0,"attachments":0,"components":0}\n')
 RENAME_SECONDS = 0.05
-# How much each peer that never reads is sent. A link that has not taken more than 16 MiB is given up.
-UNREAD_BYTES = int(os.environ.get("UNREAD_MIB", "24")) << 20
+# How much each peer that never reads is sent. A link that has not taken more than 64 MiB is given up.
+UNREAD_BYTES = int(os.environ.get("UNREAD_MIB", "72")) << 20
 MESSAGES_AT_ONCE = 500
 # How long peers stay that send no whole handshake, or send it byte by byte; in a run of a minute or less, a second.
 HANDSHAKE_SECONDS = 7
@@ -79,6 +80,8 @@ class Host:
         parts = urllib.parse.urlsplit(self.url)
         self.address = parts.hostname, parts.port
         self.names = self.messages = 0
+        self.peaks = {}  # for each kind of peers the highest, in KiB
+        self.wishes = 0  # how many frames of peers may have asked for an edit
         self.running = True
         self.left -= 1
         self.good = Good(self.url)
@@ -259,8 +262,10 @@ def play(host, kind, *words):
     seconds, ended = time.monotonic() - begun, sum(map(is_ended, peers))
     for peer in peers:
         peer.close()
+    peak = host.peak_kib()
+    host.peaks[name] = max(peak, host.peaks.get(name, 0))
     print(f"{name}: {before - host.left} connections in {seconds:.1f} s, of the {len(peers)} that stayed the server ended {ended}; "
-          f"peak memory {host.peak_kib() / 1024:.1f} MiB; the good client saw {host.good.seen - names} names, "
+          f"peak memory {peak / 1024:.1f} MiB; the good client saw {host.good.seen - names} names, "
           f"the slowest after {host.good.slowest * 1000:.0f} ms", flush=True)
     if host.good.fault:
         raise Wrong(f"the good client: {host.good.fault}")
@@ -276,7 +281,6 @@ def end(host):
     verdict = "right" if right else host.good.fault or "not the end"
     print(f"the good client saw {host.good.seen} of {host.names} names in order, then the end: {verdict}")
     host.good.bot.close()
-    entries = host.names + host.messages + 3
     host.server.process.stdin.close()
     deadline, rest = time.monotonic() + END_SECONDS, 0
     while host.server.process.poll() is None and time.monotonic() < deadline:
@@ -289,13 +293,20 @@ def end(host):
         print(f"{rest} more connections came in {END_SECONDS} seconds, and the server had not ended: it was killed")
         host.server.kill()
         return False
-    lines = host.server.process.stdout.read().decode().splitlines()
-    wanted = [f"guild 1 entries {entries} accepted {entries} members 1 roles 1 channels 1 active 0 archived 0", "strays 0"]
+    lines = host.server.process.stdout.read().decode()
     print(f"the server ended by itself with {host.server.process.returncode}, after {rest} more connections")
-    if (host.server.process.returncode, lines) != (0, wanted):
-        print(f"it wrote {lines}, wanted was {wanted}")
+    if host.server.process.returncode != 0 or not is_end(host, lines):
+        print(f"it wrote {lines!r}, and {host.names + host.messages + 3} edits were made")
         return False
     return right
+
+
+def is_end(host, lines):
+    """Whether a server has all edits that were made, and no more others than its peers may have asked for."""
+    found = re.fullmatch(r"guild 1 entries (\d+) accepted (\d+) members 1 roles 1 channels 1 active 0 archived 0\nstrays (\d+)\n", lines)
+    entries, accepted, strays = map(int, found.groups()) if found else (0, 0, 0)
+    made = host.names + host.messages + 3
+    return made <= accepted <= entries <= made + host.wishes and strays <= host.wishes
 
 
 def visited(name, host, visits):
@@ -307,8 +318,8 @@ def visited(name, host, visits):
         print(f"{name}: {fault}")
         return False
     finally:
-        if host.server.process.poll() is None:
-            host.server.kill()
+        host.server.kill()
+        print(f"{name}: peak memory by kind: " + ", ".join(f"{kind} {peak / 1024:.1f} MiB" for kind, peak in host.peaks.items()), flush=True)
 
 
 def main(gate=os.path.join(ROOT, "out/gate"), seconds=600, connections=10000):

@@ -1,8 +1,8 @@
 #!/usr/bin/env python3
 """Step files that reach each limit, and one past it, with ample memory: limits.py [LARGE [SECONDS [NAMES]]]
 
-Each file reaches a limit of docs/STEPS.md: members, roles, channels, overwrites, threads, messages, connections, sessions, entries of a look,
-texts, chunks, frames, lines and others. Some parts of its transcript are known and have to be there, no more and no fewer; the status
+Each file reaches a limit of docs/STEPS.md: members (5,000), roles, channels, overwrites, threads, messages, connections, sessions, entries of a look,
+texts, chunks, frames, depths, lines and others. Some parts of its transcript are known and have to be there, no more and no fewer; the status
 and, where the reference is at hand (bench/faults/rig.py), the whole transcript have to be the reference's. No run may end out of
 memory. What a session keeps for a resume is in bench/lost_each.py.
 
@@ -18,6 +18,8 @@ sys.path.insert(0, os.path.join(os.path.dirname(os.path.abspath(__file__)), "fau
 import rig
 
 ALL = 36739
+# The most members of a guild, with its owner, and of a chunk.
+MEMBERS, CHUNK = rig.MEMBERS, 1000
 BIG = 1 << 63  # ids with many digits
 HEADS = ['{"step":"bot","token":"t1","user":"9","name":"bee","privileged":33026}', '{"step":"guild","id":"1"}']
 LOOK = '{"step":"look","worker":0,"guild":"1"}'
@@ -72,6 +74,11 @@ def archived(number):
     return edit("thread_archive", thread=str(number))
 
 
+def looked(rows):
+    """These rows with a look after every thousand of them, and at last: a look sees 4,096 entries."""
+    return [it for at in range(0, len(rows), 1000) for it in (*rows[at:at + 1000], LOOK)]
+
+
 def message(number, content="x", mentions=(), embeds=0, where="7"):
     return edit("message_create", message=str(number), channel=where, author="9", content=content, mentions=list(mentions), embeds=embeds, attachments=0, components=0)
 
@@ -89,19 +96,22 @@ def file(large=False):
 
 @file()
 def members():
-    rows = opened() + identify(1) + [LOOK] + [member(100 + it, "u%d" % it) for it in range(998)] + [LOOK, member(5000), LOOK, member(5001), member(5000), LOOK]
-    rows += identify(2) + [edit("member_remove", user="5000"), LOOK, member(5001), LOOK]
-    return rows, {"GUILD_MEMBER_ADD": 1001, '"member_count":1000': 1, "18 TooMany 1000": 1, "9 IdTaken": 1}
+    rows = opened() + identify(1) + [LOOK] + looked([member(10000 + it, "u%d" % it) for it in range(MEMBERS - 2)]) + [member(50000), LOOK, member(50001), member(50000), LOOK]
+    rows += identify(2) + [edit("member_remove", user="50000"), LOOK, member(50001), LOOK]
+    return rows, {"GUILD_MEMBER_ADD": MEMBERS + 1, '"member_count":%d' % MEMBERS: 1, "18 TooMany %d" % MEMBERS: 1, "9 IdTaken": 1}
 
 
 @file()
 def chunks_of_members():
-    rows = opened() + [member(100 + it, "u%d" % it) for it in range(999)] + [edit("presence_set", user=str(100 + it), status="idle") for it in range(0, 999, 3)] + [LOOK] + identify(1)
+    """All members in as many chunks as they need; then the first 100 of them, also for a larger limit, of a name, and of ids."""
+    users, chunks = [10000 + it for it in range(MEMBERS - 1)], -(-MEMBERS // CHUNK)
+    rows = opened() + looked([member(it, "u%d" % it) for it in users]) + looked([edit("presence_set", user=str(it), status="idle") for it in users[::3]]) + identify(1)
     ask = {"guild_id": "1", "query": "", "limit": 0, "presences": True, "nonce": "n" * 32}
     rows += [frame(1, 8, ask), frame(1, 8, dict(ask, limit=100)), frame(1, 8, dict(ask, limit=101, nonce="n" * 33)), frame(1, 8, dict(ask, query="u"))]
-    rows += [frame(1, 8, {"guild_id": "1", "user_ids": [str(1050 + it) for it in range(100)]}), connect(2), *identify(3)]
+    rows += [frame(1, 8, {"guild_id": "1", "user_ids": [str(users[-50] + it) for it in range(100)]}), connect(2), *identify(3)]
     rows += [frame(3, 8, {"guild_id": "1", "user_ids": ["5"] * 101}), LOOK]
-    return rows, {"GUILD_MEMBERS_CHUNK": 5, '"not_found":[': 1, "close 3 4002": 1, '"nonce":"' + "n" * 32 + '"': 3, '"chunk_count":1,': 5}
+    return rows, {"GUILD_MEMBERS_CHUNK": chunks + 4, '"not_found":[': 1, "close 3 4002": 1, '"nonce":"' + "n" * 32 + '"': chunks + 2,
+                  '"chunk_count":%d,' % chunks: chunks, '"chunk_index":%d,' % (chunks - 1): 1}
 
 
 @file()
@@ -149,10 +159,12 @@ def threads():
 
 @file()
 def members_of_a_thread():
-    rows = opened() + [channel(7), thread(20)] + [member(100 + it) for it in range(999)] + [LOOK] + identify(1)
-    rows += [edit("thread_join", thread="20", user=str(100 + it), at=it) for it in range(999)] + [LOOK]
-    rows += [edit("thread_leave", thread="20", user=str(100 + it)) for it in range(999)] + [edit("member_remove", user="100"), LOOK]
-    return rows, {"THREAD_MEMBERS_UPDATE": 1998, '"member_count":50': 1901, "GUILD_MEMBER_REMOVE": 1}
+    users = [10000 + it for it in range(MEMBERS - 1)]
+    rows = opened() + [channel(7), thread(20)] + looked([member(it) for it in users]) + identify(1)
+    rows += looked([edit("thread_join", thread="20", user=str(it), at=it) for it in users])
+    rows += looked([edit("thread_leave", thread="20", user=str(it)) for it in users]) + [edit("member_remove", user="10000"), LOOK]
+    # The owner is a member of it too. A count of more than 50 is told as 50; those who leave stand behind it.
+    return rows, {"THREAD_MEMBERS_UPDATE": 2 * len(users), '"member_count":50}': len(users) - 48, '"member_count":50,"removed': len(users) - 49, "GUILD_MEMBER_REMOVE": 1}
 
 
 @file()
@@ -332,19 +344,27 @@ def thresholds():
     return rows, {'"large":true': 1 + 1 + 1, '"large":false': 4 + 1}
 
 
+@file()
+def depths_of_a_frame():
+    """Arrays and objects in one another, 126 and 127 deep beside the frame's own object."""
+    rows, places = opened() + [LOOK], ((126, "[", "]"), (127, "[", "]"), (126, '{"a":', "}"), (127, '{"a":', "}"))
+    for conn, (deep, begin, end) in enumerate(places, 1):
+        inner = begin * (deep - 1) + begin.replace('"a":', "") + end * deep
+        rows += [connect(conn), frame(conn, 0, text='{"op":1,"x":%s}' % inner)]
+    return rows, {'"op":11': 2, "close 2 4002": 1, "close 4 4002": 1, "close": 2}
+
+
 @file(large=True)
 def largest_guild():
     """A guild at all limits at once, so that its GUILD_CREATE is of the largest size."""
-    rows, wide = opened(name="\u0001" * 100, owner_name="\u0001" * 100), "\u0001" * 100
+    rows, wide, users = opened(name="\u0001" * 100, owner_name="\u0001" * 100), "\u0001" * 100, [BIG + it for it in range(MEMBERS - 1)]
     rows += [role(BIG + it, wide, str(2**53 - 1)) for it in range(249)] + [channel(7, 0, wide)] + [channel(BIG + it, 2, wide) for it in range(499)]
-    rows += [edit("member_add", user=str(BIG + it), name=wide, bot=False, at=10**14 + it) for it in range(999)] + [LOOK]
-    rows += [edit("member_nick", user=str(BIG + it), nick="\u0001" * 32) for it in range(999)] + [edit("presence_set", user=str(BIG + it), status="dnd") for it in range(999)]
-    rows += [edit("voice_set", user=str(BIG + it), channel=str(BIG), mute=True, deaf=True) for it in range(999)] + [LOOK]
-    rows += [thread(BIG + 1000 + it, 11, wide) for it in range(1000)] + [LOOK]
-    many = [overwrite(where, BIG + it, 1, str(2**53 - 1), str(2**53 - 1)) for where in [7] + [BIG + at for at in range(499)] for it in range(100)]
-    many += [edit("member_role_add", user=str(BIG + it), role=str(BIG + at)) for it in range(999) for at in range(0, 249, 4)]
-    for at in range(0, len(many), 4000):
-        rows += many[at:at + 4000] + [LOOK]
+    rows += looked([edit("member_add", user=str(it), name=wide, bot=False, at=10**14 + it - BIG) for it in users])
+    rows += looked([it for user in users for it in (edit("member_nick", user=str(user), nick="\u0001" * 32), edit("presence_set", user=str(user), status="dnd"),
+                                                    edit("voice_set", user=str(user), channel=str(BIG), mute=True, deaf=True))])
+    rows += looked([thread(BIG + 1000000 + it, 11, wide) for it in range(1000)])
+    rows += looked([overwrite(where, BIG + it, 1, str(2**53 - 1), str(2**53 - 1)) for where in [7] + [BIG + at for at in range(499)] for it in range(100)])
+    rows += looked([edit("member_role_add", user=str(it), role=str(BIG + at)) for it in users for at in range(0, 249, 4)])
     return rows + identify(1), {"GUILD_CREATE": 1, "refused": 0}
 
 

@@ -1,13 +1,13 @@
 #!/usr/bin/env python3
-"""Raw bytes at `serve`, while one good client stays right to the end: raw_serve.py [PROGRAM [SECONDS [PINGS]]]
+"""Raw bytes at `serve`, while one good client stays right to the end: raw_serve.py [PROGRAM [SECONDS [PINGS]]] [--count COUNT]
 
 Goes on where hostile.py ends, with its server, its good client and its end: handshakes that are wrong in each part, frames without a mask,
 with reserved bits, of reserved kinds, with lengths up to 2^64 - 1 or longer than they need be, control frames that are too long or in parts,
 closes with codes that may not be sent, parts without a beginning, texts that are no UTF-8, random frames, random gateway frames, PINGS
 (50,000) pings of a peer that reads no answer, and heartbeats past the rate. A peer whose frames break the protocol has to be ended within
 PATIENCE (10) seconds; a binary message that is no UTF-8 is answered with 4002, too many heartbeats with 4008. All kinds come in turn for SECONDS
-(60), once at least, by a fixed seed (SEED or 1). The peak of memory may not be above MOST_MIB (512)."""
-import json
+(60), once at least, by a fixed seed (SEED or 1); with a COUNT until COUNT random frames were sent, ten times as many of them beside
+the others. The peak of memory may not be above MOST_MIB (512)."""
 import os
 import random
 import select
@@ -15,8 +15,9 @@ import struct
 import sys
 import time
 
-sys.path.insert(0, os.path.dirname(os.path.abspath(__file__)))
+sys.path[:0] = [os.path.join(os.path.dirname(os.path.abspath(__file__)), place) for place in ("", "faults")]
 import hostile
+import rig
 from gateway import BINARY, CLOSE, PING, PONG, TEXT, Link, Wrong, handshake, masked
 from hostile import push
 
@@ -31,7 +32,7 @@ class Host(hostile.Host):
     """The server. What came after a handshake is kept, so that frames are read from their beginning."""
 
     def __init__(self, *words):
-        self.come = {}
+        self.come, self.frames = {}, 0
         super().__init__(*words)
 
     def upgraded(self):
@@ -173,8 +174,9 @@ def random_frames(host):
     """Frames of chance: any first byte, any length, with a mask or without, whole or not."""
     peers = []
     for _ in range(PEERS):
-        peer, data = host.upgraded(), b""
-        for _ in range(made.randrange(1, 30)):
+        peer, data, count = host.upgraded(), b"", made.randrange(1, 30)
+        host.frames += count
+        for _ in range(count):
             size = made.choice([0, 1, 2, 5, 125, 126, 127, 300, 4096, 4097, 65535, 65536])
             first = made.choice([0x81, 0x81, 0x82, 0x89, 0x8A, 0x01, 0x00, 0x80, made.getrandbits(8)])
             data += head(first, size, made.randrange(20) > 0, made.choice([None, None, None, 16, 64])) + noise(min(size, 5000)) + b"a" * max(0, size - 5000)
@@ -190,8 +192,9 @@ def gateway_frames(host):
             b'{"op":6,"d":{"token":"t1","session_id":"w0s1","seq":1}}', b'{"op":8,"d":{"guild_id":"1","query":"","limit":0}}', b'{"op":8,"d":{"guild_id":"1","user_ids":["9"]}}']
     peers = []
     for _ in range(PEERS):
-        peer = host.upgraded()
-        for _ in range(made.randrange(1, 40)):
+        peer, count = host.upgraded(), made.randrange(1, 40)
+        host.frames, host.wishes = host.frames + count, host.wishes + count
+        for _ in range(count):
             text = bytearray(made.choice(good))
             for _ in range(made.choice([0, 1, 1, 2, 3])):
                 place = made.randrange(len(text))
@@ -225,30 +228,37 @@ def heartbeats(host):
 KINDS = [wrong_handshakes, without_masks, reserved, wrong_controls, wrong_parts, no_utf8, huge_lengths, many_parts, random_frames, gateway_frames, heartbeats]
 
 
-def main(gate=os.path.join(hostile.ROOT, "out/gate"), seconds=60, count=50000):
-    seconds, count = float(seconds), int(count)
-    host = Host(gate, int(1000 + 60 * seconds), 1)
-    rounds, highest = 0, 0
+# How often these come in a round, if so many frames of chance are asked for.
+OFTEN = {random_frames: 10, gateway_frames: 10}
+
+
+def main(gate=os.path.join(hostile.ROOT, "out/gate"), seconds=60, flood=50000, count=0):
+    seconds, accepts = float(seconds), 5000 + count // 12 if count else int(1000 + 60 * float(seconds))
+    host = Host(gate, accepts, 1)
+    rounds = 0
+
+    def goes_on(until):
+        return host.left > 400 + 500 * bool(count) and (host.frames < count if count else time.monotonic() < until)
 
     def visits():
-        nonlocal rounds, highest
+        nonlocal rounds
         until = time.monotonic() + seconds
-        while not rounds or time.monotonic() < until and host.left > 400:
+        while not rounds or goes_on(until):
             for kind in KINDS:
-                hostile.play(host, kind)
-                highest = max(highest, host.peak_kib())
-            hostile.play(host, pings, count)
-            highest, rounds = max(highest, host.peak_kib()), rounds + 1
+                for _ in range(OFTEN.get(kind, 1) if count else 1):
+                    hostile.play(host, kind)
+            hostile.play(host, pings, int(flood))
+            rounds += 1
 
     right = hostile.visited("raw serve", host, visits)
-    if highest > MOST_KIB:
-        print(f"the peak of memory was {highest / 1024:.1f} MiB")
+    highest = max(host.peaks.values(), default=0)
+    if highest > MOST_KIB or host.frames < count:
+        print(f"the peak of memory was {highest / 1024:.1f} MiB, and {host.frames} frames of chance were sent")
         right = False
-    print(f"raw serve: {rounds} rounds of {len(KINDS) + 1} kinds, {int(1000 + 60 * seconds) - host.left} connections, peak memory {highest / 1024:.1f} MiB: {'all right' if right else 'not right'}")
+    print(f"raw serve: {rounds} rounds of {len(KINDS) + 1} kinds, {accepts - host.left} connections, {host.frames} frames of chance, "
+          f"peak memory {highest / 1024:.1f} MiB: {'all right' if right else 'not right'}")
     sys.exit(not right)
 
 
 if __name__ == "__main__":
-    if sys.argv[1:2] == ["--help"]:
-        sys.exit(__doc__)
-    main(*sys.argv[1:4])
+    rig.begin(main, __doc__, 3)

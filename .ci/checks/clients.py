@@ -1,9 +1,8 @@
 """Serves examples/clients/edits.jsonl to bots that lose their links twice and resume, to `gate client`, and to the bot that
-docs/SERVE.md shows, and a guild at two workers to links of which one at each is lost beside another, if the built program knows
-`serve`."""
+docs/SERVE.md shows, and a guild at two workers to links of which one at each is lost beside another. Each part runs also where
+another has failed, which is then named."""
 import ast
 import collections
-import glob
 import json
 import os
 import re
@@ -18,15 +17,18 @@ import time
 
 os.chdir(os.path.join(os.path.dirname(os.path.abspath(__file__)), "../.."))
 FOLDER = "examples/clients"
-sys.path.insert(0, FOLDER)
+sys.path[:0] = [FOLDER, "bench/faults"]
+import rig
 from feed import parts
-from gateway import Link
-from server import Server, free_port
+from gateway import Closed, Link, Wrong
+from server import Server
 
 LIMIT_SECONDS = 60
+FAULTS = (Closed, Wrong, OSError, subprocess.TimeoutExpired)
 # Each bot loses its link twice, so it connects three times; each has a worker of its own.
 CONNECTIONS = 3
 INTENTS = "36739"
+# A bot is away for half a second after each loss: at this pace edits are made while it is away, and after it has come back.
 PAUSE_SECONDS = 0.03
 failures = []
 
@@ -45,21 +47,6 @@ def compare_fields():
         rows = [line.strip("|\n").split("|") for line in file if line.startswith("| ")]
     page = {row[0].strip(): sorted(re.findall(r"`(\w+)`", row[1])) for row in rows if row[0].strip() in source}
     compare("docs/CLIENTS.md: fields that are stood in for", source, page)
-
-
-def program():
-    """The program that GATE names, or else a built one that is at hand and newer than its sources."""
-    sources = [path for end in ("rt", "antt") for path in glob.glob(f"crates/*/*/**/*.{end}", recursive=True) if "/out/" not in path]
-    built = [path for path in ("out/gate", "crates/gateway_main/out/gateway_main") if os.access(path, os.X_OK)]
-    newer = [path for path in built if os.path.getmtime(path) > max(map(os.path.getmtime, sources))]
-    found = os.environ.get("GATE") or next(iter(newer), None)
-    return found and os.path.abspath(found)
-
-
-def serves(gate):
-    """Whether it knows the command: a file that does not exist is then a file that cannot be read, and no bad word."""
-    words = [gate, "serve", str(free_port(1)), "1", "1", f"{FOLDER}/nosuch.jsonl"]
-    return subprocess.run(words, stdout=subprocess.DEVNULL, stderr=subprocess.DEVNULL, timeout=LIMIT_SECONDS).returncode != 2
 
 
 def bots():
@@ -111,24 +98,27 @@ class Bot:
         compare(f"{self.name}: dispatches were replayed", True, replayed.split(" ")[0] not in ("", "0"))
 
 
-def wait_for_opening(url, token):
-    """Waits until the worker at a URL has looked at the edits that come before the bots: a session of its own is told of guild 1's
-    channel, which is the last of them there, and of the last of the four members of guild 2."""
-    deadline = time.monotonic() + LIMIT_SECONDS
-    link, channels, members = Link(url, LIMIT_SECONDS), 0, 0
-    link.receive(deadline)
+def receive(link):
+    """The next text at a link, which has to come in time."""
+    text = link.receive(time.monotonic() + LIMIT_SECONDS)
+    if text is None:
+        raise TimeoutError(f"no text came in {LIMIT_SECONDS} seconds")
+    return text
+
+
+def wait_for_opening(url, token, opening):
+    """Waits until the worker at a URL has looked at the edits that come before the bots: a session of its own is told of all the
+    channels and members that they make, and they are the last edits of each guild."""
+    made = collections.Counter(json.loads(line).get("do") for line in opening)
+    channels, members = made["channel_create"], made["guild_open"] + made["member_add"]
+    link = Link(url, LIMIT_SECONDS)
+    receive(link)
     link.send(json.dumps({"op": 2, "d": {"token": token, "intents": int(INTENTS), "properties": {}}}))
-    while channels == 0 or members < 4:
-        payload = json.loads(link.receive(deadline))
+    while channels > 0 or members > 0:
+        payload = json.loads(receive(link))
         name, body = payload["t"], payload["d"]
-        if name == "GUILD_CREATE" and body["id"] == "1":
-            channels += len(body["channels"])
-        elif name == "GUILD_CREATE":
-            members += body["member_count"]
-        elif name == "CHANNEL_CREATE":
-            channels += 1
-        elif name == "GUILD_MEMBER_ADD" and body["guild_id"] == "2":
-            members += 1
+        channels -= len(body["channels"]) if name == "GUILD_CREATE" else name == "CHANNEL_CREATE"
+        members -= body["member_count"] if name == "GUILD_CREATE" else name == "GUILD_MEMBER_ADD"
     link.end()
 
 
@@ -140,7 +130,7 @@ def serve(gate, found):
     server, at_work = Server(opening, len(found), 1 + CONNECTIONS, gate), []
     try:
         for place, (name, words) in enumerate(found.items()):
-            wait_for_opening(server.urls[place], f"t{place + 1}")
+            wait_for_opening(server.urls[place], f"t{place + 1}", opening)
             at_work.append(Bot(name, words, server.urls[place], f"t{place + 1}"))
         for bot in at_work:
             bot.greeted(guilds)
@@ -154,9 +144,9 @@ def serve(gate, found):
             with open(f"{FOLDER}/edits.out") as file:
                 compare("what serve wrote", (0, file.read().splitlines()), (status, lines))
     finally:
-        for process in (server.process, *(bot.process for bot in at_work)):
-            if process.poll() is None:
-                process.kill()
+        server.kill()
+        for bot in at_work:
+            bot.process.kill()
 
 
 def follow(gate):
@@ -164,22 +154,22 @@ def follow(gate):
     with open("docs/CLIENT.md") as file:
         page = re.findall(r"^    (\d+ [A-Z_]+|guild \d.*)$", file.read(), re.M)
     opening, later = parts(f"{FOLDER}/edits.jsonl")
-    server = Server(opening, 1, 3, gate)
-    wait_for_opening(server.urls[0], "t1")
-    words = [gate, "client", server.urls[0]]
-    run = subprocess.run([*words, "t0", INTENTS, "1"], stdout=subprocess.PIPE, stderr=subprocess.DEVNULL, timeout=LIMIT_SECONDS)
-    compare("client with a token that no bot has", (10, "closed 4004\n"), (run.returncode, run.stdout.decode()))
-    client = subprocess.Popen([*words, "t1", INTENTS, "4"], stdout=subprocess.PIPE)
+    server, client = Server(opening, 1, 3, gate), None
     try:
+        wait_for_opening(server.urls[0], "t1", opening)
+        words = [gate, "client", server.urls[0]]
+        run = subprocess.run([*words, "t0", INTENTS, "1"], stdout=subprocess.PIPE, stderr=subprocess.DEVNULL, timeout=LIMIT_SECONDS)
+        compare("client with a token that no bot has", (10, "closed 4004\n"), (run.returncode, run.stdout.decode()))
+        client = subprocess.Popen([*words, "t1", INTENTS, "4"], stdout=subprocess.PIPE)
         lines = [client.stdout.readline() for _ in range(3)]
         server.write(later[:1])
         lines += client.stdout.readlines()
         compare("client of docs/CLIENT.md", (0, page), (client.wait(), [line.decode().rstrip("\n") for line in lines]))
         compare("serve beside client", 0, server.end()[0])
     finally:
-        for process in (server.process, client):
-            if process.poll() is None:
-                process.kill()
+        server.kill()
+        if client:
+            client.kill()
 
 
 # A guild, and what the second bot of worker W is sent of it, at a URL.
@@ -201,7 +191,7 @@ ENDED = ["guild 1 entries 4 accepted 4 members 2 roles 1 channels 0 active 0 arc
 
 
 def reset(link):
-    """Lets go of the connection so that what is sent on it fails."""
+    """Lets go of the connection so that the server finds it lost, on a read or on a send, whichever comes first."""
     link.socket.setsockopt(socket.SOL_SOCKET, socket.SO_LINGER, struct.pack("ii", 1, 0))
     link.drop()
 
@@ -212,20 +202,20 @@ def lose_one_of_two(gate):
     server = Server(DEN, 2, 2, gate)
     try:
         links = [(place, Link(url, LIMIT_SECONDS)) for place, url in enumerate(server.urls) for _ in range(2)]
-        compare("Hello of two workers", [HELLO] * 4, [link.receive(time.monotonic() + LIMIT_SECONDS) for _, link in links])
+        compare("Hello of two workers", [HELLO] * 4, [receive(link) for _, link in links])
         first, second = links[::2], links[1::2]
         for _, link in first:
             link.send(IDENTIFY)
-            while '"t":"GUILD_CREATE"' not in link.receive(time.monotonic() + LIMIT_SECONDS):
+            while '"t":"GUILD_CREATE"' not in receive(link):
                 pass
         for _, link in second:
             link.send(IDENTIFY)
-        shown = [[link.receive(time.monotonic() + LIMIT_SECONDS) for _ in range(2)] for _, link in second]
+        shown = [[receive(link) for _ in range(2)] for _, link in second]
         for _, link in first:
             reset(link)
         server.write([RENAME])
         for place, link in second:
-            shown[place].append(link.receive(time.monotonic() + LIMIT_SECONDS))
+            shown[place].append(receive(link))
             wanted = [text.replace("URL", server.urls[place]).replace("wWs", f"w{place}s") for text in SENT]
             compare(f"a link beside one that is lost, at worker {place}", wanted, shown[place])
         second[0][1].send(IDLE)
@@ -233,8 +223,7 @@ def lose_one_of_two(gate):
             link.end()
         compare("serve beside links that are lost", (0, ENDED), server.end())
     finally:
-        if server.process.poll() is None:
-            server.process.kill()
+        server.kill()
 
 
 def run_page(gate):
@@ -243,36 +232,45 @@ def run_page(gate):
         code = re.search(r"```python\n(.*?)```", file.read(), re.S)[1]
     opening, _ = parts(f"{FOLDER}/edits.jsonl")
     os.environ["GATE"], shown = gate, {"opening": opening}
-    exec(code, shown)
+    try:
+        exec(code, shown)
+    finally:
+        if "server" in shown:
+            shown["server"].kill()
     compare("the test process of docs/SERVE.md", (0, ["guild", "guild", "strays"]), (shown["status"], [line.split(" ")[0] for line in shown["lines"]]))
 
 
 def out_of_time(*_):
-    raise TimeoutError(f"not done after {LIMIT_SECONDS} seconds")
+    # A link takes an OSError for its end.
+    raise subprocess.TimeoutExpired("the part", LIMIT_SECONDS)
+
+
+def run(part, *words):
+    """Runs a part, which ends in time; if it fails, the others run even so."""
+    signal.alarm(LIMIT_SECONDS)
+    try:
+        part(*words)
+    except FAULTS as fault:
+        failures.append(f"clients: {part.__name__}: {type(fault).__name__}: {fault}")
+    finally:
+        signal.alarm(0)
 
 
 def main():
     compare_fields()
-    gate = program()
+    gate = rig.program("clients")
     if not gate:
-        return "no built program at hand: nothing was run"
-    if not serves(gate):
-        return "the built program does not know serve: nothing was run"
+        return
     found, skipped = bots()
     before = len(failures)
     signal.signal(signal.SIGALRM, out_of_time)
-    signal.alarm(LIMIT_SECONDS)
-    try:
-        serve(gate, found)
-        follow(gate)
-        lose_one_of_two(gate)
-        run_page(gate)
-    except (OSError, subprocess.TimeoutExpired) as fault:
-        failures.append(f"clients: {fault}")
-    signal.alarm(0)
-    return "; ".join([f"{', '.join(found)}: {len(failures) - before} answered otherwise", *skipped])
+    run(serve, gate, found)
+    run(follow, gate)
+    run(lose_one_of_two, gate)
+    run(run_page, gate)
+    print("; ".join([f"clients: {', '.join(found)}: {len(failures) - before} answered otherwise", *skipped]))
 
 
-said = main()
-print(*failures, f"clients: {said}", sep="\n")
+main()
+print(*failures, sep="\n", end="\n" if failures else "")
 sys.exit(bool(failures))

@@ -9,9 +9,11 @@ import re
 import shutil
 import subprocess
 import sys
-import threading
 
 os.chdir(os.path.join(os.path.dirname(os.path.abspath(__file__)), "../.."))
+sys.path.insert(0, "bench/faults")
+import rig
+
 STEPS, TRANSCRIPT, PAYLOADS, LOAD = "docs/STEPS.md", "docs/TRANSCRIPT.md", "docs/PAYLOADS.md", "docs/LOAD.md"
 SERVE, CLIENT, CLAIMS, README = "docs/SERVE.md", "docs/CLIENT.md", "docs/CLAIMS.md", "README.md"
 # The pages that bot authors read.
@@ -120,7 +122,7 @@ def compare_steps_and_edits():
     for head, named in (("step", r"StepName::\w+ => \"(\w+)\""), ("edit", r"EditName::\w+ => \"(\w+)\"")):
         compare("names", STEPS, 1, {name for _, (name, *_) in rows(STEPS, head)}, set(re.findall(named, text_of("crates/edit_fields/src/names.rt", "crates/edit_text/src/step_name.rt"))))
     edits, sent = edit_readers(), dispatches_by_edit()
-    known = {**functions("crates/edit_fields/src/edits/*.rt"), **functions("crates/edit_text/src/steps.rt"), **edits}
+    known = {**functions("crates/edit_fields/src/edits/*.rt"), **functions("crates/edit_text/src/steps.rt"), **functions("crates/edit_text/src/ring_size.rt"), **edits}
     for line, (name, cell, *_) in [*rows(STEPS, "step"), *rows(STEPS, "edit")]:
         page = [re.match(r"`(\w+)` (.+)", field).groups() for field in cell.split(", ") if field.startswith("`")]
         reader = name if name in edits else "edit_line_from" if name == "edit" else f"{name}_from"
@@ -370,25 +372,15 @@ def compare_paths():
         for name in re.findall(r"`([\w./]+)`", files) if crate else ():
             compare("files", "docs/ADDING.md", line, name, name if os.path.exists(f"crates/{crate}/{name}") else f"no such file in {crate}")
 
-def program():
-    """The program that GATE names, or else a built one that is at hand and newer than its sources."""
-    sources = [path for end in ("rt", "antt") for path in glob.glob(f"crates/*/*/**/*.{end}", recursive=True) if "/out/" not in path]
-    built = [path for path in ("out/gate", "crates/gateway_main/out/gateway_main") if os.path.isfile(path)]
-    newer = [path for path in built if os.path.getmtime(path) > max(map(os.path.getmtime, sources))]
-    return os.environ.get("GATE") or next(iter(newer), None)
-
 def follow_pipe(gate):
     """Writes the first example into a pipe, and reads what each part of it causes before it writes on."""
     steps = text_of("examples/first.jsonl").splitlines(True)
-    with subprocess.Popen([gate, "run", "-"], stdin=subprocess.PIPE, stdout=subprocess.PIPE) as run:
-        clock = threading.Timer(60, run.kill)
-        clock.start()
+    with subprocess.Popen([gate, "run", "-"], stdin=subprocess.PIPE, stdout=subprocess.PIPE) as run, rig.within(60, run):
         for part, count in ((steps[:6], 1), (steps[6:7], 2), (steps[7:], 1)):
             run.stdin.write("".join(part).encode())
             run.stdin.flush()
             shown = [run.stdout.readline().decode() for _ in range(count)]
             compare("lines followed", TRANSCRIPT, 1, shown, [line for line in shown if line in text_of("examples/first.out").splitlines(True)])
-        clock.cancel()
 
 def play_examples(gate):
     """Plays each example, also by the reader that docs/TRANSCRIPT.md shows, and compares what it prints."""
@@ -407,9 +399,10 @@ def play_examples(gate):
         follow_pipe(gate)
         compare("causes", TRANSCRIPT, 1, shown["cause"](text_of("examples/first.jsonl").encode().splitlines(True), 4, gate), 9)
 
+gate = rig.program("docs")
 for part in (compare_readme, compare_steps_and_edits, compare_kinds, compare_frames, compare_words, compare_numbers, compare_tables, compare_payloads,
-             compare_quotes, compare_definitions, compare_claims, compare_crates, compare_paths, lambda: play_examples(program())):
+             compare_quotes, compare_definitions, compare_claims, compare_crates, compare_paths, lambda: play_examples(gate)):
     part()
 print(*(f"docs: {failure[:900]}\n" for failure in failures), sep="", end="")
-print(f"docs: {sum(counts.values())} compared: " + ", ".join(f"{count} {what}" for what, count in counts.items()) + ("" if counts["causes"] else "; no built program at hand: nothing was played"))
+print(f"docs: {sum(counts.values())} compared: " + ", ".join(f"{count} {what}" for what, count in counts.items()))
 sys.exit(bool(failures))

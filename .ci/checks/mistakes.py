@@ -14,6 +14,10 @@ import tempfile
 import threading
 
 os.chdir(os.path.join(os.path.dirname(os.path.abspath(__file__)), "../.."))
+sys.path[:0] = ["bench/faults", "examples/clients"]
+import rig
+from server import free_port
+
 BOT = '{"step":"bot","token":"t1","user":"9","name":"bee","privileged":33026}'
 GUILD = '{"step":"guild","id":"1"}'
 OPEN = '{"step":"edit","guild":"1","do":"guild_open","name":"den","owner":"5","owner_name":"ann","perms":"1024","at":0}'
@@ -313,11 +317,9 @@ def try_each_start(gate, folder):
         return
     library = os.path.join(folder, "refused.so")
     subprocess.run(["gcc", "-O2", "-shared", "-fPIC", "-o", library, "bench/refused/refused.c", "-ldl"], check=True)
-    with socket.create_server(("127.0.0.1", 0)) as door:
-        port = str(door.getsockname()[1])
-    told = said(8, f"a thread of serve {port} did not start", "docs/SERVE.md")
     for start in range(1, 5):
-        env = dict(os.environ, LD_PRELOAD=library, REFUSED_START=str(start))
+        port, env = str(free_port(1)), dict(os.environ, LD_PRELOAD=library, REFUSED_START=str(start))
+        told = said(8, f"a thread of serve {port} did not start", "docs/SERVE.md")
         run = subprocess.run([gate, "serve", port, "1", "1", "examples/clients/edits.jsonl"], capture_output=True, timeout=60, env=env)
         compare(f"start {start} of serve fails", (8, "", told), (run.returncode, run.stdout.decode(), run.stderr.decode()))
 
@@ -356,15 +358,8 @@ def try_client(gate):
         compare(what, (status, printed, said(status, text, "docs/CLIENT.md")), (run.returncode, run.stdout.decode(), run.stderr.decode()))
 
 
-def program():
-    """The program that GATE names, or else the one that the gate has built."""
-    built = os.environ.get("GATE") or "crates/gateway_main/out/gateway_main"
-    return os.path.abspath(built) if os.access(built, os.X_OK) else None
-
-
-gate = program()
+gate = rig.program("mistakes")
 if not gate:
-    print("mistakes: no built program at hand: nothing was run")
     sys.exit(0)
 with tempfile.TemporaryDirectory() as folder:
     try_lines(gate, folder)

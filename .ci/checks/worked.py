@@ -4,11 +4,11 @@ alone. Without a built program nothing is played.
 
 Where the reference is at hand (bench/faults/rig.py), it folds what each session was sent and has to find the projection of the record
 after each entry, in each transcript, and to find that a transcript with a garbled dispatch is wrong."""
+import contextlib
 import glob
 import os
 import subprocess
 import sys
-import threading
 
 os.chdir(os.path.join(os.path.dirname(os.path.abspath(__file__)), "../.."))
 sys.path.insert(0, "bench/faults")
@@ -35,12 +35,6 @@ def names():
     return sorted({os.path.splitext(os.path.basename(path))[0] for path in glob.glob(f"{FOLDER}/*.*")})
 
 
-def program():
-    """The program that GATE names, or else the one that the gate has built."""
-    built = os.environ.get("GATE") or "crates/gateway_main/out/gateway_main"
-    return os.path.abspath(built) if os.access(built, os.X_OK) else None
-
-
 def play_all(gate):
     for name in names():
         path, wanted = f"{FOLDER}/{name}.jsonl", read(f"{name}.out")
@@ -54,18 +48,18 @@ def lose_the_second_write(gate):
     """The first write of the first session comes through, and its reader leaves before the second one."""
     lines = read("first_session.jsonl").splitlines(True)
     opened = next(place for place, line in enumerate(lines) if b'"step":"open"' in line) + 1
-    with subprocess.Popen([gate, "run", "-"], stdin=subprocess.PIPE, stdout=subprocess.PIPE, stderr=subprocess.PIPE) as run:
-        clock = threading.Timer(SECONDS, run.kill)
-        clock.start()
+    pipes = {name: subprocess.PIPE for name in ("stdin", "stdout", "stderr")}
+    with subprocess.Popen([gate, "run", "-"], **pipes) as run, rig.within(SECONDS, run):
         run.stdin.write(b"".join(lines[:opened]))
         run.stdin.flush()
         shown = run.stdout.readline()
         run.stdout.close()
-        run.stdin.write(b"".join(lines[opened:]))
-        run.stdin.close()
+        # A program that has ended reads no more.
+        with contextlib.suppress(BrokenPipeError):
+            run.stdin.write(b"".join(lines[opened:]))
+            run.stdin.close()
         said = run.stderr.read()
         status = run.wait()
-        clock.cancel()
     hello = read("first_session.out").splitlines(True)[0]
     compare("the second write fails", (4, hello, rig.complaint(4, "standard input")), (status, shown, said))
 
@@ -78,9 +72,8 @@ def verify_all(oracle):
     compare("a garbled dispatch is found", True, bool(oracle.verify_bytes(read("first_session.jsonl"), garbled, rig.STAGE)))
 
 
-gate = program()
+gate = rig.program("worked")
 if not gate:
-    print("worked: no built program at hand: nothing was played")
     sys.exit(0)
 play_all(gate)
 lose_the_second_write(gate)
@@ -88,5 +81,5 @@ oracle = rig.oracle()
 if oracle:
     verify_all(oracle)
 print(*failures, sep="\n", end="\n" if failures else "")
-print(f"worked: {len(tried)} compared, {len(failures)} otherwise" + ("" if oracle else "; the reference was not at hand"))
+print(f"worked: {len(tried)} compared, {len(failures)} otherwise" + rig.not_asked(oracle))
 sys.exit(bool(failures))

@@ -3,13 +3,15 @@
 // request of no bytes ends it. So a program is loaded once and played as often as one likes.
 //
 // What counts, each with a letter: `o` the opening of the file FAULTS_FILE, `r` a read of it or of standard input, `w` a write
-// to standard output, `e` one to standard error, `c` the closing of the file.
+// to standard output, `e` one to standard error, `c` the closing of the file. With bench/refused/refused.c beside it allocations
+// count too, and can be refused.
 #define _GNU_SOURCE
 #include <dlfcn.h>
 #include <errno.h>
 #include <fcntl.h>
 #include <signal.h>
 #include <stdarg.h>
+#include <stdatomic.h>
 #include <stdint.h>
 #include <stdio.h>
 #include <stdlib.h>
@@ -31,6 +33,8 @@ struct request {
     uint32_t read_most;   // the most bytes of a read, and of a write; 0 for any number
     uint32_t write_most;
     uint32_t seconds;     // of a processor after which the child is ended; ten times as long by the clock
+    uint32_t refused;     // the number of the allocation that is refused, from 1; 0 for none
+    uint32_t refused_on;  // whether all after it are refused too
     char in[200], out[200], err[200];
 };
 
@@ -39,9 +43,13 @@ struct call {
 };
 
 struct calls {
+    atomic_ulong allocations;
     uint32_t count;
     struct call all[MOST_CALLS];
 };
+
+// Of refused.c, if it is loaded: refuses an allocation from now on, with all after it if `on`, and counts all at `place`.
+__attribute__((weak)) void refuse(unsigned long number, int on, atomic_ulong *place);
 
 static struct request now;
 static struct calls *seen;
@@ -164,6 +172,7 @@ __attribute__((constructor)) static void begin(void) {
     if (seen == MAP_FAILED) _exit(125);
     while (whole(1, REQUESTS, &now, sizeof now)) {
         seen->count = 0;
+        atomic_store(&seen->allocations, 0);
         pid_t child = fork();
         if (child == 0) {
             prctl(PR_SET_PDEATHSIG, SIGKILL);
@@ -176,12 +185,14 @@ __attribute__((constructor)) static void begin(void) {
             setitimer(ITIMER_PROF, &most, NULL);
             alarm(10 * now.seconds);
             counts = 1;
+            if (refuse) refuse(now.refused, (int)now.refused_on, &seen->allocations);
             return;
         }
         int32_t status = -1;
         if (child > 0)
             while (waitpid(child, &status, 0) < 0 && errno == EINTR) {}
-        if (!whole(0, ANSWERS, &status, sizeof status) || !whole(0, ANSWERS, &seen->count, sizeof seen->count) ||
+        uint32_t counted[2] = {(uint32_t)atomic_load(&seen->allocations), seen->count};
+        if (!whole(0, ANSWERS, &status, sizeof status) || !whole(0, ANSWERS, counted, sizeof counted) ||
             !whole(0, ANSWERS, seen->all, seen->count * sizeof seen->all[0]))
             break;
     }

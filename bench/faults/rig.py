@@ -1,10 +1,12 @@
 """What the scripts for faults share: the program, loaded once and played as often as one likes with calls that fail, and the
 reference that says what is right.
 
-The program is the file that GATE names, or else out/gate or crates/gateway_main/out/gateway_main. The reference is the module
-gate_oracle in the folder that ORACLE names."""
+The program is the file that GATE names, or else one that was built after its sources changed last. The reference is the module
+gate_oracle in the folder that ORACLE names; it is not asked if that is `none`, or nothing."""
 import collections
+import contextlib
 import errno
+import glob
 import os
 import re
 import shutil
@@ -13,44 +15,71 @@ import struct
 import subprocess
 import sys
 import tempfile
+import threading
 
 ROOT = os.path.dirname(os.path.dirname(os.path.dirname(os.path.abspath(__file__))))
-ORACLE = os.environ.get("ORACLE") or os.path.join(ROOT, "none")
-STAGE = "c"  # what the program has of the reference's stages
-REQUEST = struct.Struct("6I200s200s200s")
+ORACLE = os.environ.get("ORACLE") or "none"
+BUILT = ("crates/gateway_main/out/gateway_main", "out/gate")
+STAGE = "c"  # what the program has of the reference's stages, and of the next the versions of a bot line
+MEMBERS = 5000  # the most members of a guild
+REQUEST = struct.Struct("8I200s200s200s")
 CALL = struct.Struct("iii")
 Call = collections.namedtuple("Call", "letter asked answer")
-Ran = collections.namedtuple("Ran", "status out err calls")
+Ran = collections.namedtuple("Ran", "status out err calls allocations")
+# Of examples/worked: a session, one of which a channel is hidden, and one that is sent messages.
+WORKED = ("first_session", "everyone_sees_a_channel_again", "contents_for_whom_they_are")
 ANY, FAILS_WITH = 0, {"EIO": errno.EIO, "ENOSPC": errno.ENOSPC, "EINTR": errno.EINTR, "EAGAIN": errno.EAGAIN, "nothing": 0}
 
 
-def program():
-    """The built program, or None."""
-    paths = [os.environ.get("GATE") or os.path.join(ROOT, "out/gate"), os.path.join(ROOT, "crates/gateway_main/out/gateway_main")]
-    built = [path for path in paths if os.path.isfile(path) and os.access(path, os.X_OK)]
-    return os.path.abspath(built[0]) if built else None
+def is_program(path):
+    return os.path.isfile(path) and os.access(path, os.X_OK)
 
 
-def needed(found, otherwise):
-    return found or sys.exit(otherwise)
+def last_change():
+    """When a source of the program changed last."""
+    paths = [path for part in ("src", "specs", "proofs") for path in glob.glob(os.path.join(ROOT, f"crates/*/{part}/**/*.*"), recursive=True)]
+    return max(map(os.path.getmtime, [*paths, os.path.join(ROOT, "crates.txt"), os.path.join(ROOT, "HANDLES")]))
+
+
+def program(script):
+    """The program that GATE names, which has to be one, or else a built one that is newer than its sources; if there is none, the
+    script says that it plays nothing."""
+    named = os.environ.get("GATE")
+    if named:
+        return os.path.abspath(named) if is_program(named) else sys.exit(f"{script}: GATE names no program: {named}")
+    built = [path for path in (os.path.join(ROOT, path) for path in BUILT) if is_program(path)]
+    newer = [path for path in built if os.path.getmtime(path) > last_change()]
+    if not newer:
+        print(f"{script}: no built program at hand that is newer than its sources: nothing was played", flush=True)
+    return next(iter(newer), None)
 
 
 def needed_program():
-    return needed(program(), "no built program at hand: run ./gate run /dev/null, or name it by GATE")
+    """The program, without which a script has nothing to do."""
+    return program(os.path.basename(sys.argv[0])) or sys.exit("run ./gate run /dev/null, or name the program by GATE")
 
 
 def oracle():
-    """The reference, or None."""
-    if not os.path.isfile(os.path.join(ORACLE, "gate_oracle.py")):
+    """The reference, or None if it is not asked."""
+    if ORACLE == "none":
         return None
+    if not os.path.isfile(os.path.join(ORACLE, "gate_oracle.py")):
+        sys.exit(f"ORACLE names no folder with gate_oracle.py: {ORACLE}")
     sys.dont_write_bytecode = True
     sys.path.insert(0, ORACLE)
     import gate_oracle
+
+    class Config(gate_oracle.Config):
+        def __init__(self, *words):
+            super().__init__(*words)
+            self.member_limit, self.bot_v2 = MEMBERS, True
+
+    gate_oracle.Config = Config
     return gate_oracle
 
 
 def needed_oracle():
-    return needed(oracle(), "no reference at hand: name the folder of gate_oracle.py by ORACLE")
+    return oracle() or sys.exit("no reference at hand: name the folder of gate_oracle.py by ORACLE")
 
 
 def by_reference(found, data):
@@ -79,19 +108,26 @@ def complaint(status, file, printed=b""):
     return f"gate: {text} (status {status}; see docs/TRANSCRIPT.md)\n".encode()
 
 
-class Room:
-    """A folder for what is played, in memory if there is such a place, and the library that lets calls fail. Several processes
-    may share one, by its folder."""
+def examples():
+    """The step files of examples/ and three of examples/worked, by their names."""
+    paths = sorted(glob.glob(os.path.join(ROOT, "examples/*.jsonl"))) + [os.path.join(ROOT, f"examples/worked/{name}.jsonl") for name in WORKED]
+    for path in paths:
+        with open(path, "rb") as file:
+            yield os.path.basename(path), file.read()
 
-    def __init__(self, folder=None):
-        if folder:
-            self.folder, self.library = folder, os.path.join(folder, "calls.so")
-            return
-        places = [place for place in ("/dev/shm", None) if not place or os.access(place, os.W_OK)]
-        self.folder = tempfile.mkdtemp(prefix="faults-", dir=places[0])
-        self.library = os.path.join(self.folder, "calls.so")
-        source = os.path.join(ROOT, "bench/faults/calls.c")
-        subprocess.run(["gcc", "-O2", "-shared", "-fPIC", "-o", self.library, source, "-ldl"], check=True)
+
+class Room:
+    """A folder for what is played, in memory if there is such a place, and the libraries that let calls fail and refuse allocations.
+    Several processes may share one, by its folder."""
+
+    def __init__(self, folder=None, sources=("bench/faults/calls.c", "bench/refused/refused.c")):
+        self.folder = folder or tempfile.mkdtemp(prefix="faults-", dir="/dev/shm" if os.access("/dev/shm", os.W_OK) else None)
+        self.libraries = []
+        for source in sources:
+            self.libraries.append(self.path(os.path.basename(source)[:-2] + ".so"))
+            if not folder:
+                words = ["gcc", "-O2", "-shared", "-fPIC", "-o", self.libraries[-1], os.path.join(ROOT, source), "-ldl"]
+                subprocess.run(words, check=True)
 
     def path(self, name):
         return os.path.join(self.folder, name)
@@ -109,14 +145,15 @@ class Room:
 
 
 class Player:
-    """`run FILE`, or `run -`, loaded once. Several may be in one room, each of another name."""
+    """`run FILE`, or `run -`, loaded once. Several may be in one room, each of another name. One that `refuses` counts allocations, and
+    can refuse them."""
 
-    def __init__(self, room, name="one", standard=False, gate=None):
+    def __init__(self, room, name="one", standard=False, gate=None, refuses=False):
         self.room, self.standard, self.mark = room, standard, name
         self.file = room.path(name + ".jsonl")
         self.shown = "standard input" if standard else self.file
         requests, answers = os.pipe(), os.pipe()
-        env = dict(os.environ, LD_PRELOAD=room.library, FAULTS_FILE=self.file)
+        env = dict(os.environ, LD_PRELOAD=":".join(room.libraries[:1 + refuses]), FAULTS_FILE=self.file)
         # Of a build with checks of memory: that it looks for no leaks as it ends, which takes long.
         env["ASAN_OPTIONS"] = "detect_leaks=0:" + env.get("ASAN_OPTIONS", "")
         words = [gate or needed_program(), "run", "-" if standard else self.file]
@@ -133,23 +170,24 @@ class Player:
         os.set_inheritable(requests[1], False)
         self.requests, self.answers = requests[1], os.fdopen(answers[0], "rb")
 
-    def play(self, data=None, at=0, on=False, reason="EIO", read_most=ANY, write_most=ANY, seconds=60):
-        """Plays the file, with these bytes if they are given."""
+    def play(self, data=None, at=0, on=False, reason="EIO", read_most=ANY, write_most=ANY, seconds=60, refused=0):
+        """Plays the file, with these bytes if they are given. The call `at` fails, or the allocation `refused` is refused, with all after
+        it if `on`."""
         if data is not None:
             self.room.write(self.mark + ".jsonl", data)
         out, err = self.room.path(self.mark + ".out"), self.room.path(self.mark + ".err")
         given = self.file if self.standard else "/dev/null"
-        numbers = at, int(on), FAILS_WITH[reason], read_most, write_most, seconds
+        numbers = at, int(on), FAILS_WITH[reason], read_most, write_most, seconds, refused, int(on)
         os.write(self.requests, REQUEST.pack(*numbers, *(path.encode() for path in (given, out, err))))
-        head = self.answers.read(8)
-        if len(head) < 8:
+        head = self.answers.read(12)
+        if len(head) < 12:
             raise OSError("the program did not begin")
-        status, count = struct.unpack("iI", head)
+        status, allocations, count = struct.unpack("iII", head)
         calls = [Call(chr(letter), asked, answer) for letter, asked, answer in CALL.iter_unpack(self.answers.read(count * CALL.size))]
         with open(out, "rb") as first, open(err, "rb") as second:
             printed, said = first.read(), second.read()
         status = -os.WTERMSIG(status) if os.WIFSIGNALED(status) else os.WEXITSTATUS(status)
-        return Ran(status, printed, said, calls)
+        return Ran(status, printed, said, calls, allocations)
 
     def end(self):
         os.close(self.requests)
@@ -158,6 +196,18 @@ class Player:
         except subprocess.TimeoutExpired:
             os.kill(self.process.pid, signal.SIGKILL)
             self.process.wait()
+
+
+@contextlib.contextmanager
+def within(seconds, process):
+    """Kills a process that has not ended what is done with it in so many seconds."""
+    clock = threading.Timer(seconds, process.kill)
+    clock.daemon = True
+    clock.start()
+    try:
+        yield
+    finally:
+        clock.cancel()
 
 
 def first_difference(wanted, found):
@@ -176,15 +226,25 @@ def against_reference(found, data, ran):
     return [f"not as the reference, of status {wanted[0]}: {first_difference(wanted[1], ran.out)}"]
 
 
+def not_asked(found):
+    """What a script says at its end if there was no reference."""
+    return "" if found else "; the reference was not asked"
+
+
 def end(told, tried, bad, left, found):
     """Says what came of the files that were tried, and which were left, and ends the script: with 0 if some were tried and all were right."""
     print(f"{told}, {bad} not as they should be" + (f"; left when the time was up: {', '.join(left)}" if left else "")
-          + ("" if found else "; the reference was not at hand"))
+          + not_asked(found))
     sys.exit(bad > 0 or not tried)
 
 
 def begin(main, about, most):
-    """Runs a script with its words, at most so many, or says what it is about."""
-    if sys.argv[1:2] == ["--help"]:
+    """Runs a script with its words, at most so many, and with the number after `--count`, or says what it is about."""
+    words, named = sys.argv[1:], {}
+    if words[:1] == ["--help"] or words[-1:] == ["--count"]:
         sys.exit(about)
-    main(*sys.argv[1:most + 1])
+    if "--count" in words:
+        at = words.index("--count")
+        named["count"] = int(words[at + 1])
+        del words[at:at + 2]
+    main(*words[:most], **named)

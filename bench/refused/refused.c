@@ -1,6 +1,7 @@
 // An allocator that refuses allocations of a program: that with the number REFUSED_AT, from 1, and with REFUSED_ON all
 // after it too. Those that the C library makes for itself while it starts a thread are not counted. At the end it
-// writes how many there were to the file REFUSED_COUNT. The start of the thread with the number REFUSED_START fails.
+// writes how many there were to the file REFUSED_COUNT. The start of the thread with the number REFUSED_START fails. A library
+// beside it may say by `refuse` which allocation is refused, and where they are counted.
 #define _GNU_SOURCE
 #include <dlfcn.h>
 #include <errno.h>
@@ -16,7 +17,8 @@ extern void *__libc_calloc(size_t, size_t);
 extern void *__libc_realloc(void *, size_t);
 extern void *__libc_memalign(size_t, size_t);
 
-static atomic_ulong count;
+static atomic_ulong counted;
+static atomic_ulong *count = &counted;
 static atomic_ulong starts;
 static unsigned long at = 0, start = 0;
 static int on = 0;
@@ -28,12 +30,18 @@ __attribute__((constructor)) static void begin(void) {
     on = getenv("REFUSED_ON") != NULL;
     number = getenv("REFUSED_START");
     start = number ? strtoul(number, NULL, 10) : 0;
-    atomic_store(&count, 0);
+    atomic_store(count, 0);
+}
+
+void refuse(unsigned long number, int all_after, atomic_ulong *place) {
+    at = number;
+    on = all_after;
+    count = place;
 }
 
 __attribute__((destructor)) static void end(void) {
     const char *path = getenv("REFUSED_COUNT");
-    unsigned long many = atomic_load(&count);
+    unsigned long many = atomic_load(count);
     at = 0;
     FILE *file = path ? fopen(path, "w") : NULL;
     if (file) {
@@ -50,7 +58,7 @@ void _exit(int status) {
 
 static int is_refused(void) {
     if (inside) return 0;
-    unsigned long number = atomic_fetch_add(&count, 1) + 1;
+    unsigned long number = atomic_fetch_add(count, 1) + 1;
     return at && (number == at || (on && number > at));
 }
 
