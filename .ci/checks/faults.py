@@ -10,7 +10,7 @@ sys.path.insert(0, "bench/faults")
 import rig
 
 # Those that load a library into the program, which gcc compiles; the one that mutates needs the reference too.
-BY_LIBRARY = [["failing_calls.py", "25", "15", "every_edit.jsonl,first.jsonl,long,no step"],
+BY_LIBRARY = [["failing_calls.py", "25", "15", "every_edit.jsonl,first.jsonl,long,no step"], ["refused_each.py", "40", "15"],
               ["fuzz_lines.py", "600", "3000", "15"], ["lost_each.py", "12", "15"], ["limits.py", "0", "30"], ["failing_links.py", "20"]]
 
 
@@ -22,7 +22,7 @@ def main():
     if shutil.which("gcc"):
         scripts = [words for words in BY_LIBRARY if oracle or words[0] != "fuzz_lines.py"] + scripts
     else:
-        print("faults: there is no gcc: no calls, lines, links or limits were tried", flush=True)
+        print("faults: there is no gcc: no calls, allocations, lines, links or limits were tried", flush=True)
     if not oracle:
         print("faults: the reference was not asked: no lines and frames were mutated", flush=True)
     failed = [words[0] for words in scripts if subprocess.run([sys.executable, f"bench/{words[0]}", *words[1:]], env=dict(os.environ, GATE=gate)).returncode]
