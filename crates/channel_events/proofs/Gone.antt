@@ -7,9 +7,10 @@ use Rattle.std.proofs.lemmas.Bool.Decides.{nat_tests}
 use Rattle.collections.specs.ById.{find_id, has_id, put_id, without_id, keep_if, or_else, IsById}
 use Rattle.collections.proofs.Ids.{IsById-put}
 use Rattle.collections.proofs.Finds.{key-found, same_by_id, find-put, find-without, find-filter, find-map, IsById-filter, IsById-map, IsById-without}
+use Rattle.collections.proofs.Filters.{filter-filter}
 use Rattle.collections.proofs.Has.{All-found}
 use Rattle.perm_bits.specs.Bits.{has_bit}
-use Rattle.intent_set.specs.Intents.{guilds}
+use Rattle.intent_set.specs.Intents.{guilds, guild_voice_states}
 use Rattle.guild_model.specs.declared.member.Member.{Member}
 use Rattle.guild_model.specs.declared.channel.Channel.{Channel}
 use Rattle.guild_model.specs.declared.thread.Thread.{Thread}
@@ -24,7 +25,7 @@ use Rattle.dispatch_types.specs.declared.view.ThreadView.{ThreadView}
 use Rattle.dispatch_types.specs.declared.dispatch.Dispatch.{Dispatch}
 use Rattle.dispatch_types.specs.declared.dispatch.Dispatch.TheVariants.{ChannelUpdate, ChannelDelete}
 use Rattle.dispatch_types.specs.Objects.{channel_object}
-use Rattle.dispatch_types.specs.Projection.{thread_view, open_view}
+use Rattle.dispatch_types.specs.Projection.{listed, thread_view, open_view}
 use Rattle.dispatch_types.specs.Fold.{Held, drop_channel, fold_from}
 use Rattle.dispatch_types.proofs.Folds.{folded-here}
 use Rattle.thread_sync.specs.Sight.{KeepsGrants}
@@ -246,7 +247,20 @@ follows-gone s v h me c ascends asks has =
         (same-sight s (with_channels quiet_now cs) me me ascends.threads refl refl (λ id b thread found. granted-channels (standing s me) cs thread.parent b (without_children.0 thread.parent)))
         ∙ sym (channel-gone s me c.id v.intents (orphaned c.id) t.voices t.messages (λ x. refl) (λ x. refl) ascends.threads)
 
+    -- their ends were told before, so that none is left in it
+    voices : filter (speaks_outside c.id) (listed v.intents guild_voice_states t.voices) ≡ listed v.intents guild_voice_states t.voices
+    voices = by_bit (has_bit v.intents guild_voice_states)
+      where
+        by_bit : (b : Bool) → filter (speaks_outside c.id) (if b then t.voices else []) ≡ (if b then t.voices else [])
+        by_bit true = filter-filter voice_id (speaks_outside c.id) (speaks_outside c.id) s.voices ascends.voices (λ id x found outside. outside)
+        by_bit false = refl
+
     turns : drop_channel c.id (open_view (with_channels quiet_now cs) v.intents told_orphans.known me) ≡ open_view t v.intents told_orphans.known me
     turns =
-        ap (λ (xs : List Channel). record (open_view t v.intents told_orphans.known me) { channels = xs; threads = filter (λ (x : ThreadView). not (x.parent == c.id)) (open_view (with_channels quiet_now cs) v.intents told_orphans.known me).threads }) (channels-left s c.id ascends)
-        ∙ ap (λ (xs : List ThreadView). record (open_view t v.intents told_orphans.known me) { threads = xs }) (threads told_orphans.known)
+        ap (λ (xs : List Channel). record (open_view t v.intents told_orphans.known me) {
+          channels = xs;
+          threads = filter (λ (x : ThreadView). not (x.parent == c.id)) (open_view (with_channels quiet_now cs) v.intents told_orphans.known me).threads;
+          voices = filter (speaks_outside c.id) (listed v.intents guild_voice_states t.voices);
+        }) (channels-left s c.id ascends)
+        ∙ (ap (λ (xs : List ThreadView). record (open_view t v.intents told_orphans.known me) { threads = xs; voices = filter (speaks_outside c.id) (listed v.intents guild_voice_states t.voices) }) (threads told_orphans.known)
+        ∙ ap (λ (xs : List Voice). record (open_view t v.intents told_orphans.known me) { voices = xs }) voices)

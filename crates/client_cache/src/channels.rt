@@ -1,6 +1,7 @@
 //! CHANNEL_CREATE, CHANNEL_UPDATE and CHANNEL_DELETE.
 
 ghost use Rattle.std.specs.Prelude.{◌≡◌, ◌==◌, not, filter, OnOk, OnErr};
+ghost use Rattle.guild_model.specs.declared.voice.Voice.{Voice};
 ghost use Rattle.dispatch_types.specs.declared.view.ThreadView.{ThreadView};
 ghost use Rattle.dispatch_types.specs.Fold.{set_channel, drop_channel};
 
@@ -8,6 +9,7 @@ use crate::fold::Fold;
 use crate::objects::channel_of;
 use collections::ById;
 use dispatch_types::{ChannelObject, OpenView, ThreadView};
+use guild_model::Voice;
 use snowflake_id::Snowflake;
 use std::alloc::AllocError;
 
@@ -30,10 +32,17 @@ fn drop_threads(threads: &mut ById<ThreadView>, channel: Snowflake)
     threads.retain(|thread| thread.parent != channel);
 }
 
-/// Removes a channel and its threads (Gateway Events, Channel Delete).
+fn drop_voices(voices: &mut ById<Voice>, channel: Snowflake)
+    ensures { voices.new ≡ filter (λ (voice : Voice). not (voice.channel == channel)) voices.old }
+{
+    voices.retain(|voice| voice.channel != channel);
+}
+
+/// Removes a channel, its threads and the voice states in it (Gateway Events, Channel Delete).
 pub(crate) fn drop_channel(view: &mut OpenView, channel: Snowflake)
     ensures { view.new ≡ drop_channel channel view.old }
 {
     view.channels.remove(channel.0);
     drop_threads(&mut view.threads, channel);
+    drop_voices(&mut view.voices, channel);
 }

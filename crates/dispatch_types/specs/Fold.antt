@@ -87,8 +87,13 @@ if_unavailable intents unavailable = if unavailable then told intents guilds Una
 abbrev pub set_channel : ChannelObject → OpenView → OpenView
 set_channel o v = record v { channels = put_id channel_id (channel_of o) v.channels }
 
+-- with its threads and the voice states in it (Gateway Events, Channel Delete)
 abbrev pub drop_channel : ℕ → OpenView → OpenView
-drop_channel id v = record v { channels = without_id channel_id id v.channels; threads = filter (λ (t : ThreadView). not (t.parent == id)) v.threads }
+drop_channel id v = record v {
+  channels = without_id channel_id id v.channels;
+  threads = filter (λ (t : ThreadView). not (t.parent == id)) v.threads;
+  voices = filter (λ (voice : Voice). not (voice.channel == id)) v.voices;
+}
 
 abbrev pub set_role : Role → OpenView → OpenView
 set_role r v = record v { roles = put_id role_id r v.roles }
