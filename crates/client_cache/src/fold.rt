@@ -20,8 +20,8 @@ pub(crate) struct Fold {
 }
 
 impl Fold {
-    /// A number of members, if GUILD_MEMBERS tells it.
-    pub(crate) fn counted(&self, count: u32) -> Option<u32>
+    /// A number of members or of users in a thread, if GUILD_MEMBERS tells it.
+    pub(crate) fn counted<N: Copy>(&self, count: N) -> Option<N>
         ensures { result ≡ told self.now.intents guild_members count }
     {
         if self.intents.has(Intents::GUILD_MEMBERS) {

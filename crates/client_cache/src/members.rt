@@ -17,13 +17,13 @@ use guild_model::Member;
 use intent_set::Intents;
 use std::alloc::{AllocError, Global};
 
-fn one_more(count: u32) -> u32
+fn one_more(count: u64) -> u64
     ensures { result ≡ one_more count }
 {
     count.saturating_add(1)
 }
 
-fn one_less(count: u32) -> u32
+fn one_less(count: u64) -> u64
     ensures { result ≡ one_less count }
 {
     count.saturating_sub(1)

@@ -134,7 +134,7 @@ abbrev pub update_members : ℕ → ℕ → MembersUpdate → OpenView → OpenV
 update_members intents bot update v = record v { threads = map (λ (t : ThreadView). if t.id == update.id then members_updated intents bot update t else t) v.threads }
 
 abbrev pub one_more : ℕ → ℕ
-one_more n = min (n + 1) (2 ^ 32 - 1)
+one_more n = min (n + 1) (2 ^ 64 - 1)
 
 abbrev pub one_less : ℕ → ℕ
 one_less n = n - 1

@@ -16,7 +16,7 @@ pub struct GuildCreate {
     pub roles: Seq<Role>,
     pub channels: Seq<ChannelObject>,
     pub members: Seq<MemberObject>,
-    pub member_count: u32,
+    pub member_count: u64,
     pub large: bool,
     pub threads: Seq<JoinedThread>,
     pub voices: Seq<VoiceObject>,

@@ -114,8 +114,8 @@ impl Drop for GuildMemberRemove {
 pub struct MembersChunk {
     pub guild: Snowflake,
     pub members: Seq<MemberObject>,
-    pub index: u32,
-    pub count: u32,
+    pub index: u64,
+    pub count: u64,
     pub nonce: Option<Text>,
     /// The ids that are no members'; left out where there are none.
     pub not_found: Seq<Snowflake>,

@@ -67,7 +67,7 @@ pub struct OpenView {
     pub me: Member,
     pub members: ById<Member>,
     /// How many members there are, where GUILD_MEMBERS tells.
-    pub member_count: Option<u32>,
+    pub member_count: Option<u64>,
     pub threads: ById<ThreadView>,
     pub voices: ById<Voice>,
     pub presences: ById<Presence>,

@@ -1,6 +1,6 @@
 //! GUILD_CREATE of a guild, as a viewer is told it (Gateway Events, Guild Create).
 
-ghost use Rattle.std.specs.Prelude.{◌≡◌, IfOk, map, filter, length, option_map};
+ghost use Rattle.std.specs.Prelude.{◌≡◌, IfOk, map, filter, option_map};
 ghost use Rattle.collections.specs.ById.{find_id};
 ghost use Rattle.guild_model.specs.Record.{thread_member_id};
 ghost use Rattle.intent_set.specs.Intents.{guild_voice_states};
@@ -157,17 +157,6 @@ fn roles(alloc: Global, guild: &Guild) -> Result<Seq<Role>, AllocError>
     Ok(Seq::from_vec(roles))
 }
 
-// How many members there are. More than are ever counted want too much memory.
-fn member_count(guild: &Guild) -> Result<u32, AllocError>
-    ensures { IfOk result (λ count. count ≡ length guild.now.members) }
-{
-    let count = guild.members.len();
-    if count > u32::MAX as usize {
-        return Err(AllocError);
-    }
-    Ok(count as u32)
-}
-
 /// What a viewer with this member is told of a guild that it is served. `large` is true above the
 /// viewer's threshold.
 #[tactic(auto, unfolding(crate::specs::Greeting::greeting))]
@@ -186,7 +175,7 @@ pub fn greeting(
         roles: roles(alloc, guild)?,
         channels: channels(alloc, guild)?,
         members: members(alloc, guild, viewer)?,
-        member_count: member_count(guild)?,
+        member_count: guild.members.len() as u64,
         large: is_large(guild, viewer),
         threads: threads(alloc, guild, viewer, me)?,
         voices: voices(alloc, guild, viewer)?,

@@ -76,7 +76,6 @@ guild_create_back g h =
     rw (
       items_back channel_from channel_data ChannelFits channel_back g.channels h.0,
       id_of_decimal g.id h.1,
-      below g.member_count (2 ^ 32) h.2,
       members_back g.members h.3,
       id_of_decimal g.owner h.4.0,
       items_back presence_from presence_data PresenceFits presence_back g.presences h.4.1,
@@ -179,14 +178,14 @@ parted_chunk_back : (guild : ℕ) (members : List MemberObject) (index chunks : 
     let c : MembersChunk = record { guild = guild; members = members; index = index; count = chunks; nonce = nonce; not_found = others; presences = presences } in
     ChunkFits c → members_chunk_from (members_chunk_data c) ≡ Ok c
 unfolding serde_json_on_literals
-parted_chunk_back guild members index chunks None [] None h = rw (below chunks (2 ^ 32) h.0, below index (2 ^ 32) h.1, id_of_decimal guild h.2, members_back members h.3) refl
-parted_chunk_back guild members index chunks None [] (Some ps) h = rw (below chunks (2 ^ 32) h.0, below index (2 ^ 32) h.1, id_of_decimal guild h.2, members_back members h.3, presences_back ps h.5) refl
-parted_chunk_back guild members index chunks None (x ∷ others) None h = rw (below chunks (2 ^ 32) h.0, below index (2 ^ 32) h.1, id_of_decimal guild h.2, members_back members h.3, id_of_decimal x h.4.0, ids_back others h.4.1) refl
-parted_chunk_back guild members index chunks None (x ∷ others) (Some ps) h = rw (below chunks (2 ^ 32) h.0, below index (2 ^ 32) h.1, id_of_decimal guild h.2, members_back members h.3, id_of_decimal x h.4.0, ids_back others h.4.1, presences_back ps h.5) refl
-parted_chunk_back guild members index chunks (Some nonce) [] None h = rw (below chunks (2 ^ 32) h.0, below index (2 ^ 32) h.1, id_of_decimal guild h.2, members_back members h.3) refl
-parted_chunk_back guild members index chunks (Some nonce) [] (Some ps) h = rw (below chunks (2 ^ 32) h.0, below index (2 ^ 32) h.1, id_of_decimal guild h.2, members_back members h.3, presences_back ps h.5) refl
-parted_chunk_back guild members index chunks (Some nonce) (x ∷ others) None h = rw (below chunks (2 ^ 32) h.0, below index (2 ^ 32) h.1, id_of_decimal guild h.2, members_back members h.3, id_of_decimal x h.4.0, ids_back others h.4.1) refl
-parted_chunk_back guild members index chunks (Some nonce) (x ∷ others) (Some ps) h = rw (below chunks (2 ^ 32) h.0, below index (2 ^ 32) h.1, id_of_decimal guild h.2, members_back members h.3, id_of_decimal x h.4.0, ids_back others h.4.1, presences_back ps h.5) refl
+parted_chunk_back guild members index chunks None [] None h = rw (id_of_decimal guild h.2, members_back members h.3) refl
+parted_chunk_back guild members index chunks None [] (Some ps) h = rw (id_of_decimal guild h.2, members_back members h.3, presences_back ps h.5) refl
+parted_chunk_back guild members index chunks None (x ∷ others) None h = rw (id_of_decimal guild h.2, members_back members h.3, id_of_decimal x h.4.0, ids_back others h.4.1) refl
+parted_chunk_back guild members index chunks None (x ∷ others) (Some ps) h = rw (id_of_decimal guild h.2, members_back members h.3, id_of_decimal x h.4.0, ids_back others h.4.1, presences_back ps h.5) refl
+parted_chunk_back guild members index chunks (Some nonce) [] None h = rw (id_of_decimal guild h.2, members_back members h.3) refl
+parted_chunk_back guild members index chunks (Some nonce) [] (Some ps) h = rw (id_of_decimal guild h.2, members_back members h.3, presences_back ps h.5) refl
+parted_chunk_back guild members index chunks (Some nonce) (x ∷ others) None h = rw (id_of_decimal guild h.2, members_back members h.3, id_of_decimal x h.4.0, ids_back others h.4.1) refl
+parted_chunk_back guild members index chunks (Some nonce) (x ∷ others) (Some ps) h = rw (id_of_decimal guild h.2, members_back members h.3, id_of_decimal x h.4.0, ids_back others h.4.1, presences_back ps h.5) refl
 
 chunk_back : (c : MembersChunk) → ChunkFits c → members_chunk_from (members_chunk_data c) ≡ Ok c
 chunk_back c h = parted_chunk_back c.guild c.members c.index c.count c.nonce c.not_found c.presences h

@@ -15,8 +15,8 @@ use Rattle.object_json.specs.Voice.{voice_data, voice_from, VoiceFits}
 use Rattle.object_json.specs.Presence.{presence_data, presence_from, PresenceFits}
 use Rattle.json_view.specs.Fields.{and_then}
 use Rattle.object_json.specs.declared.fault.ReadFault.{ReadFault}
-use Rattle.object_json.specs.Reading.{id_at, text_at, flag_at, small_at, is_there, list_at, value_at}
-use Rattle.object_json.specs.Fits.{Each, IsId, IsSmall}
+use Rattle.object_json.specs.Reading.{id_at, text_at, flag_at, number_at, is_there, list_at, value_at}
+use Rattle.object_json.specs.Fits.{Each, IsId, IsWhole}
 
 -- what follows the members
 abbrev pub guild_create_rest : GuildCreate → Members
@@ -71,7 +71,7 @@ guild_create_from d =
     and_then (list_at channel_from (codes "channels") d) (λ channels.
     and_then (id_at (codes "id") d) (λ id.
     and_then (flag_at (codes "large") d) (λ large.
-    and_then (small_at (codes "member_count") d) (λ users.
+    and_then (number_at (codes "member_count") d) (λ users.
     and_then (list_at member_from (codes "members") d) (λ members.
     and_then (text_at (codes "name") d) (λ name.
     and_then (id_at (codes "owner_id") d) (λ owner.
@@ -100,7 +100,7 @@ GuildRestFits g =
 
 abbrev pub GuildCreateFits : GuildCreate → Type 0
 GuildCreateFits g =
-    Each ChannelFits g.channels × IsId g.id × IsSmall g.member_count × Each MemberFits g.members
+    Each ChannelFits g.channels × IsId g.id × IsWhole g.member_count × Each MemberFits g.members
     × GuildRestFits g
 
 abbrev pub guild_update_from : Data → Result GuildUpdate ReadFault

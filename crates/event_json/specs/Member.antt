@@ -10,8 +10,8 @@ use Rattle.object_json.specs.Member.{member_data, member_from, MemberFits}
 use Rattle.object_json.specs.Presence.{presence_data, presence_from, PresenceFits}
 use Rattle.json_view.specs.Fields.{and_then}
 use Rattle.object_json.specs.declared.fault.ReadFault.{ReadFault}
-use Rattle.object_json.specs.Reading.{id_at, small_at, text_from, id_from, list_at, list_if_at, list_from, optional_at, value_at}
-use Rattle.object_json.specs.Fits.{Each, IsId, IsSmall}
+use Rattle.object_json.specs.Reading.{id_at, number_at, text_from, id_from, list_at, list_if_at, list_from, optional_at, value_at}
+use Rattle.object_json.specs.Fits.{Each, IsId, IsWhole}
 
 -- Guild Member Add and Guild Member Update: the member, and with it its guild
 abbrev pub guild_member_data : GuildMember → Data
@@ -57,8 +57,8 @@ GuildMemberRemoveFits r = IsId r.guild × UserFits r.user
 
 abbrev pub members_chunk_from : Data → Result MembersChunk ReadFault
 members_chunk_from d =
-    and_then (small_at (codes "chunk_count") d) (λ chunks.
-    and_then (small_at (codes "chunk_index") d) (λ index.
+    and_then (number_at (codes "chunk_count") d) (λ chunks.
+    and_then (number_at (codes "chunk_index") d) (λ index.
     and_then (id_at (codes "guild_id") d) (λ guild.
     and_then (list_at member_from (codes "members") d) (λ members.
     and_then (optional_at text_from (codes "nonce") d) (λ nonce.
@@ -76,5 +76,5 @@ members_chunk_from d =
 
 abbrev pub ChunkFits : MembersChunk → Type 0
 ChunkFits c =
-    IsSmall c.count × IsSmall c.index × IsId c.guild × Each MemberFits c.members × Each IsId c.not_found
+    IsWhole c.count × IsWhole c.index × IsId c.guild × Each MemberFits c.members × Each IsId c.not_found
     × IfSome c.presences (Each PresenceFits)

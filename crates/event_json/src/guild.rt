@@ -11,10 +11,10 @@ use json::Writer;
 use json_view::Node;
 use object_json::fault::ReadFault;
 use object_json::field::{
-    close, flag_field, id_field, open, small_field, text_field, true_field_if,
+    close, flag_field, id_field, number_field, open, text_field, true_field_if,
 };
 use object_json::readable::{list_at, value_at};
-use object_json::reading::{flag_at, id_at, is_there, small_at, text_at};
+use object_json::reading::{flag_at, id_at, is_there, number_at, text_at};
 use object_json::written::{list_field, value_field};
 use std::alloc::{AllocError, Global};
 
@@ -45,7 +45,7 @@ pub fn write_guild_create(
     list_field(alloc, out, "channels", &guild.channels)?;
     id_field(out, "id", guild.id)?;
     flag_field(out, "large", guild.large)?;
-    small_field(out, "member_count", guild.member_count)?;
+    number_field(out, "member_count", guild.member_count)?;
     list_field(alloc, out, "members", &guild.members)?;
     end_guild_create(alloc, out, guild)?;
     Ok(())
@@ -107,7 +107,7 @@ pub fn read_guild_create(alloc: Global, body: &Node<'_>) -> Result<GuildCreate, 
     let channels = list_at(alloc, body, "channels")?;
     let id = id_at(body, "id")?;
     let large = flag_at(body, "large")?;
-    let member_count = small_at(body, "member_count")?;
+    let member_count = number_at(body, "member_count")?;
     let members = list_at(alloc, body, "members")?;
     let name = text_at(alloc, body, "name")?;
     let owner = id_at(body, "owner_id")?;

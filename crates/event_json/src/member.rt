@@ -15,10 +15,10 @@ use dispatch_types::{GuildMember, GuildMemberRemove, MemberObject, MembersChunk,
 use json::Writer;
 use json_view::{JsonValue, Node};
 use object_json::fault::ReadFault;
-use object_json::field::{close, id_field, open, small_field, text_field_if};
+use object_json::field::{close, id_field, number_field, open, text_field_if};
 use object_json::member::write_member;
 use object_json::readable::{Readable, list_at, list_from, list_if_at, optional_at, value_at};
-use object_json::reading::{id_at, small_at};
+use object_json::reading::{id_at, number_at};
 use object_json::written::{list_field, list_field_if, value_field};
 use std::alloc::{AllocError, Global};
 
@@ -77,8 +77,8 @@ pub fn write_members_chunk(
     ensures fits { OnOk result (ChunkFits chunk.now) }
 {
     open(out)?;
-    small_field(out, "chunk_count", chunk.count)?;
-    small_field(out, "chunk_index", chunk.index)?;
+    number_field(out, "chunk_count", chunk.count)?;
+    number_field(out, "chunk_index", chunk.index)?;
     id_field(out, "guild_id", chunk.guild)?;
     list_field(alloc, out, "members", &chunk.members)?;
     text_field_if(out, "nonce", &chunk.nonce)?;
@@ -122,8 +122,8 @@ fn presences_at(alloc: Global, body: &Node<'_>) -> Result<Option<Seq<PresenceObj
 pub fn read_members_chunk(alloc: Global, body: &Node<'_>) -> Result<MembersChunk, ReadFault>
     ensures { UnlessMemory result (members_chunk_from (view body.now)) }
 {
-    let count = small_at(body, "chunk_count")?;
-    let index = small_at(body, "chunk_index")?;
+    let count = number_at(body, "chunk_count")?;
+    let index = number_at(body, "chunk_index")?;
     let guild = id_at(body, "guild_id")?;
     let members = list_at(alloc, body, "members")?;
     let nonce = optional_at(alloc, body, "nonce")?;

@@ -1,6 +1,6 @@
 //! The chunks of an answer (Gateway Events, Guild Members Chunk).
 
-ghost use Rattle.std.specs.Prelude.{◌≡◌, ◌<◌, ◌≤◌, ◌^◌, IfOk, map, filter_map};
+ghost use Rattle.std.specs.Prelude.{◌≡◌, IfOk, map, filter_map};
 ghost use Rattle.std.specs.Option.{option_copied};
 ghost use Rattle.dispatch_types.specs.declared.dispatch.Dispatch.TheVariants.{GuildMembersChunk};
 ghost use Rattle.dispatch_types.specs.Objects.{member_object};
@@ -20,23 +20,19 @@ const CHUNK_SIZE: usize = 1000;
 /// The most bytes of a nonce.
 const NONCE_SIZE: usize = 32;
 
-// How many chunks these members make. More than a `u32` counts is out of memory.
-fn chunk_count(members: &[&Member]) -> Result<u32, AllocError>
-    ensures { IfOk result (λ count. count ≡ chunk_count (map (λ member. member.now) members.now)) }
+// How many chunks these members make.
+fn chunk_count(members: &[&Member]) -> usize
+    ensures { result ≡ chunk_count (map (λ member. member.now) members.now) }
 {
-    let count = members.len().div_ceil(CHUNK_SIZE).max(1);
-    if count > u32::MAX as usize {
-        return Err(AllocError);
-    }
-    Ok(count as u32)
+    members.len().div_ceil(CHUNK_SIZE).max(1)
 }
 
 // The members of the chunk with this number.
-fn part<'a, 'b>(members: &'a [&'b Member], index: u32) -> &'a [&'b Member]
+fn part<'a, 'b>(members: &'a [&'b Member], index: usize) -> &'a [&'b Member]
     ensures { map (λ member. member.now) result.now
         ≡ part (map (λ member. member.now) members.now) index }
 {
-    let start = (index as usize * CHUNK_SIZE).min(members.len());
+    let start = index.saturating_mul(CHUNK_SIZE).min(members.len());
     let end = (start + CHUNK_SIZE).min(members.len());
     &members[start..end]
 }
@@ -109,7 +105,7 @@ fn chunk(
     guild: &Guild,
     ask: &Ask,
     members: &[&Member],
-    index: u32,
+    index: usize,
 ) -> Result<MembersChunk, AllocError>
     ensures { IfOk result (λ told. told
         ≡ chunk guild.now ask.now (map (λ member. member.now) members.now) index) }
@@ -118,8 +114,8 @@ fn chunk(
     Ok(MembersChunk {
         guild: guild.id,
         members: member_objects(alloc, part)?,
-        index,
-        count: chunk_count(members)?,
+        index: index as u64,
+        count: chunk_count(members) as u64,
         nonce: given_back(alloc, ask.nonce.as_ref())?,
         not_found: Seq::from_vec(not_found(alloc, guild, &ask.find)?),
         presences: presences_told(alloc, guild, ask, part)?,
@@ -137,7 +133,7 @@ pub(crate) fn chunks(
         ≡ chunks guild.now ask.now (map (λ member. member.now) members.now)) }
 {
     let mut list = Vec::new(alloc);
-    for index in 0..chunk_count(members)? {
+    for index in 0..chunk_count(members) {
         let chunk = chunk(alloc, guild, ask, members, index)?;
         list.push(Dispatch::GuildMembersChunk(chunk))?;
     }

@@ -58,16 +58,13 @@ pub(crate) fn members(
     }
 }
 
-// How many members there are, if GUILD_MEMBERS tells. More than a `u32` counts is out of memory.
-pub(crate) fn member_count(guild: &Guild, intents: Intents) -> Result<Option<u32>, AllocError>
-    ensures { IfOk result (λ count. count ≡ told intents guild_members (length guild.now.members)) }
+// How many members there are, if GUILD_MEMBERS tells.
+pub(crate) fn member_count(guild: &Guild, intents: Intents) -> Option<u64>
+    ensures { result ≡ told intents guild_members (length guild.now.members) }
 {
-    if !intents.has(Intents::GUILD_MEMBERS) {
-        return Ok(None);
+    if intents.has(Intents::GUILD_MEMBERS) {
+        Some(guild.members.len() as u64)
+    } else {
+        None
     }
-    let count = guild.members.len();
-    if count > u32::MAX as usize {
-        return Err(AllocError);
-    }
-    Ok(Some(count as u32))
 }

@@ -53,7 +53,7 @@ fn open_view(
         channels: guild.channels.duplicate(alloc)?,
         me: me.duplicate(alloc)?,
         members: members(alloc, guild, intents, known)?,
-        member_count: member_count(guild, intents)?,
+        member_count: member_count(guild, intents),
         threads: threads(alloc, guild, intents, me)?,
         voices: voices(alloc, guild, intents)?,
         presences: presences(alloc, guild, intents)?,

@@ -106,7 +106,7 @@ module _ (s : Record) (v : Viewer) (h : Held) (me : Member) (well : IsWell s) (o
       new : find_id member_id e.user s.members ≡ None
       new = there_is_none (find_id member_id e.user s.members) (not_refused (has_id member_id e.user s.members) IdTaken tests.0)
 
-      few : length s.members < 2 ^ 32 - 1
+      few : length s.members < 2 ^ 64 - 1
       few = let fits = below (length s.members) 5000 (first_passes (too_many 5000 (length s.members)) (too_long 100 e.name ∷ []) tests.1).0 in omega (arith, fits)
 
       by_own : (b : Bool) → (e.user == v.user) ≡ b → (if b then Some added else find_id member_id v.user s.members) ≡ Some me' → me ≡ me'

@@ -141,7 +141,7 @@ module _ (s : Record) (v : Viewer) (user : ℕ) (f : Member → Member) (x me me
 
 -- ---- a member that is added
 
-pub follows-member_add : (s : Record) (v : Viewer) (h : Held) (me m : Member) → IsAscending s → length s.members < 2 ^ 32 - 1 → IsById own_id m.roles
+pub follows-member_add : (s : Record) (v : Viewer) (h : Held) (me m : Member) → IsAscending s → length s.members < 2 ^ 64 - 1 → IsById own_id m.roles
     → find_id member_id m.user.id s.members ≡ None → (own : Bool)
     → Has s v me h → Has (record s { members = put_id member_id m s.members }) v me (fold_from v.intents s.id h (asked v own (GuildMemberAdd (guild_member s.id m))))
 follows-member_add s v h me m ascends few ordered new own has = by_asked after v s.id h me own (GuildMemberAdd (guild_member s.id m)) tells keeps_silent
