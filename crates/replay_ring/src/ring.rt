@@ -59,8 +59,8 @@ impl Ring {
     }
 
     /// Gives the text the next number, and drops from the front what is past a limit. A text of
-    /// more bytes than the limit leaves nothing, nor does a limit of no texts. It does not allocate, and its time goes into this
-    /// text and those that it drops alone.
+    /// more bytes than the limit leaves nothing, nor does a limit of no texts. It does not allocate,
+    /// and its time goes into this text and those that it drops alone.
     pub fn push(&mut self, text: Payload)
         requires { self.old.last < 2 ^ 64 - 1 }
         ensures { self.new ≡ pushed self.old text }

@@ -13,7 +13,7 @@ ghost use Rattle.scenario.specs.Represents.{log_with, SlotRepresents, SlotsRepre
 use crate::guild_log::GuildLog;
 use crate::lagged::Lagged;
 use collections::{ById, Keyed, Text};
-use session_core::Bot;
+use session_core::{Bot, copies_of};
 use snowflake_id::Snowflake;
 use std::alloc::{AllocError, Global};
 use worker_core::{Input, Output, StepFault, Worker};
@@ -125,16 +125,6 @@ fn url_of(alloc: Global, number: u8) -> Result<Text, AllocError>
 {
     let url = format!(in alloc; "ws://w{number}.gate.invalid")?;
     Ok(Text::from_string(url))
-}
-
-fn copies_of(alloc: Global, bots: &[Bot]) -> Result<Vec<Bot>, AllocError>
-    ensures { IfOk result (λ copies. copies.items ≡ bots.now) }
-{
-    let mut copies = Vec::new(alloc);
-    for bot in bots {
-        copies.push(bot.copy(alloc)?)?;
-    }
-    Ok(copies)
 }
 
 // Four workers of these bots and guilds, before their first input.

@@ -2,11 +2,9 @@
 //! guilds that they declare.
 #![tactic(auto)]
 
-mod bot_copies;
 mod gathering;
 mod reading;
 mod script_file;
 
-pub use bot_copies::copies_of;
 pub use reading::{Heads, read_heads};
 pub use script_file::ScriptFile;

@@ -16,7 +16,7 @@ mod resume;
 mod sessions;
 mod window;
 
-pub use bot::Bot;
+pub use bot::{Bot, copies_of};
 pub use fault::{SessionFault, Spent};
 pub use holder::Holder;
 pub use ids::session_id;

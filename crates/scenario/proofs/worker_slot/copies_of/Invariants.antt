@@ -1,5 +1,0 @@
-use Rattle.std.proofs.Common.{◌≡◌, take}
-use Rattle.scenario.proofs.worker_slot.copies_of.Given as goal
-
-abbrev pub invariant-loop-bot : goal.invariant-loop-bot
-invariant-loop-bot l = l.copies.items ≡ take l.bot-index l.bots
