@@ -8,10 +8,10 @@ use Rattle.clap.specs.Faults.{fault_of}
 use Rattle.clap.specs.Simple.{Shape, subcommand_of}
 use Rattle.clap.specs.Takes.{takes}
 use Rattle.clap.specs.Walk.{finished, Text, Walk, idle, subcommand_met}
-use Rattle.serve_words.specs.Words.{is_option, named_words, run_words, load_words, client_words}
-use Rattle.serve_words.specs.Grammar.{gate, found_in, file_in, seed_in, client_in}
+use Rattle.serve_words.specs.Words.{is_option, named_words, run_words, load_words, client_words, lift_words}
+use Rattle.serve_words.specs.Grammar.{gate, found_in, file_in, seed_in, client_in, lift_in}
 use Rattle.serve_words.proofs.Walks.{IsPlain, at_start, first_plain, others_plain}
-use Rattle.serve_words.proofs.Subcommands.{run_is, load_is, client_is, names, shape_by, found_by, IsTaken, rows_are, is_taken, is_faultless, named_first}
+use Rattle.serve_words.proofs.Subcommands.{run_is, load_is, client_is, lift_is, names, shape_by, found_by, IsTaken, rows_are, is_taken, is_faultless, named_first}
 use Rattle.serve_words.proofs.Singles.{GoEach, ready, walk_is, are_taken, no_fewer, no_more}
 use Rattle.serve_words.proofs.Serve.{serve_word, serve_found, serve_refused}
 
@@ -23,6 +23,9 @@ load_word = codes "load"
 
 abbrev client_word : Text
 client_word = codes "client"
+
+abbrev lift_word : Text
+lift_word = codes "lift"
 
 -- ---- `run`
 
@@ -106,11 +109,32 @@ client_refused (url ∷ token ∷ intents ∷ count ∷ []) none refused =
     absurd (refused (is_taken client_word _ client_is words (are_taken client_shape words none (all_go url token intents count) refl)))
 client_refused (url ∷ token ∷ intents ∷ count ∷ more ∷ words) none refused = refl
 
+-- ---- `lift`
+
+abbrev lift_shape : Shape
+lift_shape = shape_by lift_word
+
+lifted_goes : (file : Text) → GoEach lift_shape at_start (file ∷ [])
+lifted_goes file = (ready _ refl refl refl, refl, tt)
+
+lift_found : (words : List Text) → list_any is_option words ≡ false → fault_of gate (lift_word ∷ words) ≡ [] → found_by lift_word words ≡ lift_words words
+lift_found [] none faultless = absurd (no_fewer lift_shape [] none tt refl (is_faultless lift_word _ lift_is [] faultless))
+lift_found (file ∷ []) none faultless =
+    ap (found_in (lift_word ∷ file ∷ [])) (rows_are lift_word _ lift_is (file ∷ []))
+    ∙ ap (λ (w : Walk). lift_in (finished lift_shape.rules w.held)) (walk_is lift_shape (file ∷ []) none (lifted_goes file))
+lift_found (file ∷ more ∷ words) none faultless =
+    absurd (no_more lift_shape (file ∷ []) more words none (lifted_goes file) (ready _ refl refl refl) refl (is_faultless lift_word _ lift_is (file ∷ more ∷ words) faultless))
+
+lift_refused : (words : List Text) → list_any is_option words ≡ false → (IsTaken lift_word words → ⊥) → lift_words words ≡ None
+lift_refused [] none refused = refl
+lift_refused (file ∷ []) none refused = absurd (refused (is_taken lift_word _ lift_is (file ∷ []) (are_taken lift_shape (file ∷ []) none (lifted_goes file) refl)))
+lift_refused (file ∷ more ∷ words) none refused = refl
+
 -- ---- the first word
 
--- a word that names none of the four
-not_named : (word : Text) → bytes_eq run_word word ≡ false → bytes_eq load_word word ≡ false → bytes_eq serve_word word ≡ false → bytes_eq client_word word ≡ false → subcommand_met names idle word ≡ None
-not_named word not_run not_load not_serve not_client = rw (not_run, not_load, not_serve, not_client) refl
+-- a word that names none of the five
+not_named : (word : Text) → bytes_eq run_word word ≡ false → bytes_eq load_word word ≡ false → bytes_eq serve_word word ≡ false → bytes_eq client_word word ≡ false → bytes_eq lift_word word ≡ false → subcommand_met names idle word ≡ None
+not_named word not_run not_load not_serve not_client not_lift = rw (not_run, not_load, not_serve, not_client, not_lift) refl
 
 differs : (a b : Text) → bytes_eq a b ≡ false → bytes_eq b a ≡ false
 differs a b e = by_test (bytes_eq b a) refl
@@ -119,18 +143,22 @@ differs a b e = by_test (bytes_eq b a) refl
     by_test false same = same
     by_test true same = absurd (not_from_Decides _ (bytes_eq-Decides a b) e (sym ((bytes_eq-Decides b a).0 same)))
 
--- what holds of words that begin with each of the four names, and of those that begin with none
+-- what holds of words that begin with each of the five names, and of those that begin with none
 module _ (P : Text → Type 0) where
-  by_name : (name : Text) → P run_word → P load_word → P serve_word → P client_word
-      → (bytes_eq name run_word ≡ false → bytes_eq name load_word ≡ false → bytes_eq name serve_word ≡ false → bytes_eq name client_word ≡ false → P name) → P name
-  by_name name of_run of_load of_serve of_client other = by_run (bytes_eq name run_word) refl
+  by_name : (name : Text) → P run_word → P load_word → P serve_word → P client_word → P lift_word
+      → (bytes_eq name run_word ≡ false → bytes_eq name load_word ≡ false → bytes_eq name serve_word ≡ false → bytes_eq name client_word ≡ false → bytes_eq name lift_word ≡ false → P name) → P name
+  by_name name of_run of_load of_serve of_client of_lift other = by_run (bytes_eq name run_word) refl
     where
       is : (word : Text) → P word → bytes_eq name word ≡ true → P name
       is word holds same = subst P (sym ((bytes_eq-Decides name word).0 same)) holds
 
+      by_lift : bytes_eq name run_word ≡ false → bytes_eq name load_word ≡ false → bytes_eq name serve_word ≡ false → bytes_eq name client_word ≡ false → (t : Bool) → bytes_eq name lift_word ≡ t → P name
+      by_lift not_run not_load not_serve not_client true same = is lift_word of_lift same
+      by_lift not_run not_load not_serve not_client false not_lift = other not_run not_load not_serve not_client not_lift
+
       by_client : bytes_eq name run_word ≡ false → bytes_eq name load_word ≡ false → bytes_eq name serve_word ≡ false → (t : Bool) → bytes_eq name client_word ≡ t → P name
       by_client not_run not_load not_serve true same = is client_word of_client same
-      by_client not_run not_load not_serve false not_client = other not_run not_load not_serve not_client
+      by_client not_run not_load not_serve false not_client = by_lift not_run not_load not_serve not_client (bytes_eq name lift_word) refl
 
       by_serve : bytes_eq name run_word ≡ false → bytes_eq name load_word ≡ false → (t : Bool) → bytes_eq name serve_word ≡ t → P name
       by_serve not_run not_load true same = is serve_word of_serve same
@@ -152,9 +180,9 @@ found_all [] none faultless = refl
 found_all (name ∷ words) none faultless =
     let later = others_plain name words none in
     by_name (λ (name : Text). IsPlain name → fault_of gate (name ∷ words) ≡ [] → found_by name words ≡ named_words (name ∷ words)) name
-    (λ is. run_found words later) (λ is. load_found words later) (λ is. serve_found words later) (λ is. client_found words later)
-    (λ not_run not_load not_serve not_client is faultless. absurd (named_first name words is
-    (not_named name (differs name run_word not_run) (differs name load_word not_load) (differs name serve_word not_serve) (differs name client_word not_client)) faultless))
+    (λ is. run_found words later) (λ is. load_found words later) (λ is. serve_found words later) (λ is. client_found words later) (λ is. lift_found words later)
+    (λ not_run not_load not_serve not_client not_lift is faultless. absurd (named_first name words is
+    (not_named name (differs name run_word not_run) (differs name load_word not_load) (differs name serve_word not_serve) (differs name client_word not_client) (differs name lift_word not_lift)) faultless))
     (first_plain name words none) faultless
 
 -- what `clap` refuses is not in the grammar
@@ -163,6 +191,6 @@ refused_all [] none refused = refl
 refused_all (name ∷ words) none refused =
     let later = others_plain name words none in
     by_name (λ (name : Text). (IsTaken name words → ⊥) → named_words (name ∷ words) ≡ None) name
-    (run_refused words later) (load_refused words later) (serve_refused words later) (client_refused words later)
-    (λ not_run not_load not_serve not_client refused. rw (not_run, not_load, not_serve, not_client) refl)
+    (run_refused words later) (load_refused words later) (serve_refused words later) (client_refused words later) (lift_refused words later)
+    (λ not_run not_load not_serve not_client not_lift refused. rw (not_run, not_load, not_serve, not_client, not_lift) refl)
     refused

@@ -48,6 +48,10 @@ pub client_is : IsNamed (codes "client") (shape_by (codes "client"))
 unfolding walked
 client_is = record { stops = refl; passes = refl; found = refl; own = refl }
 
+pub lift_is : IsNamed (codes "lift") (shape_by (codes "lift"))
+unfolding walked
+lift_is = record { stops = refl; passes = refl; found = refl; own = refl }
+
 -- what is asked for by what `clap` finds in a name and the words after it
 abbrev pub found_by : Text → List Text → Option Asked
 found_by name words = found_in (name ∷ words) (subcommand_of gate (name ∷ words))

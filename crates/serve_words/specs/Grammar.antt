@@ -5,7 +5,7 @@ use Rattle.std.specs.Str.{bytes_eq}
 use Rattle.clap.specs.Words.{App, Row, Rule, Text, first_of, new_app, new_rule, with_rule, with_subcommand}
 use Rattle.clap.specs.declared.builder.command.Command.{Command as Clap}
 use Rattle.clap.specs.declared.builder.command.Command.TheViews.{out-Command}
-use Rattle.serve_words.specs.Words.{number_of, number_to, url_of, token_of, intents_of, served, followed, Asked, run, load}
+use Rattle.serve_words.specs.Words.{number_of, number_to, url_of, token_of, intents_of, served, followed, Asked, run, load, lift}
 
 abbrev pub HasNoGlobals : Clap → Type 0
 HasNoGlobals c = (out-Command c).has_globals ≡ false
@@ -40,10 +40,14 @@ abbrev pub gate : App
 gate =
     let run = one_word (codes "run") (codes "FILE") in
     let load = one_word (codes "load") (codes "SEED") in
-    with_subcommand (with_subcommand (with_subcommand (with_subcommand (without_help (new_app (codes "gate"))) run.top) load.top) serve.top) client.top
+    let lift_app = one_word (codes "lift") (codes "FILE") in
+    with_subcommand (with_subcommand (with_subcommand (with_subcommand (with_subcommand (without_help (new_app (codes "gate"))) run.top) load.top) serve.top) client.top) lift_app.top
 
 abbrev pub file_in : List Row → Option Asked
 file_in rows = option_map run (first_of (codes "FILE") rows)
+
+abbrev pub lift_in : List Row → Option Asked
+lift_in rows = option_map lift (first_of (codes "FILE") rows)
 
 abbrev pub seed_in : List Row → Option Asked
 seed_in rows = option_map load (option_and_then number_of (first_of (codes "SEED") rows))
@@ -68,4 +72,5 @@ found_in words None = None
 found_in words (Some p) = if bytes_eq p.0 (codes "run") then file_in p.1
     else (if bytes_eq p.0 (codes "load") then seed_in p.1
     else (if bytes_eq p.0 (codes "serve") then serve_in words p.1
-    else (if bytes_eq p.0 (codes "client") then client_in p.1 else None)))
+    else (if bytes_eq p.0 (codes "client") then client_in p.1
+    else (if bytes_eq p.0 (codes "lift") then lift_in p.1 else None))))

@@ -7,7 +7,7 @@ use Rattle.intent_set.specs.Intents.{intent_bits}
 use Rattle.snowflake_id.specs.declared.BadId.{BadId}
 use Rattle.snowflake_id.specs.Text.{id_of_text}
 use Rattle.serve_words.specs.declared.command.Command.{Command}
-use Rattle.serve_words.specs.declared.command.Command.TheVariants.{Run, Load, Serve, Client}
+use Rattle.serve_words.specs.declared.command.Command.TheVariants.{Run, Load, Serve, Client, Lift}
 
 -- a word that begins with a dash is an option; the dash alone is none, but a file, standard input
 abbrev pub is_option : List ℕ → Bool
@@ -49,12 +49,14 @@ pub data Asked : Type 0 where
   load : (seed : ℕ) → Asked
   serve : (port workers accepts : ℕ) → (files : List (List ℕ)) → Asked
   client : (url token : List ℕ) → (intents count : ℕ) → Asked
+  lift : (file : List ℕ) → Asked
 
 abbrev pub asked : Command → Asked
 asked (Run file) = run file.now
 asked (Load seed) = load seed
 asked (Serve port workers accepts files) = serve port workers accepts (map string_bytes files.now)
 asked (Client url token intents count) = client url.now token.now intents count
+asked (Lift file) = lift file.now
 
 -- what is asked for where all three numbers are there
 abbrev pub served : (port workers accepts : Option ℕ) → List (List ℕ) → Option Asked
@@ -70,6 +72,11 @@ followed url token intents count = None
 abbrev pub run_words : List (List ℕ) → Option Asked
 run_words (file ∷ []) = Some (run file)
 run_words words = None
+
+-- the same of the command `lift`
+abbrev pub lift_words : List (List ℕ) → Option Asked
+lift_words (file ∷ []) = Some (lift file)
+lift_words words = None
 
 -- by the words SEED
 abbrev pub load_words : List (List ℕ) → Option Asked
@@ -97,7 +104,8 @@ named_words (name ∷ words) =
     if bytes_eq name (codes "run") then run_words words
     else (if bytes_eq name (codes "load") then load_words words
     else (if bytes_eq name (codes "serve") then serve_words words
-    else (if bytes_eq name (codes "client") then client_words words else None)))
+    else (if bytes_eq name (codes "client") then client_words words
+    else (if bytes_eq name (codes "lift") then lift_words words else None))))
 
 -- what the words ask for, if they are in the grammar, which has no options
 abbrev pub command_of : List (List ℕ) → Option Asked

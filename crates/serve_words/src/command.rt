@@ -36,4 +36,8 @@ pub enum Command<'a> {
         /// After how many dispatches it ends, 1 to 1,000,000.
         count: u32,
     },
+    /// `lift FILE`: to write the step file of that name in its newest version. `-` is standard input.
+    Lift {
+        file: &'a str,
+    },
 }

@@ -75,9 +75,11 @@ pub fn grammar<'a>(alloc: Global) -> Result<clap::Command<'a>, AllocError>
     let load = one_word(alloc, "load", "SEED")?;
     let serve = serve(alloc)?;
     let client = client(alloc)?;
+    let lift = one_word(alloc, "lift", "FILE")?;
     without_help(alloc)
         .subcommand(run)?
         .subcommand(load)?
         .subcommand(serve)?
-        .subcommand(client)
+        .subcommand(client)?
+        .subcommand(lift)
 }

@@ -4,7 +4,7 @@ ghost use Rattle.std.specs.Prelude.{◌≡◌, ◌≤◌, map, drop, string_byte
 ghost use Rattle.std.specs.List.{list_any};
 ghost use Rattle.clap.specs.Words.{first_of, found_of, rows_of, subcommand_rows_of};
 ghost use Rattle.serve_words.specs.Words.{is_option, asked, command_of};
-ghost use Rattle.serve_words.specs.Grammar.{file_in, seed_in, number_in, serve_in, client_in, found_in};
+ghost use Rattle.serve_words.specs.Grammar.{file_in, seed_in, number_in, serve_in, client_in, lift_in, found_in};
 
 use crate::command::Command;
 use crate::grammar::grammar;
@@ -111,6 +111,14 @@ fn client_of<'a>(found: &ArgMatches<'a>) -> Option<Command<'a>>
     })
 }
 
+// The command `lift`, by what `clap` found for it.
+fn lift_of<'a>(found: &ArgMatches<'a>) -> Option<Command<'a>>
+    ensures { option_map asked result ≡ lift_in (rows_of (found_of found.now)) }
+{
+    let file = word_in(found, "FILE")?;
+    Some(Command::Lift { file })
+}
+
 // The command, by what `clap` found.
 fn command_in<'a>(found: &ArgMatches<'a>, words: &'a [String]) -> Option<Command<'a>>
     ensures { option_map asked result ≡ found_in (map string_bytes words.entry.now) (subcommand_rows_of found.now) }
@@ -124,15 +132,18 @@ fn command_in<'a>(found: &ArgMatches<'a>, words: &'a [String]) -> Option<Command
     if let Some(serve) = found.subcommand_matches("serve") {
         return serve_of(serve, words);
     }
-    match found.subcommand_matches("client") {
-        Some(client) => client_of(client),
+    if let Some(client) = found.subcommand_matches("client") {
+        return client_of(client);
+    }
+    match found.subcommand_matches("lift") {
+        Some(lift) => lift_of(lift),
         None => None,
     }
 }
 
 /// What the words ask for. `None` exactly if they are not in the grammar: `run` with one file, `load` with a
 /// seed, `serve` with a port, a number of workers, a number of connections that each accepts, and 1 to 12
-/// files, or `client` with a URL, a token, a set of intents and a count.
+/// files, `client` with a URL, a token, a set of intents and a count, or `lift` with one file.
 ///
 /// `clap` finds the subcommand and its words, and refuses too few or too many of them. What it would take and
 /// the grammar does not is tested here: options, of which the grammar has none, and the numbers.
