@@ -20,7 +20,7 @@ SERVE, CLIENT, CLAIMS, README = "docs/SERVE.md", "docs/CLIENT.md", "docs/CLAIMS.
 FOR_AUTHORS = [README, STEPS, TRANSCRIPT, PAYLOADS, "docs/COOKBOOK.md", "examples/README.md", SERVE, CLIENT, "docs/CLIENTS.md", LOAD]
 MOST_WORDS = 1200
 # The tables of exit statuses, by their pages and heads.
-STATUSES = [(TRANSCRIPT, "status"), (LOAD, "status of a load"), (SERVE, "status of a server"), (CLIENT, "status of a client")]
+STATUSES = [(TRANSCRIPT, "status"), (LOAD, "status of a load"), (SERVE, "status of a server"), (CLIENT, "status of a client"), (STEPS, "status of a lift")]
 # What the page calls a kind of field, by the name of the function that reads it.
 KINDS = {"moment": "time", "kind": "channel type", "thread_kind": "thread type", "overwrite_kind": "overwrite type", "parts": "count"}
 # Which objects stand under these keys, and are these dispatches.
@@ -262,7 +262,7 @@ def compare_tables():
     compare_rows("close codes", TRANSCRIPT, [(line, (int(code), name)) for line, (code, name, *_) in rows(TRANSCRIPT, "code")], source)
     statuses = functions("crates/gateway_main/src/statuses.rt")
     others = constants("gateway_main")
-    for (page, head), name in zip(STATUSES, ("play_status", "load_status", "serve_status", "follow_status")):
+    for (page, head), name in zip(STATUSES, ("play_status", "load_status", "serve_status", "follow_status", "lift_status")):
         told = [int(others.get(status, status)) for status in re.findall(r"=> (\w+),", statuses[name])]
         compare_rows("statuses", page, [(line, int(status)) for line, (status, *_) in rows(page, head)], sorted({*told, others["BAD_WORDS"]}))
 

@@ -32,7 +32,7 @@ CREATE = ('send 1 {"d":{"channels":[],"id":"1","large":false,"member_count":2,"m
           '"joined_at":"1970-01-01T00:00:00.000000+00:00","nick":null,"roles":[],"user":{"bot":true,"id":"9","username":"bee"}}],"name":"den",'
           '"owner_id":"5","presences":[],"roles":[{"id":"1","name":"@everyone","permissions":"1024","position":0}],"threads":[],"voice_states":[]},'
           '"op":0,"s":2,"t":"GUILD_CREATE"}')
-USAGE = "usage: gate run FILE | serve PORT WORKERS ACCEPTS FILES | client URL TOKEN INTENTS COUNT | load SEED"
+USAGE = "usage: gate run FILE | serve PORT WORKERS ACCEPTS FILES | client URL TOKEN INTENTS COUNT | load SEED | lift FILE"
 
 
 def edit(fields):
@@ -133,6 +133,7 @@ SAID = {
     "WrongType": "not an object, or a field of the wrong type or out of its range",
     "TooLong": "the line, the file, a token or the list of guilds is too long",
 }
+NO_LIFT = "lift takes one file, or - for standard input"
 NO_SEED = "load takes one seed, a number below 2^64 in digits"
 NO_SERVE = "serve takes a port, 1 to 65532, a number of workers, 1 to 4, of connections that each accepts, 1 to 1000000, and 1 to 12 files"
 NO_CLIENT = ("client takes a URL that begins with ws://, of at most 200 bytes, a token, of 1 to 100 bytes, a number of intents, "
@@ -174,6 +175,9 @@ WORDS = [
     ("a seed with a plus", ["load", "+1"], 2, NO_SEED),
     ("a seed in hexadecimal", ["load", "0x7"], 2, NO_SEED),
     ("a seed of 2^64", ["load", "18446744073709551616"], 2, NO_SEED),
+    ("no file to lift", ["lift"], 2, NO_LIFT),
+    ("two files to lift", ["lift", "a", "b"], 2, NO_LIFT),
+    ("an option of lift", ["lift", "-v"], 2, NO_LIFT),
     ("a dash before the words", ["--", "load"], 2, "no command --"),
     ("a word that is not UTF-8", [b"run", b"a\xff"], 2, "a word is not UTF-8"),
     ("a file that does not exist", ["run", "nosuch.jsonl"], 3, "cannot read nosuch.jsonl"),
@@ -266,6 +270,31 @@ def try_little_memory(gate, folder):
     limit = lambda: resource.setrlimit(resource.RLIMIT_AS, (10 << 20, 10 << 20))
     run = subprocess.run([gate, "run", path], capture_output=True, timeout=60, preexec_fn=limit)
     compare("little memory", (6, b"", said(6, f"out of memory while playing {path}")), (run.returncode, run.stdout, run.stderr.decode()))
+
+
+def try_lift(gate, folder):
+    """Lifts that end otherwise than with 0, each with what is lifted before."""
+    path, page = os.path.join(folder, "lifted.jsonl"), "docs/STEPS.md"
+    guild = '{"id":"1","step":"guild"}\n'
+    # The name of a bot of version 1 that fills its line, which has no room for version 2.
+    full = BOT.replace("bee", "b" * (65536 - len(BOT) + 3))
+    for what, lines, printed, name in (
+            ("a comment to lift", [GUILD, "", "# bots"], guild + "\nstop line 3 1 NotJson\n", "NotJson"),
+            ("a line without room for its newest version", [GUILD, full], guild + "stop line 2 5 TooLong\n", "TooLong")):
+        with open(path, "w") as file:
+            file.writelines(line + "\n" for line in lines)
+        run = subprocess.run([gate, "lift", path], capture_output=True, timeout=60)
+        wanted = (5, printed, said(5, f"line {len(lines)} of {path}: {SAID[name]}"))
+        compare(what, wanted, (run.returncode, run.stdout.decode(), run.stderr.decode()))
+    run = subprocess.run([gate, "run", path], capture_output=True, timeout=60)
+    compare("the same line, played", (0, b"", b""), (run.returncode, run.stdout, run.stderr))
+    run = subprocess.run([gate, "lift", "nosuch.jsonl"], capture_output=True, timeout=60)
+    compare("a file to lift that does not exist", (3, "", said(3, "cannot read nosuch.jsonl", page)), (run.returncode, run.stdout.decode(), run.stderr.decode()))
+    run = subprocess.run([gate, "lift", "-"], input=GUILD.encode(), capture_output=True, timeout=60)
+    compare("standard input to lift", (0, guild, ""), (run.returncode, run.stdout.decode(), run.stderr.decode()))
+    with open("/dev/full", "wb") as full_disk:
+        run = subprocess.run([gate, "lift", "examples/first.jsonl"], stdout=full_disk, stderr=subprocess.PIPE, timeout=60)
+        compare("a lift to a full disk", (4, said(4, "cannot write the lines of examples/first.jsonl", page)), (run.returncode, run.stderr.decode()))
 
 
 def try_load(gate):
@@ -365,6 +394,7 @@ with tempfile.TemporaryDirectory() as folder:
     try_lines(gate, folder)
     try_little_memory(gate, folder)
     try_serve(gate, folder)
+    try_lift(gate, folder)
     try_threads(gate, folder)
     try_each_start(gate, folder)
 try_words(gate)

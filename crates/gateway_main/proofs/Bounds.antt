@@ -4,7 +4,7 @@ use Rattle.std.proofs.lemmas.Bool.Decides.{nat_tests}
 use Rattle.std.specs.Prelude.{option_and_then}
 use Rattle.std.specs.List.{list_any}
 use Rattle.std.specs.Str.{bytes_eq}
-use Rattle.serve_words.specs.Words.{Asked, load, serve, is_option, number_of, number_to, url_of, token_of, intents_of, served, followed, run_words, load_words, serve_words, client_words, named_words, command_of}
+use Rattle.serve_words.specs.Words.{Asked, load, serve, is_option, number_of, number_to, url_of, token_of, intents_of, served, followed, run_words, load_words, serve_words, client_words, lift_words, named_words, command_of}
 
 -- the bounds of what `serve` asks for
 pub record AreBounded (port workers : ℕ) (files : List (List ℕ)) : Type 0 where
@@ -46,6 +46,11 @@ module _ (port workers accepts : ℕ) (files : List (List ℕ)) where
   of_run [] e = absurd cc
   of_run (file ∷ []) e = absurd cc
   of_run (file ∷ more ∷ words) e = absurd cc
+
+  of_lift : (words : List (List ℕ)) → Is (lift_words words) → ⊥
+  of_lift [] e = absurd cc
+  of_lift (file ∷ []) e = absurd cc
+  of_lift (file ∷ more ∷ words) e = absurd cc
 
   of_seed : (seed : Option ℕ) → Is (option_map load seed) → ⊥
   of_seed None e = absurd cc
@@ -100,14 +105,18 @@ module _ (port workers accepts : ℕ) (files : List (List ℕ)) where
 
   of_names : (words : List (List ℕ)) → Is (named_words words) → AreBounded port workers files
   of_names [] e = absurd cc
-  of_names (name ∷ words) e = by_tests (bytes_eq name (codes "run")) (bytes_eq name (codes "load")) (bytes_eq name (codes "serve")) (bytes_eq name (codes "client")) e
+  of_names (name ∷ words) e =
+      by_tests (bytes_eq name (codes "run")) (bytes_eq name (codes "load")) (bytes_eq name (codes "serve")) (bytes_eq name (codes "client")) (bytes_eq name (codes "lift")) e
     where
-      by_tests : (a b c d : Bool) → Is (if a then run_words words else (if b then load_words words else (if c then serve_words words else (if d then client_words words else None)))) → AreBounded port workers files
-      by_tests true b c d e = absurd (of_run words e)
-      by_tests false true c d e = absurd (of_load words e)
-      by_tests false false true d e = of_serve words e
-      by_tests false false false true e = absurd (of_client words e)
-      by_tests false false false false e = absurd cc
+      by_tests : (a b c d f : Bool)
+          → Is (if a then run_words words else (if b then load_words words else (if c then serve_words words else (if d then client_words words else (if f then lift_words words else None)))))
+          → AreBounded port workers files
+      by_tests true b c d f e = absurd (of_run words e)
+      by_tests false true c d f e = absurd (of_load words e)
+      by_tests false false true d f e = of_serve words e
+      by_tests false false false true f e = absurd (of_client words e)
+      by_tests false false false false true e = absurd (of_lift words e)
+      by_tests false false false false false e = absurd cc
 
   pub are_bounded : (words : List (List ℕ)) → Is (command_of words) → AreBounded port workers files
   are_bounded words e = by_option (list_any is_option words) e

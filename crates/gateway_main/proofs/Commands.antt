@@ -4,7 +4,7 @@ use Rattle.std.specs.declared.option.Option.{Option}
 use Rattle.std.specs.declared.option.Option.TheVariants.{Some, None}
 use Rattle.std.specs.Io.KnownBytes.{Appends}
 use Rattle.gate_outside.specs.Houses.{HouseTale}
-use Rattle.serve_words.specs.Words.{Asked as Command, run, load, serve, client}
+use Rattle.serve_words.specs.Words.{Asked as Command, run, load, serve, client, lift}
 use Rattle.load_run.specs.declared.fault.LoadFault.TheVariants as ends
 use Rattle.scenario.specs.declared.fault.PlayFault.TheVariants as play
 use Rattle.house_loans.specs.Clocks.{LendsClocks}
@@ -13,8 +13,9 @@ use Rattle.house_loans.proofs.Returned.{clocks_back_none}
 use Rattle.serve_ends.specs.declared.fault.ServeFault.TheVariants as serving
 use Rattle.serve_house.proofs.Back.{ran_out}
 use Rattle.client_follow.specs.declared.fault.FollowFault.TheVariants as follow
+use Rattle.file_lift.specs.declared.fault.LiftFault.TheVariants as lifting
 use Rattle.gateway_main.specs.declared.fault.GateFault.{GateFault}
-use Rattle.gateway_main.specs.Gate.{Outside, Does, Plays, RunsServe, LeavesDial, LeavesTeams}
+use Rattle.gateway_main.specs.Gate.{Outside, Does, Plays, RunsServe, RunsLift, LeavesDial, LeavesTeams}
 use Rattle.gateway_main.specs.Usage.{usage}
 
 appends_none : (got : Option (List ℕ)) → Appends got got []
@@ -110,6 +111,24 @@ module _ (old : Outside) where
     teams = leaves_teams;
     fault = inr (refl, refl);
   }
+  out_of_memory R (Some (lift file)) = record {
+    lifts = record {
+      lifted = Err lifting.Memory;
+      status_is = refl;
+      lifts = inl (refl, refl, inr refl);
+      asks = inr (refl, refl);
+      cause = (omega arith, refl);
+      rest = record {
+        contents = refl;
+        doors = refl;
+        clocks = refl;
+        door_faults = refl;
+      };
+      fault = inr (refl, refl);
+    };
+    dial = leaves_dial;
+    teams = leaves_teams;
+  }
 
 -- ---- what is done, by what the words ask for
 
@@ -122,3 +141,6 @@ module _ (R : Type 0) (command : Option Command) (old new : Outside) (told : Opt
 
   pub serves : (port workers accepts : ℕ) (files : List (List ℕ)) → command ≡ Some (serve port workers accepts files) → RunsServe R port workers accepts files old new told status → Does R command old new told status
   serves port workers accepts files is does = by_words (Some (serve port workers accepts files)) is does
+
+  pub lifts : (file : List ℕ) → command ≡ Some (lift file) → RunsLift file old new told status → Does R command old new told status
+  lifts file is does = by_words (Some (lift file)) is does

@@ -1,3 +1,4 @@
 pub mod Usage
 pub mod Bounds
 pub mod Commands
+pub mod Meaning

@@ -14,7 +14,7 @@ use Rattle.std.specs.Io.KnownBytes.{Appends}
 use Rattle.gate_outside.specs.Causes.{Rose}
 use Rattle.gate_outside.specs.declared.faults.Fault.{Fault}
 use Rattle.gate_outside.specs.declared.faults.Fault.TheVariants as sink_fault
-use Rattle.serve_words.specs.Words.{Asked as Command, run, load, serve, client}
+use Rattle.serve_words.specs.Words.{Asked as Command, run, load, serve, client, lift}
 use Rattle.load_run.specs.declared.fault.LoadFault.{LoadFault}
 use Rattle.load_run.specs.declared.fault.LoadFault.TheVariants as ends
 use Rattle.load_run.specs.Causes.{Loads, HasLoadCause, StartsParts}
@@ -24,9 +24,13 @@ use Rattle.serve_ends.specs.declared.fault.ServeFault.TheVariants as serving
 use Rattle.serve_house.specs.Serving.{SinkTale, TeamTale, ServesFiles}
 use Rattle.client_follow.specs.declared.fault.FollowFault.{FollowFault}
 use Rattle.client_follow.specs.declared.fault.FollowFault.TheVariants as follow
+use Rattle.file_lift.specs.declared.fault.LiftFault.{LiftFault}
+use Rattle.file_lift.specs.declared.fault.LiftFault.TheVariants as lifting
+use Rattle.file_lift.specs.Lifting.{LiftCause}
 use Rattle.gateway_main.specs.declared.fault.GateFault.{GateFault}
 use Rattle.gateway_main.specs.declared.fault.GateFault.TheVariants as gate_fault
 use Rattle.gateway_main.specs.Following.{following as client_of, FollowsOver}
+use Rattle.gateway_main.specs.Lifting.{lift_status, LiftsNamed, AsksForFile}
 use Rattle.gateway_main.specs.Usage.{usage}
 
 -- the exit status of a play
@@ -88,6 +92,11 @@ serve_fault (Err fault) = Some (gate_fault.Serve fault)
 abbrev pub follow_fault : Result (Unit {0}) FollowFault → Option GateFault
 follow_fault (Ok x) = None
 follow_fault (Err fault) = Some (gate_fault.Follow fault)
+
+-- why a lift did not come to its end, and nothing if it did
+abbrev pub lift_fault : Result (Unit {0}) LiftFault → Option GateFault
+lift_fault (Ok x) = None
+lift_fault (Err fault) = Some (gate_fault.Lift fault)
 
 -- no source was given, and nothing was written or put back
 abbrev pub NotGiven : (returned0 returned1 : Option (List ReturnedSource)) (got0 got1 : Option (List ℕ)) → Result (Unit {0}) PlayFault → Type 0
@@ -202,6 +211,22 @@ pub record RunsClient (url token : List ℕ) (intents count : ℕ) (old new : Ou
   pub teams : LeavesTeams old new
   pub fault : TellsFault told (follow_fault followed) (followed ≡ Err follow.Memory)
 
+-- the file is asked for, lifted, and put back
+pub record LiftsFile (file : List ℕ) (house0 house1 : HouseTale) (sink0 sink1 : SinkTale) (told : Option GateFault) (status : ℕ) : Type 0 where
+  pub lifted : Result (Unit {0}) LiftFault
+  pub status_is : status ≡ lift_status lifted
+  pub lifts : LiftsNamed (house0.contents file) house0.sources house1.sources sink0.got sink1.got sink0.waits lifted
+  pub asks : AsksForFile house0.asks house1.asks file lifted
+  pub cause : LiftCause house0.source_faults house1.source_faults sink0.faults sink1.faults lifted
+  pub rest : LeavesRest house0 house1
+  pub fault : TellsFault told (lift_fault lifted) (lifted ≡ Err lifting.Memory)
+
+-- `lift FILE`
+pub record RunsLift (file : List ℕ) (old new : Outside) (told : Option GateFault) (status : ℕ) : Type 0 where
+  pub lifts : LiftsFile file old.house new.house old.sink new.sink told status
+  pub dial : LeavesDial old new
+  pub teams : LeavesTeams old new
+
 -- what is done for what the words ask for
 abbrev pub Does : (R : Type 0) → Option Command → (old new : Outside) → (told : Option GateFault) → (status : ℕ) → Type 0
 Does R None old new told status = Refuses old new told status
@@ -209,3 +234,4 @@ Does R (Some (run file)) old new told status = Plays file old new told status
 Does R (Some (load seed)) old new told status = RunsLoad seed old new told status
 Does R (Some (serve port workers accepts files)) old new told status = RunsServe R port workers accepts files old new told status
 Does R (Some (client url token intents count)) old new told status = RunsClient url token intents count old new told status
+Does R (Some (lift file)) old new told status = RunsLift file old new told status

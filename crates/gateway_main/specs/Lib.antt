@@ -1,3 +1,4 @@
 pub mod Usage
 pub mod Following
+pub mod Lifting
 pub mod Gate

@@ -4,6 +4,7 @@ use crate::shown::Shown;
 use crate::statuses::NO_MEMORY;
 use client_follow::FollowFault;
 use edit_text::LineFault;
+use file_lift::LiftFault;
 use gate_outside::std_house::STANDARD_INPUT;
 use load_run::LoadFault;
 use scenario::PlayFault;
@@ -42,6 +43,9 @@ fn tell_words<R: Eprint>(rt: &R, words: &[String]) -> io::Result<()> {
             "client" => eprintln!(rt;
                 "gate: client takes a URL that begins with ws://, of at most 200 bytes, a token, of 1 to 100 bytes, a number of intents, and of dispatches, 1 to 1000000 (status 2; see README.md)"
             ),
+            "lift" => eprintln!(rt;
+                "gate: lift takes one file, or - for standard input (status 2; see README.md)"
+            ),
             word => eprintln!(rt;
                 "gate: no command {} (status 2; see README.md)",
                 Shown(word)
@@ -50,13 +54,37 @@ fn tell_words<R: Eprint>(rt: &R, words: &[String]) -> io::Result<()> {
     }
 }
 
+// The word that names a file.
+fn named(file: &str) -> Shown<'_> {
+    if file == STANDARD_INPUT {
+        return Shown("standard input");
+    }
+    Shown(file)
+}
+
+// Says why the lift of a file did not come to its end.
+fn tell_lift<R: Eprint>(rt: &R, file: &str, fault: LiftFault) -> io::Result<()> {
+    let file = named(file);
+    match fault {
+        LiftFault::Read => {
+            eprintln!(rt; "gate: cannot read {file} (status 3; see docs/STEPS.md)")
+        }
+        LiftFault::Write => {
+            eprintln!(rt; "gate: cannot write the lines of {file} (status 4; see docs/STEPS.md)")
+        }
+        LiftFault::Line { line, fault } => eprintln!(rt;
+            "gate: line {line} of {file}: {} (status 5; see docs/STEPS.md)",
+            line_is(fault)
+        ),
+        LiftFault::Memory => {
+            eprintln!(rt; "gate: out of memory while lifting {file} (status 6; see docs/STEPS.md)")
+        }
+    }
+}
+
 // Says why the play of a file did not come to its end.
 fn tell_play<R: Eprint>(rt: &R, file: &str, fault: PlayFault) -> io::Result<()> {
-    let file = if file == STANDARD_INPUT {
-        Shown("standard input")
-    } else {
-        Shown(file)
-    };
+    let file = named(file);
     match fault {
         PlayFault::Read => {
             eprintln!(rt; "gate: cannot read {file} (status 3; see docs/TRANSCRIPT.md)")
@@ -192,6 +220,7 @@ pub fn tell<R: Eprint>(
 ) -> io::Result<()> {
     match (fault, words) {
         (Some(GateFault::Play(fault)), [_, file]) => tell_play(rt, file.as_str(), fault),
+        (Some(GateFault::Lift(fault)), [_, file]) => tell_lift(rt, file.as_str(), fault),
         (Some(GateFault::Load(fault)), [_, seed]) => tell_load(rt, seed.as_str(), fault),
         (Some(GateFault::Serve(fault)), [_, port, _, _, files @ ..]) => {
             tell_serve(rt, port.as_str(), files, fault)

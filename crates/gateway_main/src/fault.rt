@@ -1,6 +1,7 @@
 //! Why a command does not come to its end.
 
 use client_follow::FollowFault;
+use file_lift::LiftFault;
 use load_run::LoadFault;
 use scenario::PlayFault;
 use serve_ends::ServeFault;
@@ -16,4 +17,6 @@ pub enum GateFault {
     Serve(ServeFault),
     /// A client ended by this fault.
     Follow(FollowFault),
+    /// A lift ended by this fault.
+    Lift(LiftFault),
 }

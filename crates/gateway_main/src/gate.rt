@@ -5,9 +5,11 @@ ghost use Rattle.world_law.specs.TheLaw.{TheLaw};
 ghost use Rattle.serve_words.specs.Words.{command_of};
 ghost use Rattle.serve_house.specs.Serving.{sink_tale, team_tale};
 ghost use Rattle.gateway_main.specs.Gate.{outside, Does};
+ghost use Rattle.gateway_main.specs.Lifting.{MeansTheSame};
 
 use crate::fault::GateFault;
 use crate::following::run_client;
+use crate::lifting::{lift_file, lift_law};
 use crate::loading::run_load;
 use crate::playing::run;
 use crate::refusing::refuse;
@@ -48,10 +50,14 @@ use world_law::the_law;
 /// between them, 10 if the gateway closes with a code after which no client may connect again, 11 if it sends a text
 /// that is no payload.
 ///
+/// `lift FILE` writes each line of the step file in its newest version, and an empty line for a blank one: 0, or 3 if
+/// the file cannot be read, 4 if the sink fails, 5 if a line is no step or its newest version is too long, 6 if memory
+/// runs out. With 0 what it wrote plays the same as the file.
+///
 /// For other words it writes the usage line and answers 2, or 6 if memory runs out.
 ///
-/// What waited before the sink goes out first. `fault` is then why a play, a load, a run of `serve` or a client did not
-/// come to its end; `None` if it did, or if memory ran out before it began. No dial of the house has failed yet.
+/// What waited before the sink goes out first. `fault` is then why a play, a load, a run of `serve`, a client or a lift
+/// did not come to its end; `None` if it did, or if memory ran out before it began. No dial of the house has failed yet.
 pub fn gate<
     R: Wait + time::Clock + Copy + Drop,
     H: House,
@@ -86,8 +92,10 @@ where
         (team_tale (T.starts serve_team.new) (T.faults serve_team.new)))
         fault.new result }
     ensures law { TheLaw }
+    ensures means { MeansTheSame }
 {
     the_law();
+    lift_law();
     *fault = None;
     let Ok(command) = read_words(alloc, words) else {
         return NO_MEMORY;
@@ -128,5 +136,6 @@ where
             *fault = follow_fault(&followed);
             follow_status(&followed)
         }
+        Command::Lift { file } => lift_file(alloc, file, house, sink, fault),
     }
 }

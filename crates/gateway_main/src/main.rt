@@ -5,6 +5,7 @@ mod complaint;
 mod fault;
 mod following;
 mod gate;
+mod lifting;
 mod loading;
 mod playing;
 mod refusing;

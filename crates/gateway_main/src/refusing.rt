@@ -13,7 +13,7 @@ use gate_outside::streams::{Sink, write_all};
 
 /// The words that the command takes.
 pub const USAGE: &str =
-    "usage: gate run FILE | serve PORT WORKERS ACCEPTS FILES | client URL TOKEN INTENTS COUNT | load SEED\n";
+    "usage: gate run FILE | serve PORT WORKERS ACCEPTS FILES | client URL TOKEN INTENTS COUNT | load SEED | lift FILE\n";
 
 // Writes the usage line, and lets it go out.
 fn write_usage<K: Sink>(sink: &mut K) -> Result<(), Fault>

@@ -1,10 +1,12 @@
 //! The exit statuses of the command, and the faults that they tell.
 
 ghost use Rattle.std.specs.Prelude.{◌≡◌};
-ghost use Rattle.gateway_main.specs.Gate.{play_status, play_fault, load_status, load_fault, serve_status, serve_fault, follow_status, follow_fault, usage_status};
+ghost use Rattle.gateway_main.specs.Gate.{play_status, play_fault, load_status, load_fault, serve_status, serve_fault, follow_status, follow_fault, lift_fault, usage_status};
+ghost use Rattle.gateway_main.specs.Lifting.{lift_status};
 
 use crate::fault::GateFault;
 use client_follow::FollowFault;
+use file_lift::LiftFault;
 use gate_outside::faults::Fault;
 use load_run::LoadFault;
 use scenario::PlayFault;
@@ -113,6 +115,29 @@ pub fn follow_fault(followed: &Result<(), FollowFault>) -> Option<GateFault>
     match followed {
         Ok(()) => None,
         Err(fault) => Some(GateFault::Follow(*fault)),
+    }
+}
+
+/// The exit status of a lift.
+pub fn lift_status(lifted: &Result<(), LiftFault>) -> u8
+    ensures { result ≡ lift_status lifted.now }
+{
+    match lifted {
+        Ok(()) => 0,
+        Err(LiftFault::Read) => 3,
+        Err(LiftFault::Write) => 4,
+        Err(LiftFault::Line { .. }) => 5,
+        Err(LiftFault::Memory) => NO_MEMORY,
+    }
+}
+
+/// Why a lift did not come to its end.
+pub fn lift_fault(lifted: &Result<(), LiftFault>) -> Option<GateFault>
+    ensures { result ≡ lift_fault lifted.now }
+{
+    match lifted {
+        Ok(()) => None,
+        Err(fault) => Some(GateFault::Lift(*fault)),
     }
 }
 

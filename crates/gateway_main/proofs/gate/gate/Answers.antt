@@ -4,7 +4,7 @@ use Rattle.serve_words.specs.Words.{asked, command_of}
 use Rattle.serve_house.specs.Serving.{sink_tale, team_tale}
 use Rattle.gateway_main.specs.Gate.{outside}
 use Rattle.gateway_main.proofs.Bounds.{are_bounded}
-use Rattle.gateway_main.proofs.Commands.{out_of_memory, plays, serves}
+use Rattle.gateway_main.proofs.Commands.{out_of_memory, plays, serves, lifts}
 use Rattle.gateway_main.proofs.gate.gate.Goals as goal
 
 -- out of memory while the words are read
@@ -58,4 +58,12 @@ returns-in-Serve-clause-does g c =
       dial = record { dial = c.run_serve-ended.ensures.dial; dial_faults = c.run_serve-ended.ensures.dial_faults };
       load_team = refl;
       fault = inl c.serve_fault.ensures;
+    })
+
+pub returns-in-Lift-clause-does : goal.returns-in-Lift-clause-does
+returns-in-Lift-clause-does g c =
+    lifts _ _ _ _ _ _ _ (sym c.in-Ok.ensures ∙ (ap (option_map asked) c.in-Some.is ∙ ap (λ x. Some (asked x)) c.in-Lift.is)) (record {
+      lifts = c.lift_file.ensures.lifts;
+      dial = record { dial = c.lift_file.ensures.dial; dial_faults = c.lift_file.ensures.dial_faults };
+      teams = record { load_team = refl; serve_team = refl };
     })

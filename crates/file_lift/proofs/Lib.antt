@@ -1,0 +1,7 @@
+pub mod NoFeeds
+pub mod Lists
+pub mod Counting
+pub mod Laws
+pub mod Sayings
+pub mod Going
+pub mod Flushing

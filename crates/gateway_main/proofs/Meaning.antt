@@ -1,0 +1,160 @@
+-- A file that says what another does, each line in its newest version, plays the same.
+use Rattle.std.proofs.Common.{◌≡◌, ℕ, List, [], ◌∷◌, ◌++◌, map, Bool, true, false, Option, Some, None, Result, Ok, Err, refl, sym, ap, ap₂, ◌∙◌}
+use Rattle.std.specs.Prelude.{◌==◌, if◌then◌else◌}
+use Rattle.edit_fields.specs.declared.fault.LineFault.{LineFault}
+use Rattle.edit_text.specs.declared.line.Line.{Line}
+use Rattle.edit_text.specs.declared.line.Line.TheVariants.{Bot, Guild, Edit, Look, Open, Frame, Lost, Closed, Tick}
+use Rattle.edit_text.specs.declared.reader_state.ReaderState.{ReaderState}
+use Rattle.edit_text.specs.Lines.{line_of, after_line, reader_after}
+use Rattle.edit_text.specs.Lifted.{lifted}
+use Rattle.file_lines.specs.Lines as file
+use Rattle.file_lift.specs.Lifted.{newest_said, said_from, SaysTheSame}
+use Rattle.file_lift.proofs.Sayings.{newest_after}
+use Rattle.scenario.specs.Lines.{whole_from, tail_from, last_line, lines_of}
+use Rattle.scenario.specs.Server.{Server, first_server, played}
+use Rattle.scenario.specs.Transcript.{first_reader, line_text, line_ending, Ending, read_text, after_read, read_ending, is_read, text_from, ending_from, then_ending, transcript, ending}
+use Rattle.gateway_main.specs.Lifting.{MeansTheSame}
+
+-- ---- one line
+
+same_text : (p : Server) (n : ℕ) (line : Line) → line_text p n (lifted line) ≡ line_text p n line
+same_text p n (Bot token user name privileged v items bytes) = refl
+same_text p n (Guild id) = refl
+same_text p n (Edit guild edit) = refl
+same_text p n (Look worker guild) = refl
+same_text p n (Open worker conn) = refl
+same_text p n (Frame conn text) = refl
+same_text p n (Lost conn) = refl
+same_text p n (Closed conn code) = refl
+same_text p n (Tick worker now) = refl
+
+same_ending : (p : Server) (line : Line) → line_ending p (lifted line) ≡ line_ending p line
+same_ending p (Bot token user name privileged v items bytes) = refl
+same_ending p (Guild id) = refl
+same_ending p (Edit guild edit) = refl
+same_ending p (Look worker guild) = refl
+same_ending p (Open worker conn) = refl
+same_ending p (Frame conn text) = refl
+same_ending p (Lost conn) = refl
+same_ending p (Closed conn code) = refl
+same_ending p (Tick worker now) = refl
+
+same_played : (p : Server) (line : Line) → played p (lifted line) ≡ played p line
+same_played p (Bot token user name privileged v items bytes) = refl
+same_played p (Guild id) = refl
+same_played p (Edit guild edit) = refl
+same_played p (Look worker guild) = refl
+same_played p (Open worker conn) = refl
+same_played p (Frame conn text) = refl
+same_played p (Lost conn) = refl
+same_played p (Closed conn code) = refl
+same_played p (Tick worker now) = refl
+
+abbrev Said : Type 0
+Said = Result (Option Line) LineFault
+
+newest_text : (p : Server) (n : ℕ) (s : Said) → read_text p n (newest_said s) ≡ read_text p n s
+newest_text p n (Err fault) = refl
+newest_text p n (Ok None) = refl
+newest_text p n (Ok (Some line)) = same_text p n line
+
+newest_ending : (p : Server) (n : ℕ) (s : Said) → read_ending p n (newest_said s) ≡ read_ending p n s
+newest_ending p n (Err fault) = refl
+newest_ending p n (Ok None) = refl
+newest_ending p n (Ok (Some line)) = same_ending p line
+
+newest_server : (p : Server) (s : Said) → after_read p (newest_said s) ≡ after_read p s
+newest_server p (Err fault) = refl
+newest_server p (Ok None) = refl
+newest_server p (Ok (Some line)) = same_played p line
+
+newest_read : (s : Said) → is_read (newest_said s) ≡ is_read s
+newest_read (Err fault) = refl
+newest_read (Ok said) = refl
+
+-- ---- all lines
+
+first_same : (a b : Said) (more others : List Said) → a ∷ more ≡ b ∷ others → a ≡ b
+first_same a b more others e = cc
+
+later_same : (a b : Said) (more others : List Said) → a ∷ more ≡ b ∷ others → more ≡ others
+later_same a b more others e = cc
+
+none_same : (a : Said) (more : List Said) → a ∷ more ≡ [] → ⊥
+none_same a more e = absurd (cc)
+
+-- what a line that was read gives to the transcript, before those that follow
+abbrev with_text : ReaderState → Server → Said → (ReaderState → Server → List ℕ) → List ℕ
+with_text r p s later = read_text p (after_line s r).lines s ++ (if is_read s then later (after_line s r) (after_read p s) else [])
+
+abbrev with_ending : ReaderState → Server → Said → (ReaderState → Server → Ending) → Ending
+with_ending r p s later = then_ending (read_ending p (after_line s r).lines s) (later (after_line s r) (after_read p s))
+
+newest_with : (r : ReaderState) (p : Server) (s : Said) (later : ReaderState → Server → List ℕ) → with_text r p (newest_said s) later ≡ with_text r p s later
+newest_with r p s later =
+    rw (newest_after s r, newest_server p s, newest_read s) (ap (λ t. t ++ (if is_read s then later (after_line s r) (after_read p s) else [])) (newest_text p (after_line s r).lines s))
+
+newest_ends : (r : ReaderState) (p : Server) (s : Said) (later : ReaderState → Server → Ending) → with_ending r p (newest_said s) later ≡ with_ending r p s later
+newest_ends r p s later =
+    rw (newest_after s r, newest_server p s) (ap (λ e. then_ending e (later (after_line s r) (after_read p s))) (newest_ending p (after_line s r).lines s))
+
+module _ (x y : List ℕ) (xs ys : List (List ℕ)) (r : ReaderState) (e : line_of r x ∷ said_from (reader_after r x) xs ≡ newest_said (line_of r y) ∷ map newest_said (said_from (reader_after r y) ys)) where
+  head_same : line_of r x ≡ newest_said (line_of r y)
+  head_same = first_same _ _ _ _ e
+
+  reader_same : reader_after r x ≡ reader_after r y
+  reader_same = ap (λ s. after_line s r) head_same ∙ newest_after (line_of r y) r
+
+  tail_same : said_from (reader_after r y) xs ≡ map newest_said (said_from (reader_after r y) ys)
+  tail_same = ap (λ q. said_from q xs) (sym reader_same) ∙ later_same _ _ _ _ e
+
+texts_same : (xs ys : List (List ℕ)) (r : ReaderState) (p : Server) → said_from r xs ≡ map newest_said (said_from r ys) → text_from r p xs ≡ text_from r p ys
+texts_same [] [] r p e = refl
+texts_same [] (y ∷ ys) r p e = absurd (none_same _ _ (sym e))
+texts_same (x ∷ xs) [] r p e = absurd (none_same _ _ e)
+texts_same (x ∷ xs) (y ∷ ys) r p e =
+    ap (λ s. with_text r p s (λ q server. text_from q server xs)) (head_same x y xs ys r e)
+    ∙ (newest_with r p (line_of r y) (λ q server. text_from q server xs)
+    ∙ ap (λ l. read_text p (reader_after r y).lines (line_of r y) ++ (if is_read (line_of r y) then l else []))
+    (texts_same xs ys (reader_after r y) (after_read p (line_of r y)) (tail_same x y xs ys r e)))
+
+endings_same : (xs ys : List (List ℕ)) (r : ReaderState) (p : Server) → said_from r xs ≡ map newest_said (said_from r ys) → ending_from r p xs ≡ ending_from r p ys
+endings_same [] [] r p e = refl
+endings_same [] (y ∷ ys) r p e = absurd (none_same _ _ (sym e))
+endings_same (x ∷ xs) [] r p e = absurd (none_same _ _ e)
+endings_same (x ∷ xs) (y ∷ ys) r p e =
+    ap (λ s. with_ending r p s (λ q server. ending_from q server xs)) (head_same x y xs ys r e)
+    ∙ (newest_ends r p (line_of r y) (λ q server. ending_from q server xs)
+    ∙ ap (λ l. then_ending (read_ending p (reader_after r y).lines (line_of r y)) l)
+    (endings_same xs ys (reader_after r y) (after_read p (line_of r y)) (tail_same x y xs ys r e)))
+
+-- ---- the lines of a file, by either definition
+
+whole_same : (bytes part : List ℕ) → whole_from part bytes ≡ file.whole_from part bytes
+whole_same [] part = refl
+whole_same (b ∷ bs) part = by_feed (b == 10) (λ p. whole_same bs p)
+  where
+    by_feed : (t : Bool) → ((p : List ℕ) → whole_from p bs ≡ file.whole_from p bs) → (if t then part ∷ whole_from [] bs else whole_from (part ++ b ∷ []) bs) ≡ (if t then part ∷ file.whole_from [] bs else file.whole_from (part ++ b ∷ []) bs)
+    by_feed true same = ap (λ ls. part ∷ ls) (same [])
+    by_feed false same = same (part ++ b ∷ [])
+
+tail_same_as : (bytes part : List ℕ) → tail_from part bytes ≡ file.tail_from part bytes
+tail_same_as [] part = refl
+tail_same_as (b ∷ bs) part = by_feed (b == 10) (λ p. tail_same_as bs p)
+  where
+    by_feed : (t : Bool) → ((p : List ℕ) → tail_from p bs ≡ file.tail_from p bs) → (if t then tail_from [] bs else tail_from (part ++ b ∷ []) bs) ≡ (if t then file.tail_from [] bs else file.tail_from (part ++ b ∷ []) bs)
+    by_feed true same = same []
+    by_feed false same = same (part ++ b ∷ [])
+
+last_same : (part : List ℕ) → last_line part ≡ file.last_line part
+last_same [] = refl
+last_same (b ∷ bs) = refl
+
+lines_same : (bytes : List ℕ) → lines_of bytes ≡ file.lines_of bytes
+lines_same bytes = ap₂ (λ ls ms. ls ++ ms) (whole_same bytes []) (ap last_line (tail_same_as bytes []) ∙ last_same (file.tail bytes))
+
+pub means_the_same : MeansTheSame
+unfolding MeansTheSame SaysTheSame transcript ending
+means_the_same new old says =
+    let is : said_from first_reader (lines_of new) ≡ map newest_said (said_from first_reader (lines_of old)) = rw (lines_same new, lines_same old) says in
+    (texts_same (lines_of new) (lines_of old) first_reader first_server is, endings_same (lines_of new) (lines_of old) first_reader first_server is)
