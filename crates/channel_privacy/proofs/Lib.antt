@@ -1,0 +1,10 @@
+pub mod Filters
+pub mod Part
+pub mod Tells
+pub mod Steps
+pub mod Lost
+pub mod Gained
+pub mod Rows
+pub mod Follows
+pub mod Alone
+pub mod Enough
