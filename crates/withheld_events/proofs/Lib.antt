@@ -1,0 +1,10 @@
+pub mod Shown
+pub mod Walk
+pub mod Fits
+pub mod Has
+pub mod Part
+pub mod Of
+pub mod Keeps
+pub mod Creates
+pub mod Only
+pub mod Open

@@ -1,0 +1,4 @@
+pub mod Projection
+pub mod Due
+pub mod Law
+pub mod Privacy
