@@ -34,8 +34,10 @@ def newest(line):
 
 
 def plain(value):
-    """A value, whose numbers may as well be strings."""
-    return [str(one) for one in value] if isinstance(value, list) else str(value)
+    """A value, whose numbers may as well be strings, also with zeros before them."""
+    if isinstance(value, list):
+        return [plain(one) for one in value]
+    return str(int(value)) if str(value).isdecimal() and str(value).isascii() else str(value)
 
 
 def is_lifted(line, old):
