@@ -57,7 +57,9 @@ class Good(threading.Thread):
         try:
             while True:
                 dispatch = self.bot.next()
-                if dispatch and dispatch[1] != "GUILD_UPDATE":
+                if dispatch is None:
+                    raise Wrong("no dispatch came in a minute")
+                if dispatch[1] != "GUILD_UPDATE":
                     continue
                 name, wanted = dispatch[2].get("name"), f"n{self.seen + 1}"
                 if name not in (wanted, "end"):

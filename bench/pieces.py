@@ -42,6 +42,7 @@ INTENTS = 33281  # GUILDS, GUILD_MESSAGES, MESSAGE_CONTENT
 WIDE = "\u0001" * 100
 HELD = ["guild 1 channels 1 threads 0 members 0"]
 HEADS = ['{"step":"bot","token":"t1","user":"9","name":"bee","privileged":33026}', '{"step":"guild","id":"1"}']
+HEARTBEAT, ACK = '{"op":1,"d":null}', '{"d":null,"op":11,"s":null,"t":null}'
 IDENTIFY = json.dumps({"op": 2, "d": {"token": "t1", "intents": INTENTS, "properties": {}}})
 
 
@@ -254,6 +255,8 @@ def texts(tally, gate, sizes):
                 for wanted, _ in batch:
                     text = peer.text()
                     tally.compare(f"a text of {len(wanted)} bytes", "the same", "the same" if text == wanted else text)
+                peer.send(HEARTBEAT)
+                tally.compare("the answer to a heartbeat", ACK, peer.text())
                 batch = []
                 yield
         peer.end()
@@ -284,7 +287,7 @@ def frames(tally, gate, sizes):
             peer.text()
             for size in short[place:place + FRAMES_OF_A_LINK]:
                 peer.put(frame_of(size))
-                tally.compare(f"a frame of {size} bytes", '{"d":null,"op":11,"s":null,"t":null}', peer.text())
+                tally.compare(f"a frame of {size} bytes", ACK, peer.text())
             peer.end()
             yield
         for place in range(0, len(other), 16):
