@@ -42,6 +42,7 @@ INTENTS = 33281  # GUILDS, GUILD_MESSAGES, MESSAGE_CONTENT
 WIDE = "\u0001" * 100
 HELD = ["guild 1 channels 1 threads 0 members 0"]
 HEADS = ['{"step":"bot","token":"t1","user":"9","name":"bee","privileged":33026}', '{"step":"guild","id":"1"}']
+HEARTBEAT_SECONDS = 20  # one that sends none for 82.5 seconds is closed, and one of more than 120 frames a minute
 HEARTBEAT, ACK = '{"op":1,"d":null}', '{"d":null,"op":11,"s":null,"t":null}'
 IDENTIFY = json.dumps({"op": 2, "d": {"token": "t1", "intents": INTENTS, "properties": {}}})
 
@@ -240,7 +241,7 @@ def texts(tally, gate, sizes):
     """Texts of each size to a peer that reads only when all of a batch has been sent to it."""
     server = Server([lines(OPENING)], 1, 1, gate)
     try:
-        peer, number, batch = Peer(server.urls[0]), 2, []
+        peer, number, batch, beat_at = Peer(server.urls[0]), 2, [], time.monotonic() + HEARTBEAT_SECONDS
         peer.text()
         peer.send(IDENTIFY)
         tally.compare("READY and GUILD_CREATE", [1, 2], [json.loads(peer.text())["s"] for _ in range(2)])
@@ -255,8 +256,10 @@ def texts(tally, gate, sizes):
                 for wanted, _ in batch:
                     text = peer.text()
                     tally.compare(f"a text of {len(wanted)} bytes", "the same", "the same" if text == wanted else text)
-                peer.send(HEARTBEAT)
-                tally.compare("the answer to a heartbeat", ACK, peer.text())
+                if time.monotonic() > beat_at:
+                    beat_at = time.monotonic() + HEARTBEAT_SECONDS
+                    peer.send(HEARTBEAT)
+                    tally.compare("the answer to a heartbeat", ACK, peer.text())
                 batch = []
                 yield
         peer.end()
