@@ -1,8 +1,9 @@
 //! Reads a step file line by line.
 
-ghost use Rattle.std.specs.Prelude.{◌≡◌, ◌⊎◌, [], false};
+ghost use Rattle.std.specs.Prelude.{◌≡◌, ◌⊎◌};
 ghost use Rattle.edit_fields.specs.Fault.{UnlessMemory};
 ghost use Rattle.edit_text.specs.Lines.{line_of, reader_after};
+ghost use Rattle.edit_text.specs.Reader.{first_reader};
 
 use crate::reader_state::ReaderState;
 use crate::{FileKind, Line, LineFault};
@@ -28,7 +29,7 @@ impl Model for StepReader {
 impl StepReader {
     /// A reader before the first line of a file.
     pub fn new(alloc: Global, kind: FileKind) -> StepReader
-        ensures { result ≡ record { kind = kind; lines = 0; stepped = false; guilds = [] } }
+        ensures { result ≡ first_reader kind }
     {
         StepReader {
             state: ReaderState::new(alloc, kind),

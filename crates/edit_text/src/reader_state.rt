@@ -1,9 +1,10 @@
 //! What a line is after the lines before it, and what is kept of it.
 
-ghost use Rattle.std.specs.Prelude.{◌≡◌, ◌⊎◌, [], false, OnOk, OnErr};
+ghost use Rattle.std.specs.Prelude.{◌≡◌, ◌⊎◌, OnOk, OnErr};
 ghost use Rattle.json_view.specs.Nodes.{view};
 ghost use Rattle.edit_fields.specs.Fault.{UnlessMemory};
 ghost use Rattle.edit_text.specs.Lines.{with_guild, is_run, is_edit, is_allowed, step_of, line_from, object_line_from, is_blank, is_too_long, line_of, noted, counted, reader_after};
+ghost use Rattle.edit_text.specs.Reader.{first_reader};
 
 use crate::step_name::StepName;
 use crate::steps::{fields_from, has_id};
@@ -35,7 +36,7 @@ pub struct ReaderState {
 impl ReaderState {
     /// A reader before the first line of a file.
     pub fn new(alloc: Global, kind: FileKind) -> ReaderState
-        ensures { result ≡ record { kind = kind; lines = 0; stepped = false; guilds = [] } }
+        ensures { result ≡ first_reader kind }
     {
         ReaderState {
             kind,

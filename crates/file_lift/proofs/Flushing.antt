@@ -8,11 +8,13 @@ use Rattle.gate_outside.specs.declared.faults.Fault.{Fault}
 use Rattle.gate_outside.specs.declared.faults.Fault.TheVariants as outside
 use Rattle.gate_outside.specs.Streams.{AppendsFront, Carries, CarriesFront}
 use Rattle.gate_outside.proofs.Fronts.{all_sent, front_sent, all_front, carries_front}
+use Rattle.edit_text.specs.declared.line.FileKind.TheVariants.{Run}
+use Rattle.edit_text.specs.Reader.{first_reader, reader_from}
 use Rattle.file_lines.specs.Lines.{whole_lines, tail}
 use Rattle.file_lines.proofs.Lists.{lines_from, lines-more}
 use Rattle.file_lift.specs.declared.fault.LiftFault.{LiftFault}
 use Rattle.file_lift.specs.declared.fault.LiftFault.TheVariants.{Read, Write, Line, Memory}
-use Rattle.file_lift.specs.Lifted.{first_reader, written_from, reader_from, lifted_file}
+use Rattle.file_lift.specs.Lifted.{written_from, lifted_file}
 use Rattle.file_lift.specs.Lifting.{Lifts, LiftCause, write_fault}
 use Rattle.file_lift.proofs.Going.{rest_none}
 use Rattle.file_lift.proofs.Laws.{written-more}
@@ -46,7 +48,7 @@ module _ (left0 left1 got0 got1 got2 : Option (List ℕ)) (waits before : List �
 
     pub flushed : (r : Result (Unit {0}) LiftFault) → Waits r → Out r
     flushed (Ok x) h = (h.0, h.1, h.2, h.3, h.4, all_out (before ++ lifted_file h.0) h.5)
-    flushed (Err Read) h = (h.0, h.1, h.2, all_out (before ++ written_from first_reader (whole_lines h.0)) h.3)
+    flushed (Err Read) h = (h.0, h.1, h.2, all_out (before ++ written_from (first_reader Run) (whole_lines h.0)) h.3)
     flushed (Err Write) h = (h.0, h.1, λ rest is. rest_out (before ++ lifted_file (h.0 ++ rest)) (h.2 rest is))
     flushed (Err (Line number fault)) h = (h.0, h.1, λ rest is. (let all = h.2 rest is in (all.0, all_out (before ++ lifted_file (h.0 ++ rest)) all.1)))
     flushed (Err Memory) h = (h.0, h.1, λ rest is. rest_out (before ++ lifted_file (h.0 ++ rest)) (h.2 rest is))
@@ -73,10 +75,10 @@ module _ (left0 left1 got0 got1 got2 : Option (List ℕ)) (waits before : List �
       h.1,
       λ rest is.
           let ls : List (List ℕ) = lines_from (tail h.0) rest in
-          let text : List ℕ = written_from first_reader (whole_lines h.0) in
-          let later : List ℕ = written_from (reader_from first_reader (whole_lines h.0)) ls in
+          let text : List ℕ = written_from (first_reader Run) (whole_lines h.0) in
+          let later : List ℕ = written_from (reader_from (first_reader Run) (whole_lines h.0)) ls in
           let same : (before ++ text) ++ later ≡ before ++ lifted_file (h.0 ++ rest) =
-          append_assoc before text later ∙ ap (λ l. before ++ l) (sym (ap (written_from first_reader) (lines-more h.0 rest) ∙ written-more (whole_lines h.0) first_reader ls h.2)) in
+          append_assoc before text later ∙ ap (λ l. before ++ l) (sym (ap (written_from (first_reader Run)) (lines-more h.0 rest) ∙ written-more (whole_lines h.0) (first_reader Run) ls h.2)) in
           subst (AppendsFront got0 got2) same (front_more got0 got2 (before ++ text) later (part_out (before ++ text) (carries_front got0 got1 waits (before ++ text) h.3))),
     )
     is_part (Err Write) h = (h.0, h.1, λ rest is. part_out (before ++ lifted_file (h.0 ++ rest)) (h.2 rest is))

@@ -6,15 +6,17 @@ use Rattle.std.specs.Io.KnownBytes.{Consumes, IsAtEnd}
 use Rattle.std.proofs.KnownBytes.{Consumes-nil, Consumes-trans}
 use Rattle.gate_outside.specs.Streams.{Carries, CarriesFront}
 use Rattle.gate_outside.proofs.Fronts.{puts, carries_more, front_of_more, front_before, carries_front}
+use Rattle.edit_text.specs.declared.line.FileKind.TheVariants.{Run}
 use Rattle.edit_text.specs.declared.reader_state.ReaderState.{ReaderState}
 use Rattle.edit_text.specs.Lines.{line_of, reader_after}
+use Rattle.edit_text.specs.Reader.{first_reader, reader_from}
 use Rattle.file_lines.specs.Lines.{whole_lines, lines_of, IsPiece}
 use Rattle.file_lines.specs.Reads.{HeldBytes, BeginsWithLine}
 use Rattle.file_lines.proofs.Lists.{Begins}
 use Rattle.file_lift.specs.declared.fault.LiftFault.{LiftFault}
 use Rattle.file_lift.specs.declared.fault.LiftFault.TheVariants.{Read, Write, Line, Memory}
 use Rattle.file_lift.specs.declared.lifter.Lifter.{Lifter}
-use Rattle.file_lift.specs.Lifted.{first_reader, line_written, line_refused, unless_refused, first_refused, written_from, refused_from, reader_from, lifted_file}
+use Rattle.file_lift.specs.Lifted.{line_written, line_refused, unless_refused, first_refused, written_from, refused_from, lifted_file}
 use Rattle.file_lift.specs.Lifting.{Lifts, KeepsSaying, KeepsSayings, IsRead, LiftsLine, HasLifted}
 use Rattle.file_lift.proofs.Lists.{whole_fed, lines_fed, begun_line, whole_none, lone_line}
 use Rattle.file_lift.proofs.Counting.{long_same, long_refused}
@@ -27,7 +29,7 @@ rest_none (Some xs) rest e is = let same : xs ≡ rest = cc in sym same ∙ e
 rest_none None rest e is = absurd cc
 
 -- before the first byte
-pub begins : (left : Option (List ℕ)) (got : Option (List ℕ)) (waits : List ℕ) (k : Lifter) → k.lines.ahead ≡ [] → k.reader ≡ first_reader
+pub begins : (left : Option (List ℕ)) (got : Option (List ℕ)) (waits : List ℕ) (k : Lifter) → k.lines.ahead ≡ [] → k.reader ≡ first_reader Run
     → HasLifted left left waits got got waits k
 begins left got waits k none first = record {
   bytes = [];
@@ -47,7 +49,7 @@ module _ (left0 left1 left2 : Option (List ℕ)) (before : List ℕ) (got0 got1 
   bytes = has.bytes ++ more
 
   abbrev so_far : List ℕ
-  so_far = written_from first_reader has.done
+  so_far = written_from (first_reader Run) has.done
 
   read_now : Consumes left0 left2 bytes
   read_now = Consumes-trans left0 left1 left2 has.bytes more has.read consumes
@@ -62,11 +64,11 @@ module _ (left0 left1 left2 : Option (List ℕ)) (before : List ℕ) (got0 got1 
       ap whole_lines (append_assoc has.bytes more rest)
       ∙ (has.whole (more ++ rest) ∙ ap (λ l. has.done ++ whole_lines l) (sym (append_assoc k.lines.ahead more rest)))
 
-  written_now : (ls : List (List ℕ)) → written_from first_reader (has.done ++ ls) ≡ so_far ++ written_from k.reader ls
-  written_now ls = written-more has.done first_reader ls has.accepted ∙ ap (λ r. so_far ++ written_from r ls) (sym has.reader)
+  written_now : (ls : List (List ℕ)) → written_from (first_reader Run) (has.done ++ ls) ≡ so_far ++ written_from k.reader ls
+  written_now ls = written-more has.done (first_reader Run) ls has.accepted ∙ ap (λ r. so_far ++ written_from r ls) (sym has.reader)
 
-  refused_now : (ls : List (List ℕ)) → refused_from first_reader (has.done ++ ls) ≡ refused_from k.reader ls
-  refused_now ls = refused-more has.done first_reader ls has.accepted ∙ ap (λ r. refused_from r ls) (sym has.reader)
+  refused_now : (ls : List (List ℕ)) → refused_from (first_reader Run) (has.done ++ ls) ≡ refused_from k.reader ls
+  refused_now ls = refused-more has.done (first_reader Run) ls has.accepted ∙ ap (λ r. refused_from r ls) (sym has.reader)
 
   -- what was written is a front of what is written of all
   front_so_far : (rest : List ℕ) → CarriesFront got0 got1 waits (before ++ lifted_file (bytes ++ rest))
@@ -74,7 +76,7 @@ module _ (left0 left1 left2 : Option (List ℕ)) (before : List ℕ) (got0 got1 
       let ls : List (List ℕ) = lines_of ((k.lines.ahead ++ more) ++ rest) in
       let is : (before ++ so_far) ++ written_from k.reader ls ≡ before ++ lifted_file (bytes ++ rest) =
       append_assoc before so_far (written_from k.reader ls)
-      ∙ ap (λ l. before ++ l) (sym (ap (written_from first_reader) (lines_now rest) ∙ written_now ls)) in
+      ∙ ap (λ l. before ++ l) (sym (ap (written_from (first_reader Run)) (lines_now rest) ∙ written_now ls)) in
       subst (CarriesFront got0 got1 waits) is (front_before got0 got1 waits (before ++ so_far) (written_from k.reader ls) (carries_front got0 got1 waits (before ++ so_far) has.wrote))
 
   -- ---- the next line does not come
@@ -150,7 +152,7 @@ module _ (left0 left1 left2 : Option (List ℕ)) (before : List ℕ) (got0 got1 
         bytes,
         read_now,
         read.4,
-        ap (refused_from first_reader) all ∙ has.accepted,
+        ap (refused_from (first_reader Run)) all ∙ has.accepted,
         file_says bytes has.done all has.says,
         rw all wrote,
       )
@@ -172,7 +174,7 @@ module _ (left0 left1 left2 : Option (List ℕ)) (before : List ℕ) (got0 got1 
             append_assoc (before ++ so_far) (line_written k.reader line) (unless_refused (line_refused k.reader line) after)
             ∙ (append_assoc before so_far (line_written k.reader line ++ unless_refused (line_refused k.reader line) after)
             ∙ ap (λ l. before ++ l) (ap (λ l. so_far ++ l) (sym (ap₂ (λ l o. l ++ unless_refused o after) (same_written k.reader next line same) (same_refused k.reader next line same)))
-            ∙ sym (ap (written_from first_reader) is ∙ written_now (next ∷ later))))
+            ∙ sym (ap (written_from (first_reader Run)) is ∙ written_now (next ∷ later))))
 
         front : CarriesFront got1 got2 waits2 (waits ++ line_written k.reader line) → (rest : List ℕ) → left2 ≡ Some rest → CarriesFront got0 got2 waits2 (before ++ lifted_file (bytes ++ rest))
         front h rest at =
@@ -196,7 +198,7 @@ module _ (left0 left1 left2 : Option (List ℕ)) (before : List ℕ) (got0 got1 
               sym (append-nil ((before ++ so_far) ++ line_written k.reader line))
               ∙ (ap (λ o. ((before ++ so_far) ++ line_written k.reader line) ++ unless_refused o after) (sym h.0)
               ∙ parts rest next.0 next.1 next.2 (next.3 k.reader)) in (
-                ap (refused_from first_reader) next.2
+                ap (refused_from (first_reader Run)) next.2
                     ∙ (refused_now (next.0 ∷ next.1) ∙ ap (λ o. first_refused o (refused_from (reader_after k.reader next.0) next.1)) stops),
                 subst (Carries got0 got2 waits2) text (carries_more got0 got1 got2 waits waits2 (before ++ so_far) (line_written k.reader line) has.wrote h.1),
               ),
@@ -205,18 +207,18 @@ module _ (left0 left1 left2 : Option (List ℕ)) (before : List ℕ) (got0 got1 
 
     -- its text is written
     module _ (lifts : LiftsLine k.reader line now got1 got2 waits waits2 (Ok tt)) where
-      keeps_at : KeepsSaying (reader_from first_reader has.done) line
+      keeps_at : KeepsSaying (reader_from (first_reader Run) has.done) line
       keeps_at = rw (sym has.reader) lifts.2
 
-      accepted_now : refused_from first_reader (has.done ++ line ∷ []) ≡ Nothing
+      accepted_now : refused_from (first_reader Run) (has.done ++ line ∷ []) ≡ Nothing
       accepted_now = refused_now (line ∷ []) ∙ (one_refused k.reader line ∙ not_refused k.reader line lifts.2)
 
-      says_now : KeepsSayings first_reader (has.done ++ line ∷ [])
-      says_now = sayings-more has.done first_reader (line ∷ []) has.says (keeps_at, tt)
+      says_now : KeepsSayings (first_reader Run) (has.done ++ line ∷ [])
+      says_now = sayings-more has.done (first_reader Run) (line ∷ []) has.says (keeps_at, tt)
 
-      wrote_now : Carries got0 got2 waits2 (before ++ written_from first_reader (has.done ++ line ∷ []))
+      wrote_now : Carries got0 got2 waits2 (before ++ written_from (first_reader Run) (has.done ++ line ∷ []))
       wrote_now =
-          let is : (before ++ so_far) ++ line_written k.reader line ≡ before ++ written_from first_reader (has.done ++ line ∷ []) =
+          let is : (before ++ so_far) ++ line_written k.reader line ≡ before ++ written_from (first_reader Run) (has.done ++ line ∷ []) =
           append_assoc before so_far (line_written k.reader line)
           ∙ ap (λ l. before ++ l) (sym (written_now (line ∷ []) ∙ ap (λ l. so_far ++ l) (one_written k.reader line))) in
           subst (Carries got0 got2 waits2) is (carries_more got0 got1 got2 waits waits2 (before ++ so_far) (line_written k.reader line) has.wrote lifts.3)
@@ -228,7 +230,7 @@ module _ (left0 left1 left2 : Option (List ℕ)) (before : List ℕ) (got0 got1 
             bytes,
             read_now,
             read.4,
-            ap (refused_from first_reader) all ∙ accepted_now,
+            ap (refused_from (first_reader Run)) all ∙ accepted_now,
             file_says bytes (has.done ++ line ∷ []) all says_now,
             rw all wrote_now,
           )
@@ -244,7 +246,7 @@ module _ (left0 left1 left2 : Option (List ℕ)) (before : List ℕ) (got0 got1 
             done = has.done ++ line ∷ [];
             lines = λ rest. fed_lines new.lines read.0 is rest ∙ (ap (λ l. has.done ++ l ∷ lines_of (new.lines.ahead ++ rest)) same ∙ sym (append_assoc has.done (line ∷ []) (lines_of (new.lines.ahead ++ rest))));
             whole = λ rest. fed_whole new.lines read.0 is rest ∙ (ap (λ l. has.done ++ l ∷ whole_lines (new.lines.ahead ++ rest)) same ∙ sym (append_assoc has.done (line ∷ []) (whole_lines (new.lines.ahead ++ rest))));
-            reader = reader ∙ (lifts.0 ∙ (ap (λ r. reader_after r line) has.reader ∙ sym (reader-more has.done first_reader (line ∷ []))));
+            reader = reader ∙ (lifts.0 ∙ (ap (λ r. reader_after r line) has.reader ∙ sym (reader-more has.done (first_reader Run) (line ∷ []))));
             accepted = accepted_now;
             says = says_now;
             wrote = wrote_now;

@@ -5,7 +5,8 @@ use Rattle.edit_fields.specs.declared.fault.LineFault.{LineFault}
 use Rattle.edit_text.specs.declared.line.Line.{Line}
 use Rattle.edit_text.specs.declared.reader_state.ReaderState.{ReaderState}
 use Rattle.edit_text.specs.Lines.{line_of, after_line, reader_after}
-use Rattle.file_lift.specs.Lifted.{text_of, short_text, written, refused, number_of, line_written, line_refused, unless_refused, first_refused, written_from, refused_from, reader_from}
+use Rattle.edit_text.specs.Reader.{reader_from, number_of}
+use Rattle.file_lift.specs.Lifted.{text_of, short_text, written, refused, line_written, line_refused, unless_refused, first_refused, written_from, refused_from}
 use Rattle.file_lift.specs.Lifting.{KeepsSaying, KeepsSayings}
 
 both_none : (a b : Option (ℕ × LineFault)) → first_refused a b ≡ None → (a ≡ None) × (b ≡ None)

@@ -1,12 +1,14 @@
 -- A lifted file says what the file says.
 use Rattle.std.proofs.Common.{◌≡◌, ℕ, List, [], ◌∷◌, ◌++◌, map, Option, Some, None, Result, Ok, Err, refl, ap, ap₂, ◌∙◌, append_assoc}
 use Rattle.edit_fields.specs.declared.fault.LineFault.{LineFault}
+use Rattle.edit_text.specs.declared.line.FileKind.TheVariants.{Run}
 use Rattle.edit_text.specs.declared.line.Line.{Line}
 use Rattle.edit_text.specs.declared.reader_state.ReaderState.{ReaderState}
 use Rattle.edit_text.specs.Lines.{line_of, after_line, reader_after, counted}
+use Rattle.edit_text.specs.Reader.{first_reader, number_of}
 use Rattle.edit_text.proofs.AllowedReads.{lifted_noted}
 use Rattle.file_lines.specs.Lines.{lines_of}
-use Rattle.file_lift.specs.Lifted.{first_reader, newest_said, written, unless_refused, number_of, written_from, lifted_file, said_from, SaysTheSame}
+use Rattle.file_lift.specs.Lifted.{newest_said, written, unless_refused, written_from, lifted_file, said_from, SaysTheSame}
 use Rattle.file_lift.specs.Lifting.{KeepsSaying, KeepsSayings}
 use Rattle.file_lift.proofs.NoFeeds.{newest_piece}
 use Rattle.file_lift.proofs.Lists.{lines_fed}
@@ -35,6 +37,6 @@ says_same (line ∷ lines) r keeps =
     ∙ (ap (said_from r) (lines_fed text later (newest_piece r line text keeps.0.1))
     ∙ ap₂ (λ s ss. s ∷ ss) keeps.0.2 (ap (λ q. said_from q (lines_of later)) same ∙ says_same lines (reader_after r line) keeps.1))
 
-pub file_says : (bytes : List ℕ) (lines : List (List ℕ)) → lines_of bytes ≡ lines → KeepsSayings first_reader lines → SaysTheSame (lifted_file bytes) bytes
+pub file_says : (bytes : List ℕ) (lines : List (List ℕ)) → lines_of bytes ≡ lines → KeepsSayings (first_reader Run) lines → SaysTheSame (lifted_file bytes) bytes
 unfolding SaysTheSame
-file_says bytes lines is keeps = rw is (says_same lines first_reader keeps)
+file_says bytes lines is keeps = rw is (says_same lines (first_reader Run) keeps)

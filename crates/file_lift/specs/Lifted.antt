@@ -1,5 +1,5 @@
 -- What is written of a step file that is lifted.
-use Rattle.std.specs.Prelude.{◌≡◌, ℕ, List, [], ◌∷◌, ◌++◌, length, map, nat_lt, false, decimal, codes, Option, Some, None, Result, Ok, Err, if◌then◌else◌}
+use Rattle.std.specs.Prelude.{◌≡◌, ℕ, List, [], ◌∷◌, ◌++◌, length, map, nat_lt, decimal, codes, Option, Some, None, Result, Ok, Err, if◌then◌else◌}
 use Rattle.serde_json.specs.Written.{compact_text}
 use Rattle.json_view.specs.Fields.{and_then}
 use Rattle.edit_fields.specs.declared.fault.LineFault.{LineFault}
@@ -9,12 +9,10 @@ use Rattle.edit_text.specs.declared.line.FileKind.TheVariants.{Run}
 use Rattle.edit_text.specs.declared.line.Line.{Line}
 use Rattle.edit_text.specs.declared.reader_state.ReaderState.{ReaderState}
 use Rattle.edit_text.specs.Lines.{line_of, reader_after}
+use Rattle.edit_text.specs.Reader.{first_reader, number_of}
 use Rattle.edit_text.specs.Written.{line_data}
 use Rattle.edit_text.specs.Lifted.{lifted}
 use Rattle.file_lines.specs.Lines.{lines_of}
-
-abbrev pub first_reader : ReaderState
-first_reader = record { kind = Run; lines = 0; stepped = false; guilds = [] }
 
 -- ---- one line
 
@@ -51,10 +49,6 @@ abbrev pub refused : ℕ → Result (List ℕ) LineFault → Option (ℕ × Line
 refused number (Ok text) = None
 refused number (Err fault) = Some (number, fault)
 
--- the number of a line that a reader reads next
-abbrev pub number_of : ReaderState → List ℕ → ℕ
-number_of r line = (reader_after r line).lines
-
 abbrev pub line_written : ReaderState → List ℕ → List ℕ
 line_written r line = written (number_of r line) (newest_text r line)
 
@@ -81,16 +75,12 @@ abbrev pub refused_from : ReaderState → List (List ℕ) → Option (ℕ × Lin
 refused_from r [] = None
 refused_from r (line ∷ lines) = first_refused (line_refused r line) (refused_from (reader_after r line) lines)
 
-abbrev pub reader_from : ReaderState → List (List ℕ) → ReaderState
-reader_from r [] = r
-reader_from r (line ∷ lines) = reader_from (reader_after r line) lines
-
 -- what is written of a file, and its first line that is refused
 abbrev pub lifted_file : List ℕ → List ℕ
-lifted_file bytes = written_from first_reader (lines_of bytes)
+lifted_file bytes = written_from (first_reader Run) (lines_of bytes)
 
 abbrev pub file_refused : List ℕ → Option (ℕ × LineFault)
-file_refused bytes = refused_from first_reader (lines_of bytes)
+file_refused bytes = refused_from (first_reader Run) (lines_of bytes)
 
 -- ---- what a file says
 
@@ -105,4 +95,4 @@ newest_said (Err fault) = Err fault
 
 -- a file says what another does, line by line, each line in its newest version
 unfoldable pub SaysTheSame : (new old : List ℕ) → Type 0
-SaysTheSame new old = said_from first_reader (lines_of new) ≡ map newest_said (said_from first_reader (lines_of old))
+SaysTheSame new old = said_from (first_reader Run) (lines_of new) ≡ map newest_said (said_from (first_reader Run) (lines_of old))

@@ -8,15 +8,17 @@ use Rattle.gate_outside.specs.Streams.{Carries, CarriesFront}
 use Rattle.gate_outside.specs.declared.faults.Fault.{Fault}
 use Rattle.gate_outside.specs.declared.faults.Fault.TheVariants as outside
 use Rattle.std.specs.declared.alloc.Global.{Global}
+use Rattle.edit_text.specs.declared.line.FileKind.TheVariants.{Run}
 use Rattle.edit_text.specs.declared.line.Line.{Line as ALine}
 use Rattle.edit_text.specs.declared.reader_state.ReaderState.{ReaderState}
 use Rattle.edit_text.specs.Lines.{line_of, reader_after}
+use Rattle.edit_text.specs.Reader.{first_reader, reader_from, number_of}
 use Rattle.file_lines.specs.Lines.{whole_lines, lines_of}
 use Rattle.file_lines.specs.Reads.{HeldBytes, LineIsRead}
 use Rattle.file_lift.specs.declared.fault.LiftFault.{LiftFault}
 use Rattle.file_lift.specs.declared.fault.LiftFault.TheVariants.{Read, Write, Line, Memory}
 use Rattle.file_lift.specs.declared.lifter.Lifter.{Lifter}
-use Rattle.file_lift.specs.Lifted.{first_reader, newest_said, newest_text, number_of, line_written, line_refused, written_from, refused_from, reader_from, lifted_file, file_refused, SaysTheSame}
+use Rattle.file_lift.specs.Lifted.{newest_said, newest_text, line_written, line_refused, written_from, refused_from, lifted_file, file_refused, SaysTheSame}
 
 -- ---- the faults of a source and a sink
 
@@ -40,7 +42,7 @@ Lifts left0 left1 before All Front (Ok x) =
     × (file_refused bytes ≡ Nothing) × SaysTheSame (lifted_file bytes) bytes × All (before ++ lifted_file bytes)
 Lifts left0 left1 before All Front (Err Read) =
     (bytes : List ℕ) × Consumes left0 left1 bytes
-    × (refused_from first_reader (whole_lines bytes) ≡ Nothing) × All (before ++ written_from first_reader (whole_lines bytes))
+    × (refused_from (first_reader Run) (whole_lines bytes) ≡ Nothing) × All (before ++ written_from (first_reader Run) (whole_lines bytes))
 Lifts left0 left1 before All Front (Err (Line number fault)) =
     (bytes : List ℕ) × Consumes left0 left1 bytes
     × ((rest : List ℕ) → left1 ≡ Some rest → (file_refused (bytes ++ rest) ≡ Just (number, fault)) × All (before ++ lifted_file (bytes ++ rest)))
@@ -131,7 +133,7 @@ pub record HasLifted (left0 left1 : Option (List ℕ)) (before : List ℕ) (got0
   pub done : List (List ℕ)
   pub lines : (rest : List ℕ) → lines_of (bytes ++ rest) ≡ done ++ lines_of (k.lines.ahead ++ rest)
   pub whole : (rest : List ℕ) → whole_lines (bytes ++ rest) ≡ done ++ whole_lines (k.lines.ahead ++ rest)
-  pub reader : k.reader ≡ reader_from first_reader done
-  pub accepted : refused_from first_reader done ≡ Nothing
-  pub says : KeepsSayings first_reader done
-  pub wrote : Carries got0 got1 waits (before ++ written_from first_reader done)
+  pub reader : k.reader ≡ reader_from (first_reader Run) done
+  pub accepted : refused_from (first_reader Run) done ≡ Nothing
+  pub says : KeepsSayings (first_reader Run) done
+  pub wrote : Carries got0 got1 waits (before ++ written_from (first_reader Run) done)

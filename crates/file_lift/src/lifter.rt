@@ -1,7 +1,7 @@
 //! Lifts a file line by line.
 ghost use Rattle.std.specs.Prelude.{◌≡◌, ◌++◌, [], ℕ, List, Ok, IfOk};
 ghost use Rattle.std.specs.Io.KnownBytes.{Consumes};
-ghost use Rattle.file_lift.specs.Lifted.{first_reader};
+ghost use Rattle.edit_text.specs.Reader.{first_reader};
 ghost use Rattle.file_lift.specs.Lifting.{IsRead, ReadCause, IsParsed, GivesText, LiftsLine, WriteCause};
 
 use crate::fault::LiftFault;
@@ -24,7 +24,7 @@ impl Lifter {
     /// Before the first byte of a file.
     pub fn new(alloc: Global) -> Result<Lifter, AllocError>
         ensures ahead { IfOk result (λ k. k.lines.ahead ≡ []) }
-        ensures reader { IfOk result (λ k. k.reader ≡ first_reader) }
+        ensures reader { IfOk result (λ k. k.reader ≡ first_reader FileKind.Run) }
     {
         Ok(Lifter {
             alloc,

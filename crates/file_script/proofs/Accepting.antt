@@ -1,10 +1,12 @@
 -- What lines say, lines after lines.
 use Rattle.std.proofs.Common.{◌≡◌, ℕ, List, [], ◌∷◌, ◌++◌, Option, Some, None, Result, Ok, Err, refl, sym, ap, ◌∙◌, append-nil}
 use Rattle.edit_fields.specs.declared.fault.LineFault.{LineFault}
+use Rattle.edit_text.specs.declared.line.FileKind.TheVariants.{Script}
 use Rattle.edit_text.specs.declared.line.Line.{Line}
 use Rattle.edit_text.specs.declared.reader_state.ReaderState.{ReaderState}
 use Rattle.edit_text.specs.Lines.{line_of, reader_after}
-use Rattle.file_script.specs.Accepted.{first_reader, reader_from, accepted_with, accepted_from, refused_with, refused_from, reader_of, IsWhole, StopsAfter, BeginsWith}
+use Rattle.edit_text.specs.Reader.{first_reader, reader_from}
+use Rattle.file_script.specs.Accepted.{accepted_with, accepted_from, refused_with, refused_from, reader_of, IsWhole, StopsAfter, BeginsWith}
 
 pub reader-more : (xs : List (List ℕ)) (r : ReaderState) (ys : List (List ℕ)) → reader_from r (xs ++ ys) ≡ reader_from (reader_from r xs) ys
 reader-more [] r ys = refl
@@ -42,13 +44,13 @@ said_by (Some line) = line ∷ []
 module _ (xs : List (List ℕ)) (given : List Line) (whole : IsWhole xs given) where
   -- more of them
   pub begins_with : (ys : List (List ℕ)) → BeginsWith (xs ++ ys) given
-  begins_with ys = (accepted_from (reader_of xs) ys, accepted-more xs first_reader ys whole.1 ∙ ap (λ ls. ls ++ accepted_from (reader_of xs) ys) whole.0)
+  begins_with ys = (accepted_from (reader_of xs) ys, accepted-more xs (first_reader Script) ys whole.1 ∙ ap (λ ls. ls ++ accepted_from (reader_of xs) ys) whole.0)
 
   -- one more that is accepted
   pub one_accepted : (line : List ℕ) (said : Option Line) → line_of (reader_of xs) line ≡ Ok said → IsWhole (xs ++ line ∷ []) (given ++ said_by said)
   one_accepted line said is = (
-    accepted-more xs first_reader (line ∷ []) whole.1 ∙ (ap (λ ls. ls ++ accepted_from (reader_of xs) (line ∷ [])) whole.0 ∙ ap (λ ls. given ++ ls) (ap (λ o. accepted_with o []) is ∙ says said)),
-    refused-more xs first_reader (line ∷ []) whole.1 ∙ ap (λ o. refused_with (reader_after (reader_of xs) line).lines o None) is,
+    accepted-more xs (first_reader Script) (line ∷ []) whole.1 ∙ (ap (λ ls. ls ++ accepted_from (reader_of xs) (line ∷ [])) whole.0 ∙ ap (λ ls. given ++ ls) (ap (λ o. accepted_with o []) is ∙ says said)),
+    refused-more xs (first_reader Script) (line ∷ []) whole.1 ∙ ap (λ o. refused_with (reader_after (reader_of xs) line).lines o None) is,
   )
     where
       says : (said : Option Line) → accepted_with (Ok said) [] ≡ said_by said
@@ -59,9 +61,9 @@ module _ (xs : List (List ℕ)) (given : List Line) (whole : IsWhole xs given) w
   pub one_refused : (line : List ℕ) (later : List (List ℕ)) (number : ℕ) (fault : LineFault) → line_of (reader_of xs) line ≡ Err fault → number ≡ (reader_after (reader_of xs) line).lines
       → StopsAfter (xs ++ line ∷ later) given number fault
   one_refused line later number fault is at = (
-    accepted-more xs first_reader (line ∷ later) whole.1
+    accepted-more xs (first_reader Script) (line ∷ later) whole.1
         ∙ (ap (λ ls. ls ++ accepted_from (reader_of xs) (line ∷ later)) whole.0
         ∙ (ap (λ o. given ++ accepted_with o (accepted_from (reader_after (reader_of xs) line) later)) is ∙ append-nil given)),
-    refused-more xs first_reader (line ∷ later) whole.1
+    refused-more xs (first_reader Script) (line ∷ later) whole.1
         ∙ (ap (λ o. refused_with (reader_after (reader_of xs) line).lines o (refused_from (reader_after (reader_of xs) line) later)) is ∙ ap (λ n. Some (n, fault)) (sym at)),
   )

@@ -9,13 +9,15 @@ use Rattle.gate_outside.specs.declared.faults.Fault.TheVariants as outside
 use Rattle.file_lines.specs.Lines.{whole_lines, tail, last_line, lines_of, IsPiece}
 use Rattle.file_lines.specs.Reads.{BeginsWithLine, LineIsRead}
 use Rattle.file_lines.proofs.Lists.{whole_line, tail_line, whole_part, tail_part, lines_from, lines-more, Begins, begun, last_some}
+use Rattle.edit_text.specs.declared.line.FileKind.TheVariants.{Script}
 use Rattle.edit_text.specs.declared.line.Line.{Line}
 use Rattle.edit_text.specs.declared.reader_state.ReaderState.{ReaderState}
 use Rattle.edit_text.specs.Lines.{line_of, after_line, reader_after}
+use Rattle.edit_text.specs.Reader.{first_reader}
 use Rattle.file_script.specs.declared.fault.ScriptFault.{ScriptFault}
 use Rattle.file_script.specs.declared.fault.ScriptFault.TheVariants as script
 use Rattle.file_script.specs.declared.script_lines.ScriptLines.{ScriptLines}
-use Rattle.file_script.specs.Accepted.{first_reader, reader_of, IsWhole, StopsAfter, BeginsWith}
+use Rattle.file_script.specs.Accepted.{reader_of, IsWhole, StopsAfter, BeginsWith}
 use Rattle.file_script.specs.Faults.{fault_of}
 use Rattle.file_script.specs.Reads.{HasGiven, Gives, IsNextLine, HasLine, LineComes, IsParsed}
 use Rattle.file_script.proofs.Accepting.{reader-more, said_by, begins_with, one_accepted, one_refused}
@@ -118,7 +120,7 @@ module _ (left : Known (List ℕ)) (k : ScriptLines) (bytes : List ℕ) (given :
     read_ends false false ends is_some is_none read = none_comes (is_none refl) read
 
 -- before the first byte
-pub nothing_given : (left : Known (List ℕ)) (k : ScriptLines) → k.lines.ahead ≡ [] → k.reader ≡ first_reader → k.ended ≡ false → HasGiven left k [] []
+pub nothing_given : (left : Known (List ℕ)) (k : ScriptLines) → k.lines.ahead ≡ [] → k.reader ≡ first_reader Script → k.ended ≡ false → HasGiven left k [] []
 nothing_given left k ahead reader goes = record {
   done = [];
   is = sym ahead;
@@ -184,7 +186,7 @@ module _ (left : Known (List ℕ)) (k : ScriptLines) (bytes : List ℕ) (given :
         with_it done all bytes_are at_feed at_end = record {
           done = done;
           is = rw lines bytes_are;
-          reader = parsed.1 ∙ (ap (λ r. reader_after r k.lines.line) has.reader ∙ (sym (reader-more (lines_of has.done) first_reader (k.lines.line ∷ [])) ∙ ap reader_of (sym all)));
+          reader = parsed.1 ∙ (ap (λ r. reader_after r k.lines.line) has.reader ∙ (sym (reader-more (lines_of has.done) (first_reader Script) (k.lines.line ∷ [])) ∙ ap reader_of (sym all)));
           whole = subst (λ ls. IsWhole ls (given ++ said_by said)) (sym all) (one_accepted (lines_of has.done) given has.whole k.lines.line said is);
           at_feed = λ e. at_feed (sym ended ∙ e);
           at_end = λ e. rw lines (at_end (sym ended ∙ e));

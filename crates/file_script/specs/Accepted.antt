@@ -1,19 +1,11 @@
 -- The lines of a script's file, up to the first that is refused.
-use Rattle.std.specs.Prelude.{◌≡◌, ℕ, List, [], ◌∷◌, ◌++◌, false, Option, Some, None, Result, Ok, Err}
+use Rattle.std.specs.Prelude.{◌≡◌, ℕ, List, [], ◌∷◌, ◌++◌, Option, Some, None, Result, Ok, Err}
 use Rattle.edit_fields.specs.declared.fault.LineFault.{LineFault}
 use Rattle.edit_text.specs.declared.line.FileKind.TheVariants.{Script}
 use Rattle.edit_text.specs.declared.line.Line.{Line}
 use Rattle.edit_text.specs.declared.reader_state.ReaderState.{ReaderState}
 use Rattle.edit_text.specs.Lines.{line_of, reader_after}
-
--- before the first line of a script's file
-abbrev pub first_reader : ReaderState
-first_reader = record { kind = Script; lines = 0; stepped = false; guilds = [] }
-
--- the reader after lines
-abbrev pub reader_from : ReaderState → List (List ℕ) → ReaderState
-reader_from r [] = r
-reader_from r (line ∷ lines) = reader_from (reader_after r line) lines
+use Rattle.edit_text.specs.Reader.{first_reader, reader_from}
 
 -- what a line gives, before what later ones give: a blank one nothing, and one that is refused ends all
 abbrev pub accepted_with : Result (Option Line) LineFault → List Line → List Line
@@ -37,14 +29,14 @@ refused_from r (line ∷ lines) = refused_with (reader_after r line).lines (line
 -- ---- of a whole file
 
 abbrev pub reader_of : List (List ℕ) → ReaderState
-reader_of lines = reader_from first_reader lines
+reader_of lines = reader_from (first_reader Script) lines
 
 -- what the lines before the first that is refused say
 abbrev pub accepted : List (List ℕ) → List Line
-accepted lines = accepted_from first_reader lines
+accepted lines = accepted_from (first_reader Script) lines
 
 abbrev pub refused : List (List ℕ) → Option (ℕ × LineFault)
-refused lines = refused_from first_reader lines
+refused lines = refused_from (first_reader Script) lines
 
 -- no line is refused, and they say this
 abbrev pub IsWhole : List (List ℕ) → List Line → Type 0

@@ -2,17 +2,19 @@
 use Rattle.std.proofs.Common.{◌≡◌, ℕ, List, [], ◌∷◌, ◌++◌, map, Bool, true, false, Option, Some, None, Result, Ok, Err, refl, sym, ap, ap₂, ◌∙◌}
 use Rattle.std.specs.Prelude.{◌==◌, if◌then◌else◌}
 use Rattle.edit_fields.specs.declared.fault.LineFault.{LineFault}
+use Rattle.edit_text.specs.declared.line.FileKind.TheVariants.{Run}
 use Rattle.edit_text.specs.declared.line.Line.{Line}
 use Rattle.edit_text.specs.declared.line.Line.TheVariants.{Bot, Guild, Edit, Look, Open, Frame, Lost, Closed, Tick}
 use Rattle.edit_text.specs.declared.reader_state.ReaderState.{ReaderState}
 use Rattle.edit_text.specs.Lines.{line_of, after_line, reader_after}
+use Rattle.edit_text.specs.Reader.{first_reader}
 use Rattle.edit_text.specs.Lifted.{lifted}
 use Rattle.file_lines.specs.Lines as file
 use Rattle.file_lift.specs.Lifted.{newest_said, said_from, SaysTheSame}
 use Rattle.file_lift.proofs.Sayings.{newest_after}
 use Rattle.scenario.specs.Lines.{whole_from, tail_from, last_line, lines_of}
 use Rattle.scenario.specs.Server.{Server, first_server, played}
-use Rattle.scenario.specs.Transcript.{first_reader, line_text, line_ending, Ending, read_text, after_read, read_ending, is_read, text_from, ending_from, then_ending, transcript, ending}
+use Rattle.scenario.specs.Transcript.{line_text, line_ending, Ending, read_text, after_read, read_ending, is_read, text_from, ending_from, then_ending, transcript, ending}
 use Rattle.gateway_main.specs.Lifting.{MeansTheSame}
 
 -- ---- one line
@@ -156,5 +158,5 @@ lines_same bytes = ap₂ (λ ls ms. ls ++ ms) (whole_same bytes []) (ap last_lin
 pub means_the_same : MeansTheSame
 unfolding MeansTheSame SaysTheSame transcript ending
 means_the_same new old says =
-    let is : said_from first_reader (lines_of new) ≡ map newest_said (said_from first_reader (lines_of old)) = rw (lines_same new, lines_same old) says in
-    (texts_same (lines_of new) (lines_of old) first_reader first_server is, endings_same (lines_of new) (lines_of old) first_reader first_server is)
+    let is : said_from (first_reader Run) (lines_of new) ≡ map newest_said (said_from (first_reader Run) (lines_of old)) = rw (lines_same new, lines_same old) says in
+    (texts_same (lines_of new) (lines_of old) (first_reader Run) first_server is, endings_same (lines_of new) (lines_of old) (first_reader Run) first_server is)

@@ -1,14 +1,16 @@
 -- Bytes of a step file, as they come.
 use Rattle.std.proofs.Common.{◌≡◌, ℕ, ◌<◌, List, [], ◌∷◌, ◌++◌, Result, Ok, Err, MatchResult, OnOk, length, refl, sym, ap, ◌∙◌, subst, append_assoc, append-nil, arith}
 use Rattle.std.specs.declared.option.Option.{Option as Known}
+use Rattle.edit_text.specs.declared.line.FileKind.TheVariants.{Run}
 use Rattle.edit_text.specs.declared.reader_state.ReaderState.{ReaderState}
 use Rattle.edit_text.specs.Lines.{reader_after}
+use Rattle.edit_text.specs.Reader.{first_reader}
 use Rattle.scenario.specs.declared.fault.PlayFault.{PlayFault}
 use Rattle.scenario.specs.declared.fault.PlayFault.TheVariants.{Memory}
 use Rattle.scenario.specs.declared.file_runner.FileRunner.{FileRunner}
 use Rattle.scenario.specs.Lines.{whole_lines, tail, lines_of, last_line, IsPiece}
 use Rattle.scenario.specs.Server.{Server, first_server}
-use Rattle.scenario.specs.Transcript.{first_reader, Whole, text_from, run_text, run_ending, text_of, reader_of, server_of, transcript, ending}
+use Rattle.scenario.specs.Transcript.{Whole, text_from, run_text, run_ending, text_of, reader_of, server_of, transcript, ending}
 use Rattle.gate_outside.specs.Streams.{Carries, CarriesFront}
 use Rattle.scenario.specs.Played.{Leaves, RunsLine, Playing, LeavesAt, Anything, Nothing}
 use Rattle.gate_outside.proofs.Fronts.{front_before, carries_front}
@@ -38,7 +40,7 @@ module _ (got got0 got1 : Known (List ℕ)) (waits0 waits1 : List ℕ) (old : Fi
       let is = sym (whole_line bytes piece h) in
       record {
         reader = reader ∙ (ap (λ r. reader_after r (old.part.items ++ piece)) playing.reader ∙ (ap (λ l. reader_after (reader_of (whole_lines bytes)) (l ++ piece)) playing.part
-            ∙ (sym (reader-more (whole_lines bytes) first_reader (line ∷ [])) ∙ ap reader_of is)));
+            ∙ (sym (reader-more (whole_lines bytes) (first_reader Run) (line ∷ [])) ∙ ap reader_of is)));
         part = part ∙ sym (tail_line bytes piece h);
         represents = rw is at all.0;
         wrote = rw is at all.1;
@@ -64,7 +66,7 @@ module _ (got got0 got1 : Known (List ℕ)) (waits0 waits1 : List ℕ) (old : Fi
   front_so_far rest =
       let ls : List (List ℕ) = lines_from (tail bytes) rest in
       let is : text_of (whole_lines bytes) ++ text_from (reader_of (whole_lines bytes)) (server_of (whole_lines bytes)) ls ≡ text_of (lines_of (bytes ++ rest)) =
-      sym (ap text_of (lines-more bytes rest) ∙ text-more (whole_lines bytes) first_reader first_server ls playing.goes_on) in
+      sym (ap text_of (lines-more bytes rest) ∙ text-more (whole_lines bytes) (first_reader Run) first_server ls playing.goes_on) in
       rw is at (front_before got got0 waits0 (text_of (whole_lines bytes)) (text_from (reader_of (whole_lines bytes)) (server_of (whole_lines bytes)) ls)
       (carries_front got got0 waits0 (text_of (whole_lines bytes)) playing.wrote))
 

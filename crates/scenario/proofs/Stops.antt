@@ -5,15 +5,17 @@ use Rattle.std.specs.declared.option.Option.{Option as Known}
 use Rattle.std.proofs.lemmas.Bool.Decides.{nat_tests}
 use Rattle.edit_fields.specs.declared.fault.LineFault.{LineFault}
 use Rattle.edit_fields.specs.declared.fault.LineFault.TheVariants.{TooLong}
+use Rattle.edit_text.specs.declared.line.FileKind.TheVariants.{Run}
 use Rattle.edit_text.specs.declared.line.Line.{Line}
 use Rattle.edit_text.specs.declared.line.Line.TheVariants.{Bot, Guild, Edit, Look, Open, Frame, Lost, Closed, Tick}
 use Rattle.edit_text.specs.declared.reader_state.ReaderState.{ReaderState}
 use Rattle.edit_text.specs.Lines.{line_of, after_line, reader_after, noted, counted}
+use Rattle.edit_text.specs.Reader.{first_reader, reader_from}
 use Rattle.scenario.specs.declared.fault.PlayFault.{PlayFault}
 use Rattle.scenario.specs.declared.fault.PlayFault.TheVariants as play
 use Rattle.scenario.specs.Server.{Server, first_server}
 use Rattle.scenario.specs.declared.server.Server.{Server as KeptServer}
-use Rattle.scenario.specs.Transcript.{first_reader, Ending, Whole, Stops, Spends, is_read, read_text, read_ending, after_run, run_text, run_ending, then_ending, text_from, ending_from, reader_from, server_from, line_spends, text_of, ending_of, reader_of, server_of}
+use Rattle.scenario.specs.Transcript.{Ending, Whole, Stops, Spends, is_read, read_text, read_ending, after_run, run_text, run_ending, then_ending, text_from, ending_from, server_from, line_spends, text_of, ending_of, reader_of, server_of}
 use Rattle.scenario.specs.Represents.{Represents}
 use Rattle.gate_outside.specs.Streams.{Carries, CarriesFront}
 use Rattle.scenario.specs.Played.{Leaves, RunsLine, IsCounted}
@@ -116,9 +118,9 @@ unfolding after
 ends_among fault xs line later got got0 got1 waits0 waits1 goes wrote ends =
     let r : ReaderState = reader_of xs in
     let p : Server = server_of xs in
-    let end : ending_of (xs ++ line ∷ later) ≡ then_ending (run_ending r p line) (ending_from (reader_after r line) (after_run r p line) later) = ending-more xs first_reader first_server (line ∷ later) goes in
+    let end : ending_of (xs ++ line ∷ later) ≡ then_ending (run_ending r p line) (ending_from (reader_after r line) (after_run r p line) later) = ending-more xs (first_reader Run) first_server (line ∷ later) goes in
     ends_within fault got got0 got1 waits0 waits1 (text_of xs) (run_text r p line) (after r p line later) (text_of (xs ++ line ∷ later)) (run_ending r p line) (ending_of (xs ++ line ∷ later)) wrote
-    (text-more xs first_reader first_server (line ∷ later) goes)
+    (text-more xs (first_reader Run) first_server (line ∷ later) goes)
     (λ n f stops. (
       ap (λ t. if t then text_from (reader_after r line) (after_run r p line) later else []) (stops_unread p (reader_after r line).lines (line_of r line) n f stops),
       end ∙ ap (λ a. then_ending a (ending_from (reader_after r line) (after_run r p line) later)) stops,
@@ -134,10 +136,10 @@ pub line_is_run : (xs : List (List ℕ)) (line : List ℕ) (got got0 got1 : Know
 line_is_run xs line got got0 got1 waits0 waits1 server wrote goes runs =
     let r : ReaderState = reader_of xs in
     let p : Server = server_of xs in
-    let text : text_of (xs ++ line ∷ []) ≡ text_of xs ++ run_text r p line = text-more xs first_reader first_server (line ∷ []) goes ∙ ap (λ l. text_of xs ++ l) (one_text r p line) in (
-      rw (server-more xs first_reader first_server (line ∷ [])) runs.0,
+    let text : text_of (xs ++ line ∷ []) ≡ text_of xs ++ run_text r p line = text-more xs (first_reader Run) first_server (line ∷ []) goes ∙ ap (λ l. text_of xs ++ l) (one_text r p line) in (
+      rw (server-more xs (first_reader Run) first_server (line ∷ [])) runs.0,
       rw text (carries_more got got0 got1 waits0 waits1 (text_of xs) (run_text r p line) wrote runs.1.0),
-      ending-more xs first_reader first_server (line ∷ []) goes ∙ (then_nothing (run_ending r p line) ∙ runs.1.1),
+      ending-more xs (first_reader Run) first_server (line ∷ []) goes ∙ (then_nothing (run_ending r p line) ∙ runs.1.1),
     )
 
 -- ---- a line that is too long

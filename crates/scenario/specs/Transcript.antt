@@ -9,15 +9,13 @@ use Rattle.edit_text.specs.declared.line.Line.{Line}
 use Rattle.edit_text.specs.declared.line.Line.TheVariants.{Bot, Guild, Edit, Look, Open, Frame, Lost, Closed, Tick}
 use Rattle.edit_text.specs.declared.reader_state.ReaderState.{ReaderState}
 use Rattle.edit_text.specs.Lines.{line_of, reader_after}
+use Rattle.edit_text.specs.Reader.{first_reader, reader_from, number_of}
 use Rattle.worker_core.specs.declared.io.Output.{Output}
 use Rattle.worker_core.specs.declared.io.Output.TheVariants.{Send, Close, Wish}
 use Rattle.scenario.specs.declared.lagged.Lagged.{Lagged}
 use Rattle.scenario.specs.Lines.{lines_of}
 use Rattle.scenario.specs.Server.{Server, first_server, world, log, worker_id, lag_of, refusal, step_of, with_line, line_sends, follow, played, step_spends}
 use Rattle.scenario.specs.Texts.{written_line, refused_text, lagged_text, stop_line}
-
-abbrev pub first_reader : ReaderState
-first_reader = record { kind = Run; lines = 0; stepped = false; guilds = [] }
 
 -- ---- what goes out
 
@@ -105,10 +103,6 @@ abbrev pub is_read : {A : Type 0} → Result A LineFault → Bool
 is_read (Ok line) = true
 is_read (Err fault) = false
 
--- the number of a line that a reader reads next
-abbrev pub number_of : ReaderState → List ℕ → ℕ
-number_of r line = (reader_after r line).lines
-
 abbrev pub run_text : ReaderState → Server → List ℕ → List ℕ
 run_text r p line = read_text p (number_of r line) (line_of r line)
 
@@ -132,26 +126,22 @@ abbrev pub ending_from : ReaderState → Server → List (List ℕ) → Ending
 ending_from r p [] = Whole
 ending_from r p (line ∷ lines) = then_ending (run_ending r p line) (ending_from (reader_after r line) (after_run r p line) lines)
 
--- the reader and the server after lines
-abbrev pub reader_from : ReaderState → List (List ℕ) → ReaderState
-reader_from r [] = r
-reader_from r (line ∷ lines) = reader_from (reader_after r line) lines
-
+-- the server after lines
 abbrev pub server_from : ReaderState → Server → List (List ℕ) → Server
 server_from r p [] = p
 server_from r p (line ∷ lines) = server_from (reader_after r line) (after_run r p line) lines
 
 abbrev pub text_of : List (List ℕ) → List ℕ
-text_of lines = text_from first_reader first_server lines
+text_of lines = text_from (first_reader Run) first_server lines
 
 abbrev pub ending_of : List (List ℕ) → Ending
-ending_of lines = ending_from first_reader first_server lines
+ending_of lines = ending_from (first_reader Run) first_server lines
 
 abbrev pub reader_of : List (List ℕ) → ReaderState
-reader_of lines = reader_from first_reader lines
+reader_of lines = reader_from (first_reader Run) lines
 
 abbrev pub server_of : List (List ℕ) → Server
-server_of lines = server_from first_reader first_server lines
+server_of lines = server_from (first_reader Run) first_server lines
 
 -- the transcript of a file, and how its play ends
 unfoldable pub transcript : List ℕ → List ℕ
