@@ -1,11 +1,8 @@
 -- What the command answers and leaves.
 use Rattle.std.specs.Prelude.{◌≡◌, ◌⊎◌, ℕ, List, ◌++◌, Result, Ok, Err, Some, None, MatchResult}
 use Rattle.std.specs.declared.option.Option.{Option}
-use Rattle.gate_outside.specs.declared.asked.Asked.{Asked}
-use Rattle.gate_outside.specs.declared.asked.Asked.TheVariants as ask
 use Rattle.gate_outside.specs.Dials.{DialTale}
-use Rattle.gate_outside.specs.Houses.{HouseTale, ReturnedSource, returned_source, GivesOwn}
-use Rattle.gate_outside.specs.Told.{GrowsBy}
+use Rattle.gate_outside.specs.Houses.{HouseTale, ReturnedSource}
 use Rattle.scenario.specs.declared.fault.PlayFault.{PlayFault}
 use Rattle.scenario.specs.declared.fault.PlayFault.TheVariants as play
 use Rattle.gate_outside.specs.Streams.{AppendsFront}
@@ -30,7 +27,8 @@ use Rattle.file_lift.specs.Lifting.{LiftCause}
 use Rattle.gateway_main.specs.declared.fault.GateFault.{GateFault}
 use Rattle.gateway_main.specs.declared.fault.GateFault.TheVariants as gate_fault
 use Rattle.gateway_main.specs.Following.{following as client_of, FollowsOver}
-use Rattle.gateway_main.specs.Lifting.{lift_status, LiftsNamed, AsksForFile}
+use Rattle.gateway_main.specs.Files.{TakesFile, AsksForFile}
+use Rattle.gateway_main.specs.Lifting.{lift_status, LiftsNamed}
 use Rattle.gateway_main.specs.Usage.{usage}
 
 -- the exit status of a play
@@ -98,22 +96,9 @@ abbrev pub lift_fault : Result (Unit {0}) LiftFault → Option GateFault
 lift_fault (Ok x) = None
 lift_fault (Err fault) = Some (gate_fault.Lift fault)
 
--- no source was given, and nothing was written or put back
-abbrev pub NotGiven : (returned0 returned1 : Option (List ReturnedSource)) (got0 got1 : Option (List ℕ)) → Result (Unit {0}) PlayFault → Type 0
-NotGiven returned0 returned1 got0 got1 played = (returned1 ≡ returned0) × (got1 ≡ got0) × ((played ≡ Err play.Read) ⊎ (played ≡ Err play.Memory))
-
--- a source of these bytes was played, after the bytes that waited before the sink, and put back
-abbrev pub Given : Option (List ℕ) → (returned0 returned1 : Option (List ReturnedSource)) (got0 got1 : Option (List ℕ)) → (before : List ℕ) → Result (Unit {0}) PlayFault → Type 0
-Given own returned0 returned1 got0 got1 before played = (left0 left1 : Option (List ℕ)) × ((faults : ℕ) × (GivesOwn own left0
-    × MatchResult played (λ _. PlaysAll left0 left1 got0 got1 before) (PlaysTo left0 left1 got0 got1 before)
-    × GrowsBy returned0 returned1 (returned_source left1 faults)))
-
+-- the file was played, if its source was given, after the bytes that waited before the sink
 abbrev pub Runs : Option (List ℕ) → (returned0 returned1 : Option (List ReturnedSource)) (got0 got1 : Option (List ℕ)) → (before : List ℕ) → Result (Unit {0}) PlayFault → Type 0
-Runs own returned0 returned1 got0 got1 before played = NotGiven returned0 returned1 got0 got1 played ⊎ Given own returned0 returned1 got0 got1 before played
-
--- the file was asked for once, or memory ran out before
-abbrev pub AsksOnce : (asks0 asks1 : Option (List Asked)) → List ℕ → Result (Unit {0}) PlayFault → Type 0
-AsksOnce asks0 asks1 file played = GrowsBy asks0 asks1 (ask.Source file) ⊎ ((asks1 ≡ asks0) × (played ≡ Err play.Memory))
+Runs own returned0 returned1 got0 got1 before played = TakesFile play.Read play.Memory own returned0 returned1 got0 got1 (λ (left0 left1 : Option (List ℕ)). MatchResult played (λ _. PlaysAll left0 left1 got0 got1 before) (PlaysTo left0 left1 got0 got1 before)) played
 
 abbrev pub usage_status : Result (Unit {0}) Fault → ℕ
 usage_status (Ok x) = 2
@@ -175,7 +160,7 @@ pub record Plays (file : List ℕ) (old new : Outside) (told : Option GateFault)
   pub played : Result (Unit {0}) PlayFault
   pub status_is : status ≡ play_status played
   pub runs : Runs (old.house.contents file) old.house.sources new.house.sources old.sink.got new.sink.got old.sink.waits played
-  pub asks : AsksOnce old.house.asks new.house.asks file played
+  pub asks : AsksForFile play.Memory old.house.asks new.house.asks file played
   pub cause : PlayCause old.house.source_faults new.house.source_faults old.sink.faults new.sink.faults played
   pub rest : LeavesRest old.house new.house
   pub dial : LeavesDial old new
@@ -216,7 +201,7 @@ pub record LiftsFile (file : List ℕ) (house0 house1 : HouseTale) (sink0 sink1 
   pub lifted : Result (Unit {0}) LiftFault
   pub status_is : status ≡ lift_status lifted
   pub lifts : LiftsNamed (house0.contents file) house0.sources house1.sources sink0.got sink1.got sink0.waits lifted
-  pub asks : AsksForFile house0.asks house1.asks file lifted
+  pub asks : AsksForFile lifting.Memory house0.asks house1.asks file lifted
   pub cause : LiftCause house0.source_faults house1.source_faults sink0.faults sink1.faults lifted
   pub rest : LeavesRest house0 house1
   pub fault : TellsFault told (lift_fault lifted) (lifted ≡ Err lifting.Memory)

@@ -1,4 +1,5 @@
 pub mod Usage
+pub mod Files
 pub mod Following
 pub mod Lifting
 pub mod Gate

@@ -3,8 +3,10 @@
 ghost use Rattle.std.specs.Prelude.{◌≡◌};
 ghost use Rattle.serve_house.specs.Serving.{sink_tale};
 ghost use Rattle.file_lift.specs.Lifting.{LiftCause};
+ghost use Rattle.file_lift.specs.declared.fault.LiftFault.TheVariants.{Memory};
+ghost use Rattle.gateway_main.specs.Files.{AsksForFile};
 ghost use Rattle.gateway_main.specs.Gate.{LeavesRest, LiftsFile};
-ghost use Rattle.gateway_main.specs.Lifting.{LiftsNamed, AsksForFile, MeansTheSame};
+ghost use Rattle.gateway_main.specs.Lifting.{LiftsNamed, MeansTheSame};
 
 use crate::fault::GateFault;
 use crate::statuses::{lift_fault, lift_status};
@@ -24,7 +26,7 @@ fn run_lift<H: House>(
     ensures lifts { LiftsNamed ((H.house_tale house.old).contents file.now)
         (H.house_tale house.old).sources (H.house_tale house.new).sources
         (H.Out.got sink.old) (H.Out.got sink.new) (H.Out.waits sink.old) result }
-    ensures asks { AsksForFile (H.house_tale house.old).asks (H.house_tale house.new).asks
+    ensures asks { AsksForFile Memory (H.house_tale house.old).asks (H.house_tale house.new).asks
         file.now result }
     ensures cause { LiftCause
         (H.house_tale house.old).source_faults (H.house_tale house.new).source_faults

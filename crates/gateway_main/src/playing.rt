@@ -2,7 +2,9 @@
 
 ghost use Rattle.std.specs.Prelude.{◌≡◌};
 ghost use Rattle.scenario.specs.Played.{PlayCause};
-ghost use Rattle.gateway_main.specs.Gate.{Runs, AsksOnce, LeavesRest};
+ghost use Rattle.scenario.specs.declared.fault.PlayFault.TheVariants.{Memory};
+ghost use Rattle.gateway_main.specs.Files.{AsksForFile};
+ghost use Rattle.gateway_main.specs.Gate.{Runs, LeavesRest};
 
 use gate_outside::back::Back;
 use gate_outside::faults::Fault;
@@ -20,7 +22,7 @@ pub fn run<H: House>(
     ensures runs { Runs ((H.house_tale house.old).contents file.now)
         (H.house_tale house.old).sources (H.house_tale house.new).sources
         (H.Out.got sink.old) (H.Out.got sink.new) (H.Out.waits sink.old) result }
-    ensures asks { AsksOnce (H.house_tale house.old).asks (H.house_tale house.new).asks
+    ensures asks { AsksForFile Memory (H.house_tale house.old).asks (H.house_tale house.new).asks
         file.now result }
     ensures cause { PlayCause
         (H.house_tale house.old).source_faults (H.house_tale house.new).source_faults
