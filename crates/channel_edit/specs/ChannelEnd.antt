@@ -6,7 +6,7 @@ use Rattle.guild_model.specs.declared.thread.Thread.{Thread}
 use Rattle.guild_model.specs.declared.voice.Voice.{Voice}
 use Rattle.guild_model.specs.declared.message.MessageHead.{MessageHead}
 use Rattle.guild_model.specs.declared.verdict.Verdict.{Verdict}
-use Rattle.guild_model.specs.Record.{Record, channel_id, thread_id}
+use Rattle.guild_model.specs.Record.{Record, channel_id, thread_id, speaks_in}
 use Rattle.guild_model.specs.Tests.{unknown_channel}
 
 abbrev pub channel_delete_verdict : Record → ℕ → Option Verdict
@@ -20,7 +20,7 @@ abbrev pub is_outside : ℕ → Thread → Bool
 is_outside channel t = not (t.parent == channel)
 
 abbrev pub speaks_outside : ℕ → Voice → Bool
-speaks_outside channel v = not (v.channel == channel)
+speaks_outside channel v = not (speaks_in channel v)
 
 abbrev pub is_in_channel : ℕ → Option Thread → Bool
 is_in_channel channel None = false

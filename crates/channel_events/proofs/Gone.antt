@@ -15,7 +15,7 @@ use Rattle.guild_model.specs.declared.member.Member.{Member}
 use Rattle.guild_model.specs.declared.channel.Channel.{Channel}
 use Rattle.guild_model.specs.declared.thread.Thread.{Thread}
 use Rattle.guild_model.specs.declared.voice.Voice.{Voice}
-use Rattle.guild_model.specs.Record.{Record, own_id, channel_id, voice_id}
+use Rattle.guild_model.specs.Record.{Record, own_id, channel_id, voice_id, speaks_in}
 use Rattle.guild_model.specs.Ascending.{IsAscending, HasOrderedOverwrites}
 use Rattle.guild_model.specs.Sight.{standing}
 use Rattle.channel_edit.specs.ChannelEnd.{orphaned, speaks_outside, channel_deleted}
@@ -34,7 +34,7 @@ use Rattle.thread_sync.proofs.Sights.{same-sight, channel-gone}
 use Rattle.event_views.specs.Has.{Has}
 use Rattle.event_views.proofs.Steps.{same, whole, by_guilds, fold-append}
 use Rattle.event_views.proofs.Voices.{follows-voice_gone}
-use Rattle.channel_events.specs.Dispatches.{speaks_in, is_child, voices_in, children_of, told_of, updated, gone, deleted}
+use Rattle.channel_events.specs.Dispatches.{is_child, voices_in, children_of, told_of, updated, gone, deleted}
 use Rattle.event_views.specs.Ended.{voice_ends}
 use Rattle.channel_events.proofs.Puts.{with_channels, follows-channel_changed}
 

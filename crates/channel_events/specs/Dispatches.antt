@@ -8,7 +8,7 @@ use Rattle.collections.specs.ById.{find_id}
 use Rattle.guild_model.specs.declared.member.Member.{Member}
 use Rattle.guild_model.specs.declared.channel.Channel.{Channel}
 use Rattle.guild_model.specs.declared.voice.Voice.{Voice}
-use Rattle.guild_model.specs.Record.{Record, channel_id}
+use Rattle.guild_model.specs.Record.{Record, channel_id, speaks_in}
 use Rattle.channel_edit.specs.declared.ChannelEdit.{ChannelEdit}
 use Rattle.channel_edit.specs.declared.ChannelEdit.TheVariants as edit
 use Rattle.dispatch_types.specs.declared.viewer.Viewer.{Viewer}
@@ -20,10 +20,7 @@ use Rattle.event_views.specs.Asked.{asked}
 use Rattle.event_views.specs.Ended.{voice_ends}
 use Rattle.event_views.specs.Synced.{synced}
 
--- a voice state in a channel, and a channel whose parent it is
-abbrev pub speaks_in : ℕ → Voice → Bool
-speaks_in channel v = v.channel == channel
-
+-- a channel whose parent it is
 abbrev pub is_child : ℕ → Channel → Bool
 is_child channel c = option_map_or (λ parent. parent == channel) c.parent false
 

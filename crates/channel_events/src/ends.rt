@@ -2,8 +2,8 @@
 
 ghost use Rattle.std.specs.Prelude.{◌≡◌, IfOk, map, filter};
 ghost use Rattle.collections.specs.ById.{find_id};
-ghost use Rattle.guild_model.specs.Record.{channel_id};
-ghost use Rattle.channel_events.specs.Dispatches.{speaks_in, is_child};
+ghost use Rattle.guild_model.specs.Record.{channel_id, speaks_in};
+ghost use Rattle.channel_events.specs.Dispatches.{is_child};
 ghost use Rattle.channel_events.specs.Ends.{end_of, before_end, before_overwrites, channel_note};
 
 use channel_edit::ChannelEdit;

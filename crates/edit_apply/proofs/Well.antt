@@ -12,7 +12,7 @@ use Rattle.guild_model.specs.Consistent.{IsConsistent}
 use Rattle.guild_model.specs.Ascending.{IsAscending, HasOrderedOverwrites, IsWell, HasInOrder, HoldsInOrder}
 use Rattle.guild_model.specs.Tests.{refused_if, first_of, too_long, unknown_member}
 use Rattle.guild_model.proofs.Tests.{first_passes, not_refused, passed}
-use Rattle.guild_model.proofs.Kept.{renamed, in_outage, owned}
+use Rattle.guild_model.proofs.Kept.{renamed, in_outage, withheld, owned}
 use Rattle.role_member_edit.specs.Members.{new_member}
 use Rattle.role_member_edit.proofs.Well.{well as role_member_well}
 use Rattle.channel_edit.specs.ChannelEdits.{channel_verdict}
@@ -27,7 +27,7 @@ use Rattle.role_member_edit.specs.RoleMember.{role_member_verdict}
 use Rattle.edit_apply.specs.declared.Edit.{Edit}
 use Rattle.edit_apply.specs.declared.Edit.TheVariants as edit
 use Rattle.edit_apply.specs.declared.guild.GuildEdit.{GuildEdit}
-use Rattle.edit_apply.specs.declared.guild.GuildEdit.TheVariants.{GuildOpen, GuildRename, GuildOwner, GuildOutage, GuildBack}
+use Rattle.edit_apply.specs.declared.guild.GuildEdit.TheVariants.{GuildOpen, GuildRename, GuildOwner, GuildOutage, GuildBack, GuildPrivate}
 use Rattle.edit_apply.specs.declared.guild.GuildOpen as guild_open
 use Rattle.edit_apply.specs.Guilds.{out_of_service, guild_opened, guild_verdict, guild_applied}
 use Rattle.edit_apply.specs.Edits.{verdict, applied, after, after_verdict, state_from, KeepsWell, StaysWell}
@@ -83,8 +83,8 @@ in_service_open : (g : Record) (tests : List (Option Verdict)) → first_of (out
 in_service_open g tests e = passed g.opened NotOpen (first_passes (refused_if (not g.opened) NotOpen) (refused_if g.outage Unavailable ∷ []) (first_passes (out_of_service g) tests e).0).0
 
 -- the lists are the same
-same_lists : (g : Record) (opened outage : Bool) (name : List ℕ) (owner : ℕ) → IsAscending g → IsAscending (record g { opened = opened; outage = outage; name = name; owner = owner })
-same_lists g opened outage name owner a = record {
+same_lists : (g : Record) (opened outage private : Bool) (name : List ℕ) (owner : ℕ) → IsAscending g → IsAscending (record g { opened = opened; outage = outage; private = private; name = name; owner = owner })
+same_lists g opened outage private name owner a = record {
   roles = a.roles;
   members = a.members;
   channels = a.channels;
@@ -103,18 +103,21 @@ guild_well g (GuildOpen opens) w e =
     opened_well g opens (not_refused g.opened AlreadyOpen first.0) w
 guild_well g (GuildRename name) w e =
     let is_open = in_service_open g (too_long 100 name ∷ []) e in
-    record { ascending = same_lists g g.opened g.outage name g.owner w.ascending; consistent = renamed g is_open w.consistent name }
+    record { ascending = same_lists g g.opened g.outage g.private name g.owner w.ascending; consistent = renamed g is_open w.consistent name }
 guild_well g (GuildOwner user) w e =
     let is_open = in_service_open g (unknown_member g user ∷ []) e in
     let rest = first_passes (unknown_member g user) [] (first_passes (out_of_service g) (unknown_member g user ∷ []) e).1 in
     let there = passed (has_id member_id user g.members) UnknownMember rest.0 in
-    record { ascending = same_lists g g.opened g.outage g.name user w.ascending; consistent = owned g is_open w.consistent user there }
+    record { ascending = same_lists g g.opened g.outage g.private g.name user w.ascending; consistent = owned g is_open w.consistent user there }
 guild_well g GuildOutage w e =
     let is_open = passed g.opened NotOpen (first_passes (refused_if (not g.opened) NotOpen) (refused_if g.outage Unavailable ∷ []) e).0 in
-    record { ascending = same_lists g g.opened true g.name g.owner w.ascending; consistent = in_outage g is_open w.consistent true }
+    record { ascending = same_lists g g.opened true g.private g.name g.owner w.ascending; consistent = in_outage g is_open w.consistent true }
 guild_well g GuildBack w e =
     let is_open = passed g.opened NotOpen (first_passes (refused_if (not g.opened) NotOpen) (refused_if (not g.outage) AlreadyOpen ∷ []) e).0 in
-    record { ascending = same_lists g g.opened false g.name g.owner w.ascending; consistent = in_outage g is_open w.consistent false }
+    record { ascending = same_lists g g.opened false g.private g.name g.owner w.ascending; consistent = in_outage g is_open w.consistent false }
+guild_well g (GuildPrivate private) w e =
+    let is_open = passed g.opened NotOpen (first_passes (refused_if (not g.opened) NotOpen) (refused_if g.outage Unavailable ∷ []) e).0 in
+    record { ascending = same_lists g g.opened g.outage private g.name g.owner w.ascending; consistent = withheld g is_open w.consistent private }
 
 -- an edit that is not refused
 passes : (g : Record) (v : Option Verdict) → first_of (out_of_service g ∷ v ∷ []) ≡ None → (g.opened ≡ true) × (v ≡ None)

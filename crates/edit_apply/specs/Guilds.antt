@@ -42,6 +42,7 @@ guild_verdict g (edit.GuildRename name) = first_of (out_of_service g ∷ too_lon
 guild_verdict g (edit.GuildOwner user) = first_of (out_of_service g ∷ unknown_member g user ∷ [])
 guild_verdict g edit.GuildOutage = out_of_service g
 guild_verdict g edit.GuildBack = guild_back_verdict g
+guild_verdict g (edit.GuildPrivate private) = out_of_service g
 
 -- the record after an edit that is not refused
 abbrev pub guild_applied : Record → GuildEdit → Record
@@ -50,3 +51,4 @@ guild_applied g (edit.GuildRename name) = record g { name = name }
 guild_applied g (edit.GuildOwner user) = record g { owner = user }
 guild_applied g edit.GuildOutage = record g { outage = true }
 guild_applied g edit.GuildBack = record g { outage = false }
+guild_applied g (edit.GuildPrivate private) = record g { private = private }

@@ -25,6 +25,8 @@ pub enum GuildEdit {
     GuildOutage,
     /// Ends the outage.
     GuildBack,
+    /// Lets the guild withhold channels from those who do not see them, or show all of them to everyone.
+    GuildPrivate { private: bool },
 }
 
 /// A new guild.
@@ -67,6 +69,7 @@ impl GuildEdit {
             GuildEdit::GuildOwner { user } => GuildEdit::GuildOwner { user: *user },
             GuildEdit::GuildOutage => GuildEdit::GuildOutage,
             GuildEdit::GuildBack => GuildEdit::GuildBack,
+            GuildEdit::GuildPrivate { private } => GuildEdit::GuildPrivate { private: *private },
         })
     }
 }
@@ -118,6 +121,7 @@ pub fn check(guild: &Guild, edit: &GuildEdit) -> Result<(), Verdict>
         GuildEdit::GuildOwner { user } => check_owner(guild, *user),
         GuildEdit::GuildOutage => in_service(guild),
         GuildEdit::GuildBack => check_back(guild),
+        GuildEdit::GuildPrivate { .. } => in_service(guild),
     }
 }
 
@@ -195,6 +199,13 @@ fn set_outage(guild: &mut Guild, outage: bool)
     guild.outage = outage;
 }
 
+fn set_private(guild: &mut Guild, private: bool)
+    requires { guild.old.opened ≡ true }
+    ensures { guild.new ≡ guild_applied guild.old (GuildEdit.GuildPrivate private) }
+{
+    guild.private = private;
+}
+
 /// Makes an edit that [`check`] does not refuse. If it runs out of memory, the record stays as it
 /// was.
 pub fn apply(alloc: Global, guild: &mut Guild, edit: GuildEdit) -> Result<(), AllocError>
@@ -208,6 +219,7 @@ pub fn apply(alloc: Global, guild: &mut Guild, edit: GuildEdit) -> Result<(), Al
         GuildEdit::GuildOwner { user } => set_owner(guild, user),
         GuildEdit::GuildOutage => set_outage(guild, true),
         GuildEdit::GuildBack => set_outage(guild, false),
+        GuildEdit::GuildPrivate { private } => set_private(guild, private),
     }
     Ok(())
 }

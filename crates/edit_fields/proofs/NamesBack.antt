@@ -2,7 +2,7 @@
 use Rattle.std.proofs.Common.{◌≡◌, Some, refl}
 use Rattle.edit_fields.specs.declared.names.EditName.{EditName}
 use Rattle.edit_fields.specs.declared.names.EditName.TheVariants as name
-use Rattle.edit_fields.specs.declared.names.GuildEditName.TheVariants.{GuildOpen, GuildRename, GuildOwner, GuildOutage, GuildBack}
+use Rattle.edit_fields.specs.declared.names.GuildEditName.TheVariants.{GuildOpen, GuildRename, GuildOwner, GuildOutage, GuildBack, GuildPrivate}
 use Rattle.edit_fields.specs.declared.names.RoleMemberEditName.TheVariants.{RoleCreate, RoleUpdate, RoleDelete, MemberAdd, MemberRemove, MemberNick, MemberTimeout, MemberRoleAdd, MemberRoleRemove}
 use Rattle.edit_fields.specs.declared.names.ChannelEditName.TheVariants.{ChannelCreate, ChannelUpdate, ChannelDelete, OverwriteSet, OverwriteDelete}
 use Rattle.edit_fields.specs.declared.names.ThreadEditName.TheVariants.{ThreadCreate, ThreadRename, ThreadArchive, ThreadUnarchive, ThreadDelete, ThreadJoin, ThreadLeave}
@@ -17,6 +17,7 @@ named_back (name.Guild GuildRename) = refl
 named_back (name.Guild GuildOwner) = refl
 named_back (name.Guild GuildOutage) = refl
 named_back (name.Guild GuildBack) = refl
+named_back (name.Guild GuildPrivate) = refl
 named_back (name.RoleMember RoleCreate) = refl
 named_back (name.RoleMember RoleUpdate) = refl
 named_back (name.RoleMember RoleDelete) = refl

@@ -4,7 +4,7 @@ use Rattle.guild_model.specs.declared.moment.TheConstants.{END_OF_TIME}
 use Rattle.edit_apply.specs.declared.Edit.{Edit}
 use Rattle.edit_apply.specs.declared.Edit.TheVariants as edit
 use Rattle.edit_apply.specs.declared.guild.GuildEdit.{GuildEdit}
-use Rattle.edit_apply.specs.declared.guild.GuildEdit.TheVariants.{GuildOpen, GuildRename, GuildOwner, GuildOutage, GuildBack}
+use Rattle.edit_apply.specs.declared.guild.GuildEdit.TheVariants.{GuildOpen, GuildRename, GuildOwner, GuildOutage, GuildBack, GuildPrivate}
 use Rattle.role_member_edit.specs.declared.RoleMemberEdit.{RoleMemberEdit}
 use Rattle.role_member_edit.specs.declared.RoleMemberEdit.TheVariants.{RoleCreate, RoleUpdate, RoleDelete, MemberAdd, MemberRemove, MemberNick, MemberTimeout, MemberRoleAdd, MemberRoleRemove}
 use Rattle.channel_edit.specs.declared.ChannelEdit.{ChannelEdit}
@@ -43,6 +43,7 @@ GuildEditFits (GuildRename name) = Unit {0}
 GuildEditFits (GuildOwner user) = IdFits user
 GuildEditFits GuildOutage = Unit {0}
 GuildEditFits GuildBack = Unit {0}
+GuildEditFits (GuildPrivate private) = Unit {0}
 
 abbrev pub RoleMemberEditFits : RoleMemberEdit → Type 0
 RoleMemberEditFits (RoleCreate body) = IdFits body.role × MaskFits body.perms

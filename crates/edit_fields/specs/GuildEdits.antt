@@ -1,6 +1,6 @@
 -- The fields of the edits of a guild itself.
 use Rattle.std.specs.Prelude.{ℕ, List, [], ◌∷◌, Result, Ok, codes}
-use Rattle.serde_json.specs.Data.{Data, string}
+use Rattle.serde_json.specs.Data.{Data, boolean, string}
 use Rattle.json_view.specs.Fields.{and_then}
 use Rattle.edit_apply.specs.declared.guild.GuildEdit.{GuildEdit}
 use Rattle.edit_apply.specs.declared.guild.GuildEdit.TheVariants as edit
@@ -8,7 +8,7 @@ use Rattle.edit_apply.specs.declared.guild.GuildOpen.{GuildOpen}
 use Rattle.edit_fields.specs.declared.fault.LineFault.{LineFault}
 use Rattle.edit_fields.specs.declared.names.GuildEditName.{GuildEditName}
 use Rattle.edit_fields.specs.declared.names.GuildEditName.TheVariants as named
-use Rattle.edit_fields.specs.Fields.{text_at, id_at, mask_at, moment_at}
+use Rattle.edit_fields.specs.Fields.{text_at, id_at, flag_at, mask_at, moment_at}
 use Rattle.edit_fields.specs.Members.{count, id_data}
 
 -- ---- reading
@@ -32,6 +32,8 @@ guild_edit_from named.GuildOwner d =
     and_then (id_at (codes "user") d) (λ user. Ok (edit.GuildOwner user))
 guild_edit_from named.GuildOutage d = Ok edit.GuildOutage
 guild_edit_from named.GuildBack d = Ok edit.GuildBack
+guild_edit_from named.GuildPrivate d =
+    and_then (flag_at (codes "private") d) (λ private. Ok (edit.GuildPrivate private))
 
 -- ---- writing
 
@@ -41,6 +43,7 @@ guild_edit_name (edit.GuildRename name) = named.GuildRename
 guild_edit_name (edit.GuildOwner user) = named.GuildOwner
 guild_edit_name edit.GuildOutage = named.GuildOutage
 guild_edit_name edit.GuildBack = named.GuildBack
+guild_edit_name (edit.GuildPrivate private) = named.GuildPrivate
 
 abbrev pub guild_open_fields : GuildOpen → List (List ℕ × Data)
 guild_open_fields e =
@@ -54,3 +57,4 @@ guild_edit_fields (edit.GuildRename name) = (codes "name", string name) ∷ []
 guild_edit_fields (edit.GuildOwner user) = (codes "user", id_data user) ∷ []
 guild_edit_fields edit.GuildOutage = []
 guild_edit_fields edit.GuildBack = []
+guild_edit_fields (edit.GuildPrivate private) = (codes "private", boolean private) ∷ []

@@ -3,7 +3,7 @@ use Rattle.std.specs.Prelude.{ℕ, List, [], ◌∷◌, ◌++◌, map, Option, c
 use Rattle.std.specs.List.{find}
 use Rattle.std.specs.Str.{bytes_eq}
 use Rattle.edit_fields.specs.declared.names.GuildEditName.{GuildEditName}
-use Rattle.edit_fields.specs.declared.names.GuildEditName.TheVariants.{GuildOpen, GuildRename, GuildOwner, GuildOutage, GuildBack}
+use Rattle.edit_fields.specs.declared.names.GuildEditName.TheVariants.{GuildOpen, GuildRename, GuildOwner, GuildOutage, GuildBack, GuildPrivate}
 use Rattle.edit_fields.specs.declared.names.RoleMemberEditName.{RoleMemberEditName}
 use Rattle.edit_fields.specs.declared.names.RoleMemberEditName.TheVariants.{RoleCreate, RoleUpdate, RoleDelete, MemberAdd, MemberRemove, MemberNick, MemberTimeout, MemberRoleAdd, MemberRoleRemove}
 use Rattle.edit_fields.specs.declared.names.ChannelEditName.{ChannelEditName}
@@ -23,6 +23,7 @@ guild_edit_text GuildRename = codes "guild_rename"
 guild_edit_text GuildOwner = codes "guild_owner"
 guild_edit_text GuildOutage = codes "guild_outage"
 guild_edit_text GuildBack = codes "guild_back"
+guild_edit_text GuildPrivate = codes "guild_private"
 
 abbrev pub role_member_edit_text : RoleMemberEditName → List ℕ
 role_member_edit_text RoleCreate = codes "role_create"
@@ -76,7 +77,7 @@ edit_names =
     map Message (MessageCreate ∷ MessageUpdate ∷ MessageDelete ∷ ReactionAdd ∷ ReactionRemove
     ∷ Typing ∷ [])
     ++ map VoicePresence (VoiceSet ∷ PresenceSet ∷ [])
-    ++ map Guild (GuildOpen ∷ GuildRename ∷ GuildOwner ∷ GuildOutage ∷ GuildBack ∷ [])
+    ++ map Guild (GuildOpen ∷ GuildRename ∷ GuildOwner ∷ GuildOutage ∷ GuildBack ∷ GuildPrivate ∷ [])
     ++ map RoleMember (RoleCreate ∷ RoleUpdate ∷ RoleDelete ∷ MemberAdd ∷ MemberRemove ∷ MemberNick
     ∷ MemberTimeout ∷ MemberRoleAdd ∷ MemberRoleRemove ∷ [])
     ++ map Channel (ChannelCreate ∷ ChannelUpdate ∷ ChannelDelete ∷ OverwriteSet ∷ OverwriteDelete ∷ [])

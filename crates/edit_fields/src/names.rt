@@ -11,6 +11,7 @@ pub enum GuildEditName {
     GuildOwner,
     GuildOutage,
     GuildBack,
+    GuildPrivate,
 }
 
 /// An edit of roles or members, by its name.
@@ -89,6 +90,7 @@ impl GuildEditName {
             GuildEditName::GuildOwner => "guild_owner",
             GuildEditName::GuildOutage => "guild_outage",
             GuildEditName::GuildBack => "guild_back",
+            GuildEditName::GuildPrivate => "guild_private",
         }
     }
 }
@@ -174,7 +176,7 @@ impl MessageEditName {
 
 impl EditName {
     /// Every edit. Those of messages, voice states and presences, which come most often, are first.
-    pub const ALL: [EditName; 34] = [
+    pub const ALL: [EditName; 35] = [
         EditName::Message(MessageEditName::MessageCreate),
         EditName::Message(MessageEditName::MessageUpdate),
         EditName::Message(MessageEditName::MessageDelete),
@@ -188,6 +190,7 @@ impl EditName {
         EditName::Guild(GuildEditName::GuildOwner),
         EditName::Guild(GuildEditName::GuildOutage),
         EditName::Guild(GuildEditName::GuildBack),
+        EditName::Guild(GuildEditName::GuildPrivate),
         EditName::RoleMember(RoleMemberEditName::RoleCreate),
         EditName::RoleMember(RoleMemberEditName::RoleUpdate),
         EditName::RoleMember(RoleMemberEditName::RoleDelete),

@@ -6,7 +6,7 @@ use Rattle.snowflake_id.proofs.Texts.{id_of_decimal}
 use Rattle.edit_apply.specs.declared.Edit.{Edit}
 use Rattle.edit_apply.specs.declared.Edit.TheVariants as edit
 use Rattle.edit_apply.specs.declared.guild.GuildEdit.{GuildEdit}
-use Rattle.edit_apply.specs.declared.guild.GuildEdit.TheVariants.{GuildOpen, GuildRename, GuildOwner, GuildOutage, GuildBack}
+use Rattle.edit_apply.specs.declared.guild.GuildEdit.TheVariants.{GuildOpen, GuildRename, GuildOwner, GuildOutage, GuildBack, GuildPrivate}
 use Rattle.role_member_edit.specs.declared.RoleMemberEdit.{RoleMemberEdit}
 use Rattle.role_member_edit.specs.declared.RoleMemberEdit.TheVariants.{RoleCreate, RoleUpdate, RoleDelete, MemberAdd, MemberRemove, MemberNick, MemberTimeout, MemberRoleAdd, MemberRoleRemove}
 use Rattle.channel_edit.specs.declared.ChannelEdit.{ChannelEdit}
@@ -37,6 +37,7 @@ guild_back guild (GuildRename name) h k = (refl, rw (id_of_decimal guild h) refl
 guild_back guild (GuildOwner user) h k = (refl, rw (id_of_decimal guild h) refl, refl, rw (id_of_decimal user k) refl)
 guild_back guild GuildOutage h k = (refl, rw (id_of_decimal guild h) refl, refl, refl)
 guild_back guild GuildBack h k = (refl, rw (id_of_decimal guild h) refl, refl, refl)
+guild_back guild (GuildPrivate private) h k = (refl, rw (id_of_decimal guild h) refl, refl, refl)
 
 member_nick_back : (guild user : ℕ) (nick : Option (List ℕ)) → IdFits guild → IdFits user
     → Back guild (edit.RoleMember (MemberNick (record { user = user; nick = nick })))
@@ -133,6 +134,7 @@ guild_plain guild (GuildRename name) = (omega arith, refl)
 guild_plain guild (GuildOwner user) = (omega arith, refl)
 guild_plain guild GuildOutage = (omega arith, refl)
 guild_plain guild GuildBack = (omega arith, refl)
+guild_plain guild (GuildPrivate private) = (omega arith, refl)
 
 nick_plain : (guild user : ℕ) (nick : Option (List ℕ)) → PlainEdit guild (edit.RoleMember (MemberNick (record { user = user; nick = nick })))
 unfolding serde_json_on_literals

@@ -44,6 +44,21 @@ module _ (g : Record) (is_open : g.opened ≡ true) (h : IsConsistent g) where
     message_channels = h.message_channels;
   }
 
+  pub withheld : (private : Bool) → IsConsistent (record g { private = private })
+  withheld private = record {
+    empty = λ closed. absurd (cc (is_open, closed));
+    everyone = h.everyone;
+    owner = h.owner;
+    held = h.held;
+    overwritten = h.overwritten;
+    voices = h.voices;
+    presences = h.presences;
+    parents = h.parents;
+    joined = h.joined;
+    apart = h.apart;
+    message_channels = h.message_channels;
+  }
+
   pub owned : (user : ℕ) → has_id member_id user g.members ≡ true → IsConsistent (record g { owner = user })
   owned user there = record {
     empty = λ closed. absurd (cc (is_open, closed));

@@ -7,3 +7,4 @@ pub mod ChannelIndex
 pub mod Recent
 pub mod Statuses
 pub mod Tests
+pub mod Shown

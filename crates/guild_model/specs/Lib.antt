@@ -6,6 +6,7 @@ pub mod Statuses
 pub mod Consistent
 pub mod Permissions
 pub mod Sight
+pub mod Shown
 pub mod Ascending
 pub mod Changes
 pub mod Verdict

@@ -1,5 +1,6 @@
--- The record of a guild (Guild Resource, Guild Object), and the ids of its parts.
-use Rattle.std.specs.Prelude.{ℕ, List, [], Bool, false}
+-- The record of a guild (Guild Resource, Guild Object), and the ids of its parts. That a guild withholds channels
+-- from those who do not see them is this server's own.
+use Rattle.std.specs.Prelude.{ℕ, List, [], Bool, false, ◌==◌}
 use Rattle.guild_model.specs.declared.role.Role.{Role}
 use Rattle.guild_model.specs.declared.member.Member.{Member}
 use Rattle.guild_model.specs.declared.channel.Channel.{Channel}
@@ -14,6 +15,7 @@ pub record Record : Type 0 where
   pub id : ℕ
   pub opened : Bool
   pub outage : Bool
+  pub private : Bool
   pub name : List ℕ
   pub owner : ℕ
   pub roles : List Role
@@ -48,6 +50,10 @@ thread_member_id m = m.user
 abbrev pub voice_id : Voice → ℕ
 voice_id v = v.user
 
+-- a voice state is in a channel
+abbrev pub speaks_in : ℕ → Voice → Bool
+speaks_in channel v = v.channel == channel
+
 abbrev pub presence_id : Presence → ℕ
 presence_id p = p.user
 
@@ -57,6 +63,7 @@ closed id = record {
   id = id;
   opened = false;
   outage = false;
+  private = false;
   name = [];
   owner = 0;
   roles = [];

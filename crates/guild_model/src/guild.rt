@@ -22,6 +22,8 @@ pub struct Guild {
     pub id: Snowflake,
     pub opened: bool,
     pub outage: bool,
+    /// Whether it withholds channels from those who do not see them; false where it is not open.
+    pub private: bool,
     pub name: Text,
     pub owner: Snowflake,
     pub roles: ById<Role>,
@@ -39,6 +41,7 @@ impl Drop for Guild {
             id: _,
             opened: _,
             outage: _,
+            private: _,
             name,
             owner: _,
             roles,
@@ -70,6 +73,7 @@ impl Model for Guild {
       id = g.id;
       opened = g.opened;
       outage = g.outage;
+      private = g.private;
       name = g.name;
       owner = g.owner;
       roles = g.roles;
@@ -85,6 +89,7 @@ impl Model for Guild {
       id = g.id;
       opened = g.opened;
       outage = g.outage;
+      private = g.private;
       name = g.name;
       owner = g.owner;
       roles = g.roles;
@@ -110,6 +115,7 @@ impl Guild {
             id,
             opened: false,
             outage: false,
+            private: false,
             name: Text::empty(alloc),
             owner: Snowflake(0),
             roles: ById::new(alloc),
@@ -172,6 +178,7 @@ impl Guild {
             id: self.id,
             opened: self.opened,
             outage: self.outage,
+            private: self.private,
             name: self.name.copy(alloc)?,
             owner: self.owner,
             roles: self.roles.duplicate(alloc)?,

@@ -47,7 +47,7 @@ use Rattle.channel_edit.specs.Channels.{new_channel, channel_created, with_setti
 use Rattle.channel_edit.specs.ChannelEnd.{orphaned, channel_deleted}
 use Rattle.channel_edit.specs.ChannelEdits.{channel_verdict, channel_applied}
 use Rattle.channel_edit.specs.OverwriteEdits.{with_overwrite, without_overwrite, overwrite_of, unknown_target, without_room, unknown_overwrite}
-use Rattle.edit_apply.specs.declared.guild.GuildEdit.TheVariants.{GuildOpen, GuildRename, GuildOwner, GuildOutage, GuildBack}
+use Rattle.edit_apply.specs.declared.guild.GuildEdit.TheVariants.{GuildOpen, GuildRename, GuildOwner, GuildOutage, GuildBack, GuildPrivate}
 use Rattle.edit_apply.specs.declared.Edit.{Edit}
 use Rattle.edit_apply.specs.declared.Edit.TheVariants as edit
 use Rattle.edit_apply.specs.Guilds.{out_of_service}
@@ -308,6 +308,7 @@ leaves s (edit.Guild (GuildRename name)) user well opened accepted own stays = k
 leaves s (edit.Guild (GuildOwner owner)) user well opened accepted own stays = tt
 leaves s (edit.Guild GuildOutage) user well opened accepted own stays = kept s user own (record s { outage = true }) (record { id = refl; owner = refl; roles = refl; members = refl; channels = refl })
 leaves s (edit.Guild GuildBack) user well opened accepted own stays = kept s user own (record s { outage = false }) (record { id = refl; owner = refl; roles = refl; members = refl; channels = refl })
+leaves s (edit.Guild (GuildPrivate private)) user well opened accepted own stays = kept s user own (record s { private = private }) (record { id = refl; owner = refl; roles = refl; members = refl; channels = refl })
 leaves s (edit.RoleMember e) user well opened accepted own stays = role_member s user own e well opened (past s (role_member_verdict s e) accepted) stays
 leaves s (edit.Channel e) user well opened accepted own stays = channel s user own e (past s (channel_verdict s e) accepted)
 leaves s (edit.Thread e) user well opened accepted own stays = kept s user own (thread_applied s e) (thread-keeps s e)

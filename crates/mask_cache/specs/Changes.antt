@@ -6,7 +6,7 @@ use Rattle.role_member_edit.specs.declared.RoleMemberEdit.TheVariants.{RoleCreat
 use Rattle.channel_edit.specs.declared.ChannelEdit.{ChannelEdit}
 use Rattle.channel_edit.specs.declared.ChannelEdit.TheVariants.{ChannelCreate, ChannelUpdate, ChannelDelete, OverwriteSet, OverwriteDelete}
 use Rattle.edit_apply.specs.declared.guild.GuildEdit.{GuildEdit}
-use Rattle.edit_apply.specs.declared.guild.GuildEdit.TheVariants.{GuildOpen, GuildRename, GuildOwner, GuildOutage, GuildBack}
+use Rattle.edit_apply.specs.declared.guild.GuildEdit.TheVariants.{GuildOpen, GuildRename, GuildOwner, GuildOutage, GuildBack, GuildPrivate}
 use Rattle.edit_apply.specs.declared.Edit.{Edit}
 use Rattle.edit_apply.specs.declared.Edit.TheVariants as edit
 use Rattle.mask_cache.specs.declared.mask_change.MaskChange.{MaskChange}
@@ -18,6 +18,7 @@ guild_change (GuildRename name) = Nothing
 guild_change (GuildOwner user) = All
 guild_change GuildOutage = Nothing
 guild_change GuildBack = Nothing
+guild_change (GuildPrivate private) = Nothing
 
 -- a change of the roles that a member holds changes no mask of another
 abbrev pub roles_change : ℕ → ℕ → MaskChange

@@ -30,6 +30,7 @@ fn of_guild(edit: &GuildEdit) -> MaskChange
         GuildEdit::GuildOwner { .. } => MaskChange::All,
         GuildEdit::GuildOutage => MaskChange::Nothing,
         GuildEdit::GuildBack => MaskChange::Nothing,
+        GuildEdit::GuildPrivate { .. } => MaskChange::Nothing,
     }
 }
 

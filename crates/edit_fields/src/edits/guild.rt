@@ -8,8 +8,8 @@ ghost use Rattle.edit_fields.specs.Members.{HasPut};
 ghost use Rattle.edit_fields.specs.GuildEdits.{guild_open_from, guild_rename_from, guild_edit_from, guild_edit_name, guild_open_fields, guild_edit_fields};
 
 use crate::LineFault;
-use crate::fields::{id_at, mask_at, moment_at, text_at};
-use crate::members::{put_id, put_mask, put_moment, put_text};
+use crate::fields::{flag_at, id_at, mask_at, moment_at, text_at};
+use crate::members::{put_flag, put_id, put_mask, put_moment, put_text};
 use crate::names::GuildEditName;
 use collections::Text;
 use edit_apply::{GuildEdit, GuildOpen};
@@ -56,6 +56,9 @@ pub fn read(alloc: Global, name: GuildEditName, object: &Node<'_>) -> Result<Gui
         },
         GuildEditName::GuildOutage => GuildEdit::GuildOutage,
         GuildEditName::GuildBack => GuildEdit::GuildBack,
+        GuildEditName::GuildPrivate => GuildEdit::GuildPrivate {
+            private: flag_at(object, "private")?,
+        },
     })
 }
 
@@ -69,6 +72,7 @@ pub fn name_of(edit: &GuildEdit) -> GuildEditName
         GuildEdit::GuildOwner { .. } => GuildEditName::GuildOwner,
         GuildEdit::GuildOutage => GuildEditName::GuildOutage,
         GuildEdit::GuildBack => GuildEditName::GuildBack,
+        GuildEdit::GuildPrivate { .. } => GuildEditName::GuildPrivate,
     }
 }
 
@@ -105,5 +109,6 @@ pub fn put(
         GuildEdit::GuildRename { name } => put_text(alloc, members, "name", name),
         GuildEdit::GuildOwner { user } => put_id(alloc, members, "user", *user),
         GuildEdit::GuildOutage | GuildEdit::GuildBack => Ok(()),
+        GuildEdit::GuildPrivate { private } => put_flag(alloc, members, "private", *private),
     }
 }
