@@ -1,21 +1,18 @@
 -- Edits after which every channel is shown that was: of threads, and of voice states.
-use Rattle.std.proofs.Common.{◌≡◌, ℕ, Bool, true, false, not, ◌&&◌, List, [], ◌∷◌, ◌++◌, Option, Some, None, if◌then◌else◌, refl, sym, ap, subst, ◌∙◌}
-use Rattle.std.specs.Prelude.{◌==◌, All, filter, flat_map, cond, is_some, option_map}
+use Rattle.std.proofs.Common.{◌≡◌, ℕ, Bool, true, false, not, ◌&&◌, List, [], ◌∷◌, ◌++◌, Option, Some, None, if◌then◌else◌, refl, sym, ap, ◌∙◌}
+use Rattle.std.specs.Prelude.{◌==◌, All, filter, flat_map, cond, option_map}
 use Rattle.std.proofs.lemmas.List.{append-nil}
 use Rattle.std.proofs.lemmas.List.Elements.{All-head, All-tail, All-filter, All-map, All-weaker}
-use Rattle.collections.specs.ById.{find_id, has_id, keep_if, put_id, without_id}
+use Rattle.collections.specs.ById.{find_id, keep_if, put_id, without_id}
 use Rattle.collections.proofs.Has.{All-put, All-found}
 use Rattle.guild_model.specs.declared.channel.Channel.{Channel}
-use Rattle.guild_model.specs.declared.presence.Presence.{Presence}
-use Rattle.guild_model.specs.declared.member.Member.{Member}
-use Rattle.guild_model.specs.declared.voice.Voice.{Voice}
 use Rattle.guild_model.specs.Record.{Record, voice_id}
 use Rattle.dispatch_types.specs.declared.threads.ThreadObject.{ThreadObject}
 use Rattle.dispatch_types.specs.declared.threads.ThreadMembersUpdate.{ThreadMembersUpdate as MembersUpdate}
 use Rattle.dispatch_types.specs.declared.presences.VoiceStateUpdate.{VoiceStateUpdate as VoiceUpdate}
 use Rattle.dispatch_types.specs.declared.viewer.Viewer.{Viewer}
 use Rattle.dispatch_types.specs.declared.dispatch.Dispatch.{Dispatch}
-use Rattle.dispatch_types.specs.declared.dispatch.Dispatch.TheVariants.{Ready, Resumed, GuildCreate, GuildUpdate, GuildDelete, GuildRoleCreate, GuildRoleUpdate, GuildRoleDelete, ChannelCreate, ChannelUpdate, ChannelDelete, ThreadCreate, ThreadUpdate, ThreadDelete, ThreadListSync, ThreadMembersUpdate, GuildMemberAdd, GuildMemberUpdate, GuildMemberRemove, GuildMembersChunk, VoiceStateUpdate, PresenceUpdate, MessageCreate, MessageUpdate, MessageDelete, MessageReactionAdd, MessageReactionRemove, TypingStart}
+use Rattle.dispatch_types.specs.declared.dispatch.Dispatch.TheVariants.{ThreadCreate, ThreadUpdate, ThreadDelete, ThreadMembersUpdate, VoiceStateUpdate}
 use Rattle.dispatch_types.specs.declared.view.GuildView.TheVariants.{Open}
 use Rattle.dispatch_types.specs.declared.view.OpenView.{OpenView}
 use Rattle.dispatch_types.specs.declared.view.ThreadView.{ThreadView}
@@ -23,10 +20,10 @@ use Rattle.dispatch_types.specs.Objects.{thread_member_of, voice_of}
 use Rattle.dispatch_types.specs.GuildOf.{guild_of}
 use Rattle.dispatch_types.specs.Fold.{Held, thread_view_id, on_open, thread_of, mine_of, members_updated, update_members, update_thread, set_voice, open_after, leaves_over, view_sees, purged, folded, fold_from}
 use Rattle.event_views.proofs.Steps.{IsOf}
-use Rattle.channel_privacy.specs.Only.{shows_voice, only, held_only}
+use Rattle.channel_privacy.proofs.Only.{shows_voice, only, held_only}
 use Rattle.channel_privacy.specs.Withheld.{Showing, left_voice, told_voice, told_shown, stands, is_lost, is_gained, losses, gains, is_sync, is_no_sync, withheld, gained, lost}
 use Rattle.channel_privacy.proofs.Part.{IsOrdered, purged-only, purged-order}
-use Rattle.channel_privacy.proofs.Tells.{WasUnder, TellsShown, ordered-after}
+use Rattle.channel_privacy.proofs.Tells.{TellsShown, ordered-after}
 use Rattle.channel_privacy.proofs.Steps.{changes, stepped, folded-open, folded-only, unseen-moved, seen-ended}
 
 -- nothing is lost or gained

@@ -1,10 +1,10 @@
 -- Filters in either order.
-use Rattle.std.proofs.Common.{◌≡◌, ℕ, ◌≤◌, Bool, true, false, ◌||◌, List, [], ◌∷◌, map, Option, Some, None, if◌then◌else◌, refl, sym, ap, subst, ◌∙◌, arith}
-use Rattle.std.specs.Prelude.{◌==◌, ◌&&◌, All, not, filter, cond}
+use Rattle.std.proofs.Common.{◌≡◌, ℕ, ◌≤◌, Bool, true, false, ◌||◌, List, [], ◌∷◌, map, Option, Some, None, if◌then◌else◌, refl, sym, ap, subst, ◌∙◌, eq-eqb, arith}
+use Rattle.std.specs.Prelude.{◌==◌, ◌&&◌, All, not, filter, cond, is_some}
 use Rattle.std.proofs.lemmas.List.Elements.{All-nil, All-cons, All-head, All-tail, All-weaker}
 use Rattle.std.proofs.lemmas.Bool.{eqb-true}
 use Rattle.std.proofs.lemmas.Bool.Decides.{nat_tests}
-use Rattle.collections.specs.ById.{find_id, put_id, put_all, without_id, keep_if, or_else, IsById}
+use Rattle.collections.specs.ById.{find_id, has_id, put_id, put_all, without_id, keep_if, or_else, IsById}
 use Rattle.collections.proofs.Ids.{IsById-put, find_above}
 use Rattle.collections.proofs.Finds.{same_by_id, key-found, find-put, find-without, find-filter, find-put_all, IsById-filter, IsById-put_all}
 
@@ -37,12 +37,7 @@ filter-both p q (x ∷ xs) = by_test (q x) (filter-both p q xs)
     by_test true rest = ap (λ ys. cond (p x) (x ∷ ys) ys) rest
     by_test false rest = rest
 
--- tests that say the same
-pub filter-alike : {T : Type 0} (p q : T → Bool) → ((x : T) → p x ≡ q x) → (xs : List T) → filter p xs ≡ filter q xs
-filter-alike p q same [] = refl
-filter-alike p q same (x ∷ xs) = ap (λ b. cond b (x ∷ filter p xs) (filter p xs)) (same x) ∙ ap (λ ys. cond (q x) (x ∷ ys) ys) (filter-alike p q same xs)
-
--- or say the same of these
+-- tests that say the same of these
 pub filter-alike_in : {T : Type 0} (p q : T → Bool) (xs : List T) → All (λ x. p x ≡ q x) xs → filter p xs ≡ filter q xs
 filter-alike_in p q [] same = refl
 filter-alike_in p q (x ∷ xs) same =
@@ -127,3 +122,19 @@ module _ {T : Type 0} (key : T → ℕ) where
 
       further : (y : T) → find_id key (key y) xs ≡ Some y → find_id key (key y) (x ∷ xs) ≡ Some y
       further y found = let above : key y ≤ key x → find_id key (key y) xs ≡ None = λ le. find_above key (key y) (key x) xs le h.0 in grind (arith, nat_tests, above, found)
+
+  pub each-has : (xs : List T) → All (λ x. has_id key (key x) xs ≡ true) xs
+  each-has [] = All-nil (λ x. has_id key (key x) [] ≡ true)
+  each-has (x ∷ xs) =
+      All-cons (λ y. has_id key (key y) (x ∷ xs) ≡ true) x xs here
+      (All-weaker (λ y. has_id key (key y) xs ≡ true) (λ y. has_id key (key y) (x ∷ xs) ≡ true) further xs (each-has xs))
+    where
+      here : has_id key (key x) (x ∷ xs) ≡ true
+      here = ap (λ b. is_some (if b then Some x else find_id key (key x) xs)) (eq-eqb (key x) (key x) refl)
+
+      further : (y : T) → has_id key (key y) xs ≡ true → has_id key (key y) (x ∷ xs) ≡ true
+      further y there = by_test (key x == key y)
+        where
+          by_test : (b : Bool) → is_some (if b then Some x else find_id key (key y) xs) ≡ true
+          by_test true = refl
+          by_test false = there

@@ -14,11 +14,11 @@ use Rattle.guild_model.specs.declared.channel.Channel.{Channel}
 use Rattle.guild_model.specs.declared.voice.Voice.{Voice}
 use Rattle.guild_model.specs.Record.{Record, channel_id, voice_id}
 use Rattle.guild_model.specs.Ascending.{HasOrderedOverwrites}
-use Rattle.guild_model.specs.Sight.{Standing, granted, granted_in, is_private}
+use Rattle.guild_model.specs.Sight.{Standing, granted, granted_in}
 use Rattle.dispatch_types.specs.declared.threads.ThreadObject.{ThreadObject}
 use Rattle.dispatch_types.specs.declared.viewer.Viewer.{Viewer}
 use Rattle.dispatch_types.specs.declared.dispatch.Dispatch.{Dispatch}
-use Rattle.dispatch_types.specs.declared.dispatch.Dispatch.TheVariants.{Ready, Resumed, GuildCreate, GuildUpdate, GuildDelete, GuildRoleCreate, GuildRoleUpdate, GuildRoleDelete, ChannelCreate, ChannelUpdate, ChannelDelete, ThreadCreate, ThreadUpdate, ThreadDelete, ThreadListSync, ThreadMembersUpdate, GuildMemberAdd, GuildMemberUpdate, GuildMemberRemove, GuildMembersChunk, VoiceStateUpdate, PresenceUpdate, MessageCreate, MessageUpdate, MessageDelete, MessageReactionAdd, MessageReactionRemove, TypingStart}
+use Rattle.dispatch_types.specs.declared.dispatch.Dispatch.TheVariants.{ThreadListSync}
 use Rattle.dispatch_types.specs.declared.view.GuildView.TheVariants.{Open}
 use Rattle.dispatch_types.specs.declared.view.OpenView.{OpenView}
 use Rattle.dispatch_types.specs.declared.view.ThreadView.{ThreadView}
@@ -26,8 +26,8 @@ use Rattle.dispatch_types.specs.Projection.{listed}
 use Rattle.dispatch_types.specs.GuildOf.{guild_of}
 use Rattle.dispatch_types.specs.Fold.{Held, thread_view_id, on_open, open_after, view_standing, view_sees, purged, folded, fold_from}
 use Rattle.event_views.proofs.Steps.{IsOf, fold-append}
-use Rattle.channel_privacy.specs.Only.{shows_channel, shows_voice, shows_thread, only, held_only}
-use Rattle.channel_privacy.specs.Withheld.{Showing, told_shown, stands, is_lost, is_gained, gained, losses, gains, is_sync, is_no_sync, withheld}
+use Rattle.channel_privacy.proofs.Only.{shows_channel, shows_voice, shows_thread, only, held_only}
+use Rattle.channel_privacy.specs.Withheld.{Showing, told_shown, stands, is_gained, gained, losses, gains, is_sync, is_no_sync, withheld}
 use Rattle.channel_privacy.proofs.Filters.{filter-alike_in, each-there}
 use Rattle.channel_privacy.proofs.Part.{IsOrdered, purged-only, purged-order}
 use Rattle.channel_privacy.proofs.Tells.{ordered-after}

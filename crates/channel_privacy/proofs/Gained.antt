@@ -1,14 +1,14 @@
 -- Channels that are gained: a client is told each, and the voice states in it.
 use Rattle.std.proofs.Common.{◌≡◌, ℕ, Bool, true, false, ◌||◌, List, [], ◌∷◌, ◌++◌, Some, if◌then◌else◌, refl, sym, ap, ◌∙◌, arith}
-use Rattle.std.specs.Prelude.{◌==◌, All, filter, flat_map, is_some}
+use Rattle.std.specs.Prelude.{◌==◌, All, filter, flat_map}
 use Rattle.std.proofs.lemmas.Bool.Decides.{nat_tests}
 use Rattle.std.proofs.lemmas.List.Elements.{All-head, All-tail, All-weaker}
-use Rattle.collections.specs.ById.{find_id, has_id, put_id, put_all, IsById}
+use Rattle.collections.specs.ById.{find_id, has_id, put_id, put_all}
 use Rattle.perm_bits.specs.Bits.{has_bit}
 use Rattle.intent_set.specs.Intents.{guilds, guild_voice_states}
 use Rattle.guild_model.specs.declared.channel.Channel.{Channel}
 use Rattle.guild_model.specs.declared.voice.Voice.{Voice}
-use Rattle.guild_model.specs.Record.{Record, channel_id, voice_id}
+use Rattle.guild_model.specs.Record.{Record, channel_id, voice_id, speaks_in}
 use Rattle.guild_model.specs.Ascending.{HasOrderedOverwrites}
 use Rattle.dispatch_types.specs.declared.viewer.Viewer.{Viewer}
 use Rattle.dispatch_types.specs.declared.dispatch.Dispatch.{Dispatch}
@@ -18,12 +18,11 @@ use Rattle.dispatch_types.specs.declared.view.OpenView.{OpenView}
 use Rattle.dispatch_types.specs.declared.view.ThreadView.{ThreadView}
 use Rattle.dispatch_types.specs.Objects.{channel_object, voice_object}
 use Rattle.dispatch_types.specs.Projection.{listed}
-use Rattle.dispatch_types.specs.Fold.{Held, thread_view_id, purged, folded, fold_from}
+use Rattle.dispatch_types.specs.Fold.{Held, purged, folded, fold_from}
 use Rattle.dispatch_types.proofs.Objects.{channel-back}
-use Rattle.event_views.specs.Asked.{asked}
 use Rattle.event_views.proofs.Steps.{fold-append}
-use Rattle.channel_privacy.specs.Only.{shows_channel, shows_voice, shows_thread, only}
-use Rattle.channel_privacy.specs.Withheld.{voice_there, is_in_channel, gained}
+use Rattle.channel_privacy.proofs.Only.{shows_channel, shows_voice, shows_thread, only}
+use Rattle.channel_privacy.specs.Withheld.{voice_there, gained}
 use Rattle.channel_privacy.proofs.Filters.{filter-alike_in, put-also, put_all-also}
 use Rattle.channel_privacy.proofs.Part.{IsOrdered, purged-only}
 use Rattle.channel_privacy.proofs.Steps.{folded-open}
@@ -89,14 +88,14 @@ module _ (t : Record) (v : Viewer) where
           ∙ ap (λ (z : OpenView). record h { view = Some (Open z) }) (ap (purged v.intents t.id) (same-lists y (ap (λ x. put_id channel_id x (filter (shows_channel shown) y.channels)) (channel-back t.id c of_view.overwrites) ∙ put-also channel_id (shows_channel shown) c y.channels order.channels of_view.there) refl threads) ∙ settled_mid)
 
       all_voices : (h : Held) (b : Bool) → has_bit v.intents guild_voice_states ≡ b
-          → fold_from v.intents t.id (record h { view = Some (Open mid) }) (flat_map (voice_there t v) (filter (is_in_channel c.id) t.voices)) ≡ record h { view = Some (Open (only (also shown c.id) y)) }
+          → fold_from v.intents t.id (record h { view = Some (Open mid) }) (flat_map (voice_there t v) (filter (speaks_in c.id) t.voices)) ≡ record h { view = Some (Open (only (also shown c.id) y)) }
       all_voices h true e =
-          speaks (filter (is_in_channel c.id) t.voices) (record h { view = Some (Open mid) }) mid e refl settled_mid
+          speaks (filter (speaks_in c.id) t.voices) (record h { view = Some (Open mid) }) mid e refl settled_mid
           ∙ ap (λ (xs : List Voice). record h { view = Some (Open (record (only (also shown c.id) y) { voices = xs })) })
-          (ap (λ (xs : List Voice). put_all voice_id (filter (shows_voice shown) y.voices) (filter (is_in_channel c.id) xs)) (sym (voices ∙ ap (λ b. if b then t.voices else []) e))
-          ∙ put_all-also voice_id (shows_voice shown) (is_in_channel c.id) y.voices order.voices)
+          (ap (λ (xs : List Voice). put_all voice_id (filter (shows_voice shown) y.voices) (filter (speaks_in c.id) xs)) (sym (voices ∙ ap (λ b. if b then t.voices else []) e))
+          ∙ put_all-also voice_id (shows_voice shown) (speaks_in c.id) y.voices order.voices)
       all_voices h false e =
-          silent (filter (is_in_channel c.id) t.voices) ∙ ap (λ (xs : List Voice). record h { view = Some (Open (record (only (also shown c.id) y) { voices = xs })) }) (none y.voices (voices ∙ ap (λ b. if b then t.voices else []) e))
+          silent (filter (speaks_in c.id) t.voices) ∙ ap (λ (xs : List Voice). record h { view = Some (Open (record (only (also shown c.id) y) { voices = xs })) }) (none y.voices (voices ∙ ap (λ b. if b then t.voices else []) e))
         where
           silent : (xs : List Voice) → fold_from v.intents t.id (record h { view = Some (Open mid) }) (flat_map (voice_there t v) xs) ≡ record h { view = Some (Open mid) }
           silent [] = refl
@@ -108,8 +107,8 @@ module _ (t : Record) (v : Viewer) where
 
       gains-one : (h : Held) → fold_from v.intents t.id (record h { view = Some (Open (only shown y)) }) (gained t v c) ≡ record h { view = Some (Open (only (also shown c.id) y)) }
       gains-one h =
-          ap (λ (b : Bool). fold_from v.intents t.id (record h { view = Some (Open (only shown y)) }) ((if b then told ∷ [] else []) ++ flat_map (voice_there t v) (filter (is_in_channel c.id) t.voices))) asks
-          ∙ (ap (λ k. fold_from v.intents t.id k (flat_map (voice_there t v) (filter (is_in_channel c.id) t.voices))) (comes h)
+          ap (λ (b : Bool). fold_from v.intents t.id (record h { view = Some (Open (only shown y)) }) ((if b then told ∷ [] else []) ++ flat_map (voice_there t v) (filter (speaks_in c.id) t.voices))) asks
+          ∙ (ap (λ k. fold_from v.intents t.id k (flat_map (voice_there t v) (filter (speaks_in c.id) t.voices))) (comes h)
           ∙ all_voices h (has_bit v.intents guild_voice_states) refl)
 
     pub gains-all : (cs : List Channel) (shown : ℕ → Bool) (h : Held) → All (IsOfView y) cs → All (λ (x : ThreadView). has_id channel_id x.parent cs ≡ false) y.threads

@@ -1,3 +1,4 @@
+pub mod Only
 pub mod Filters
 pub mod Part
 pub mod Tells
@@ -8,3 +9,4 @@ pub mod Rows
 pub mod Follows
 pub mod Alone
 pub mod Enough
+pub mod Each

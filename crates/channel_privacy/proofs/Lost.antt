@@ -20,9 +20,10 @@ use Rattle.dispatch_types.specs.declared.view.ThreadView.{ThreadView}
 use Rattle.dispatch_types.specs.Objects.{channel_object}
 use Rattle.dispatch_types.specs.Fold.{Held, thread_view_id, on_open, purged, folded, fold_from}
 use Rattle.event_views.specs.Asked.{asked}
-use Rattle.channel_privacy.specs.Only.{shows_channel, shows_voice, shows_thread, only, held_only}
+use Rattle.channel_privacy.proofs.Only.{shows_channel, shows_voice, shows_thread, only, held_only}
 use Rattle.channel_privacy.specs.Withheld.{Showing, is_lost, losses}
-use Rattle.channel_privacy.proofs.Filters.{filter-both, filter-alike}
+use Rattle.thread_sync.proofs.Lists.{filter-alike}
+use Rattle.channel_privacy.proofs.Filters.{filter-both}
 use Rattle.channel_privacy.proofs.Part.{IsOrdered, purged-only}
 use Rattle.channel_privacy.proofs.Steps.{folded-open}
 

@@ -10,7 +10,7 @@ use Rattle.guild_model.specs.Sight.{Standing, granted, granted_in, is_private}
 use Rattle.dispatch_types.specs.declared.view.OpenView.{OpenView}
 use Rattle.dispatch_types.specs.declared.view.ThreadView.{ThreadView}
 use Rattle.dispatch_types.specs.Fold.{thread_view_id, view_standing, view_sees, purged}
-use Rattle.channel_privacy.specs.Only.{shows_channel, shows_thread, only}
+use Rattle.channel_privacy.proofs.Only.{shows_channel, shows_thread, only}
 use Rattle.channel_privacy.proofs.Filters.{filter-either}
 
 -- the lists of an open view ascend

@@ -1,10 +1,10 @@
 -- What an edit tells, dispatch by dispatch, to one from whom channels are withheld and to one from whom none are.
-use Rattle.std.proofs.Common.{◌≡◌, ℕ, Bool, true, false, not, ◌&&◌, List, [], ◌∷◌, ◌++◌, Option, Some, None, if◌then◌else◌, refl, sym, ap, subst, ◌∙◌, arith}
-use Rattle.std.specs.Prelude.{◌==◌, All, filter, flat_map, is_some, option_map}
+use Rattle.std.proofs.Common.{◌≡◌, ℕ, Bool, true, false, not, ◌&&◌, List, [], ◌∷◌, Option, Some, None, if◌then◌else◌, refl, sym, ap, subst, ◌∙◌, arith}
+use Rattle.std.specs.Prelude.{◌==◌, All, filter, flat_map, option_map}
 use Rattle.std.proofs.lemmas.Bool.{and_parts}
 use Rattle.std.proofs.lemmas.List.Elements.{All-head, All-tail, All-filter, All-map, All-weaker}
 use Rattle.collections.specs.ById.{find_id, has_id, keep_if, put_id, without_id}
-use Rattle.collections.proofs.Finds.{find-filter, find-without, IsById-filter}
+use Rattle.collections.proofs.Finds.{find-filter, find-without}
 use Rattle.collections.proofs.Has.{All-put}
 use Rattle.intent_set.specs.Intents.{guild_members}
 use Rattle.guild_model.specs.declared.member.Member.{Member}
@@ -15,7 +15,7 @@ use Rattle.dispatch_types.specs.declared.channels.ChannelObject.{ChannelObject}
 use Rattle.dispatch_types.specs.declared.threads.ThreadMembersUpdate.{ThreadMembersUpdate as MembersUpdate}
 use Rattle.dispatch_types.specs.declared.presences.VoiceStateUpdate.{VoiceStateUpdate as VoiceUpdate}
 use Rattle.dispatch_types.specs.declared.dispatch.Dispatch.{Dispatch}
-use Rattle.dispatch_types.specs.declared.dispatch.Dispatch.TheVariants.{Ready, Resumed, GuildCreate, GuildUpdate, GuildDelete, GuildRoleCreate, GuildRoleUpdate, GuildRoleDelete, ChannelCreate, ChannelUpdate, ChannelDelete, ThreadCreate, ThreadUpdate, ThreadDelete, ThreadListSync, ThreadMembersUpdate, GuildMemberAdd, GuildMemberUpdate, GuildMemberRemove, GuildMembersChunk, VoiceStateUpdate, PresenceUpdate, MessageCreate, MessageUpdate, MessageDelete, MessageReactionAdd, MessageReactionRemove, TypingStart}
+use Rattle.dispatch_types.specs.declared.dispatch.Dispatch.TheVariants.{Ready, Resumed, GuildCreate, GuildDelete, ChannelCreate, ChannelUpdate, ChannelDelete, ThreadCreate, ThreadUpdate, ThreadDelete, ThreadListSync, ThreadMembersUpdate, GuildMemberUpdate, VoiceStateUpdate, PresenceUpdate}
 use Rattle.dispatch_types.specs.declared.view.GuildView.TheVariants.{Open}
 use Rattle.dispatch_types.specs.declared.view.OpenView.{OpenView}
 use Rattle.dispatch_types.specs.declared.view.ThreadView.{ThreadView}
@@ -24,9 +24,10 @@ use Rattle.dispatch_types.specs.Projection.{listed}
 use Rattle.dispatch_types.specs.GuildOf.{guild_of}
 use Rattle.dispatch_types.specs.Fold.{Held, thread_view_id, on_open, drop_channel, thread_of, members_updated, update_members, set_me, set_voice, set_presence, open_after, leaves_over, known_after, view_sees, purged, folded, fold_from}
 use Rattle.event_views.proofs.Steps.{IsOf, fold-append}
-use Rattle.channel_privacy.specs.Only.{shows_voice, only, held_only}
+use Rattle.channel_privacy.proofs.Only.{shows_voice, only, held_only}
 use Rattle.channel_privacy.specs.Withheld.{Showing, told_voice, told_shown, stands, is_lost}
-use Rattle.channel_privacy.proofs.Filters.{filter-both, filter-alike}
+use Rattle.thread_sync.proofs.Lists.{filter-alike}
+use Rattle.channel_privacy.proofs.Filters.{filter-both}
 use Rattle.channel_privacy.proofs.Part.{IsOrdered, purged-only, purged-order}
 use Rattle.channel_privacy.proofs.Tells.{TellsShown, ordered-after}
 use Rattle.channel_privacy.proofs.Steps.{changes, stepped, folded-open, folded-only, unseen-created, unseen-updated, unseen-deleted, unseen-moved, IsSettled}

@@ -23,7 +23,7 @@ use Rattle.dispatch_types.specs.Objects.{channel_of, voice_in, voice_of}
 use Rattle.dispatch_types.specs.GuildOf.{guild_of}
 use Rattle.dispatch_types.specs.Fold.{Held, on_open, set_channel, drop_channel, set_voice, open_after, view_after, known_after, after, leaves_over, purged, purge, folded}
 use Rattle.dispatch_types.proofs.Folds.{folded-here, folded-over}
-use Rattle.channel_privacy.specs.Only.{shows_channel, shows_voice, shows_thread, only, held_only}
+use Rattle.channel_privacy.proofs.Only.{shows_channel, shows_voice, shows_thread, only, held_only}
 use Rattle.channel_privacy.proofs.Filters.{filter-either, put-unseen}
 use Rattle.channel_privacy.proofs.Part.{IsOrdered, purged-only}
 use Rattle.channel_privacy.proofs.Tells.{TellsShown, ordered-after, open-only, end-voice}

@@ -24,7 +24,7 @@ use Rattle.dispatch_types.specs.declared.view.OpenView.{OpenView}
 use Rattle.dispatch_types.specs.declared.view.ThreadView.{ThreadView}
 use Rattle.dispatch_types.specs.Objects.{channel_of, member_of, thread_member_of, voice_in, voice_of}
 use Rattle.dispatch_types.specs.Fold.{thread_view_id, contains, thread_of, mine_of, drop_channel, drop_role, update_thread, synced_thread, sync_threads, members_updated, update_members, set_me, set_voice, set_presence, open_after}
-use Rattle.channel_privacy.specs.Only.{shows_channel, shows_voice, shows_thread, only}
+use Rattle.channel_privacy.proofs.Only.{shows_channel, shows_voice, shows_thread, only}
 use Rattle.channel_privacy.proofs.Filters.{filter-swaps, filter-changed}
 use Rattle.channel_privacy.proofs.Part.{IsOrdered}
 

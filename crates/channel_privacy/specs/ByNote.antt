@@ -9,7 +9,7 @@ use Rattle.guild_model.specs.Sight.{Standing, standing}
 use Rattle.dispatch_types.specs.declared.viewer.Viewer.{Viewer}
 use Rattle.dispatch_types.specs.declared.dispatch.Dispatch.{Dispatch}
 use Rattle.channel_privacy.specs.declared.before.ShownBefore.{ShownBefore}
-use Rattle.channel_privacy.specs.Shown.{is_shown, shown_channels, hidden_channels, shown_voices}
+use Rattle.guild_model.specs.Shown.{is_shown, shown_channels, hidden_channels, shown_voices}
 use Rattle.channel_privacy.specs.Withheld.{Showing, told_shown, lost, gained, is_sync, is_no_sync}
 
 abbrev pub shown_before : Bool → Record → Member → ShownBefore

@@ -3,11 +3,10 @@ use Rattle.std.specs.Prelude.{◌≡◌, ℕ, List, Bool}
 use Rattle.collections.specs.ById.{has_id}
 use Rattle.guild_model.specs.declared.member.Member.{Member}
 use Rattle.guild_model.specs.Record.{Record, channel_id, voice_id}
-use Rattle.guild_model.specs.Ascending.{IsAscending}
 use Rattle.guild_model.specs.Sight.{standing}
 use Rattle.dispatch_types.specs.declared.viewer.Viewer.{Viewer}
 use Rattle.dispatch_types.specs.declared.dispatch.Dispatch.{Dispatch}
-use Rattle.channel_privacy.specs.Shown.{is_shown, shown_channels, shown_voices}
+use Rattle.guild_model.specs.Shown.{is_shown, shown_channels, shown_voices}
 use Rattle.channel_privacy.specs.Withheld.{Showing, withheld}
 use Rattle.channel_privacy.specs.ByNote.{shown_before, withheld_by}
 
@@ -21,5 +20,5 @@ showing private s me private' t me' = record {
 
 abbrev pub NoteIsEnough : Type 0
 NoteIsEnough = (private : Bool) (s : Record) (me : Member) (private' : Bool) (t : Record) (me' : Member) (v : Viewer) (ds : List Dispatch)
-    → IsAscending s → IsAscending t → t.id ≡ s.id
+    → t.id ≡ s.id
     → withheld_by (shown_before private s me) private' t me' v ds ≡ withheld s t (showing private s me private' t me') v ds

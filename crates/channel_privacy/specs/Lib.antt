@@ -1,5 +1,3 @@
-pub mod Only
-pub mod Shown
 pub mod Withheld
 pub mod Fates
 pub mod ByNote

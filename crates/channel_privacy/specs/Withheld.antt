@@ -1,11 +1,11 @@
 -- What an edit of a guild tells a viewer where channels are withheld, by what it tells where none are (Gateway
 -- Events, Receive Events; Permissions, VIEW_CHANNEL). Discord sends all channels, so all of this is this server's
 -- choice.
-use Rattle.std.specs.Prelude.{ℕ, List, [], ◌∷◌, ◌++◌, filter, flat_map, Bool, true, false, not, ◌&&◌, ◌==◌, Option, Some, None, if◌then◌else◌}
+use Rattle.std.specs.Prelude.{ℕ, List, [], ◌∷◌, ◌++◌, filter, flat_map, Bool, true, false, not, ◌&&◌, Option, Some, None, if◌then◌else◌}
 use Rattle.collections.specs.ById.{has_id}
 use Rattle.guild_model.specs.declared.channel.Channel.{Channel}
 use Rattle.guild_model.specs.declared.voice.Voice.{Voice}
-use Rattle.guild_model.specs.Record.{Record, channel_id}
+use Rattle.guild_model.specs.Record.{Record, channel_id, speaks_in}
 use Rattle.dispatch_types.specs.declared.presences.VoiceStateUpdate.{VoiceStateUpdate as VoiceUpdate}
 use Rattle.dispatch_types.specs.declared.viewer.Viewer.{Viewer}
 use Rattle.dispatch_types.specs.declared.dispatch.Dispatch.{Dispatch}
@@ -41,9 +41,6 @@ told_shown x d = d ∷ []
 abbrev pub lost : ℕ → Viewer → Channel → List Dispatch
 lost guild v c = asked v false (ChannelDelete (channel_object guild c))
 
-abbrev pub is_in_channel : ℕ → Voice → Bool
-is_in_channel channel voice = voice.channel == channel
-
 abbrev pub created : ℕ → Viewer → Channel → List Dispatch
 created guild v c = asked v false (ChannelCreate (channel_object guild c))
 
@@ -54,7 +51,7 @@ module _ (t : Record) (v : Viewer) where
 
   -- CHANNEL_CREATE of a channel, and then the voice states in it
   abbrev pub gained : Channel → List Dispatch
-  gained c = created t.id v c ++ flat_map voice_there (filter (is_in_channel c.id) t.voices)
+  gained c = created t.id v c ++ flat_map voice_there (filter (speaks_in c.id) t.voices)
 
 -- a channel that stands before and after an edit is lost if it was shown and is not, and gained if it is shown and
 -- was not

@@ -2,13 +2,12 @@
 
 ghost use Rattle.std.specs.Prelude.{◌≡◌, IfOk, filter, map, not};
 ghost use Rattle.guild_model.specs.Record.{channel_id};
-ghost use Rattle.channel_privacy.specs.Shown.{is_shown};
+ghost use Rattle.guild_model.specs.Shown.{is_shown};
 ghost use Rattle.channel_privacy.specs.ByNote.{shown_before};
 
-use crate::shown::is_shown;
-use collections::{ById, Duplicate};
+use collections::ById;
 use guild_model::{Channel, Guild, Member, Voice};
-use overwrite_eval::StandingRef;
+use overwrite_eval::{StandingRef, shown_channels, shown_voices};
 use snowflake_id::Snowflake;
 use std::alloc::{AllocError, Global};
 
@@ -35,37 +34,7 @@ impl Drop for ShownBefore {
     }
 }
 
-// Copies of those of the channels that are shown.
-fn copies_of_shown(
-    alloc: Global,
-    private: bool,
-    standing: &StandingRef<'_>,
-    channels: &[Channel],
-) -> Result<Vec<Channel>, AllocError>
-    ensures { IfOk result (λ copies. copies.items ≡ filter (λ c. is_shown private standing.now c.id) channels.now) }
-{
-    let mut copies = Vec::new(alloc);
-    for channel in channels {
-        if is_shown(private, standing, channel.id) {
-            copies.push(channel.duplicate(alloc)?)?;
-        }
-    }
-    Ok(copies)
-}
-
-fn shown_channels(
-    alloc: Global,
-    private: bool,
-    standing: &StandingRef<'_>,
-    channels: &ById<Channel>,
-) -> Result<ById<Channel>, AllocError>
-    ensures { IfOk result (λ shown. shown ≡ filter (λ c. is_shown private standing.now c.id) channels.now) }
-{
-    let copies = copies_of_shown(alloc, private, standing, channels.as_slice())?;
-    Ok(ById::from_ascending(copies))
-}
-
-// The ids of those that are not.
+// The ids of those of the channels that are not shown.
 fn ids_of_hidden(
     alloc: Global,
     private: bool,
@@ -76,7 +45,7 @@ fn ids_of_hidden(
 {
     channels
         .iter()
-        .filter(|channel| !is_shown(private, standing, channel.id))
+        .filter(|channel| !standing.shows(private, channel.id))
         .map(|channel| channel.id)
         .collect(alloc)
 }
@@ -93,52 +62,19 @@ fn hidden_channels(
     Ok(ById::from_ascending(ids))
 }
 
-// Those of the voice states that are shown.
-fn copies_of_voices(
-    alloc: Global,
-    private: bool,
-    standing: &StandingRef<'_>,
-    voices: &[Voice],
-) -> Result<Vec<Voice>, AllocError>
-    ensures { IfOk result (λ copies. copies.items ≡ filter (λ z. is_shown private standing.now z.channel) voices.now) }
-{
-    voices
-        .iter()
-        .filter(|voice| is_shown(private, standing, voice.channel))
-        .copied()
-        .collect(alloc)
-}
-
-fn shown_voices(
-    alloc: Global,
-    private: bool,
-    standing: &StandingRef<'_>,
-    voices: &ById<Voice>,
-) -> Result<ById<Voice>, AllocError>
-    ensures { IfOk result (λ shown. shown ≡ filter (λ z. is_shown private standing.now z.channel) voices.now) }
-{
-    let copies = copies_of_voices(alloc, private, standing, voices.as_slice())?;
-    Ok(ById::from_ascending(copies))
-}
-
 impl ShownBefore {
-    /// What is shown of a record to a member. `private`: the guild withholds channels.
+    /// What is shown of a record to a member.
     ///
     /// # Errors
     /// Out of memory.
-    pub fn of(
-        alloc: Global,
-        private: bool,
-        before: &Guild,
-        me: &Member,
-    ) -> Result<ShownBefore, AllocError>
-        ensures { IfOk result (λ was. was ≡ shown_before private before.now me.now) }
+    pub fn of(alloc: Global, before: &Guild, me: &Member) -> Result<ShownBefore, AllocError>
+        ensures { IfOk result (λ was. was ≡ shown_before before.now.private before.now me.now) }
     {
         let standing = StandingRef::in_guild(before, me);
         Ok(ShownBefore {
-            shown: shown_channels(alloc, private, &standing, &before.channels)?,
-            hidden: hidden_channels(alloc, private, &standing, &before.channels)?,
-            speaking: shown_voices(alloc, private, &standing, &before.voices)?,
+            shown: shown_channels(alloc, before, me)?,
+            hidden: hidden_channels(alloc, before.private, &standing, &before.channels)?,
+            speaking: shown_voices(alloc, before, me)?,
         })
     }
 }

@@ -5,11 +5,9 @@
 mod before;
 mod law;
 mod losses;
-mod shown;
 mod told;
 mod withholding;
 
 pub use before::ShownBefore;
 pub use law::note_is_enough;
-pub use shown::is_shown;
 pub use withholding::withhold;

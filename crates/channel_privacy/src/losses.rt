@@ -2,13 +2,12 @@
 
 ghost use Rattle.std.specs.Prelude.{◌≡◌, ◌++◌, ◌&&◌, OnOk, flat_map, filter, not};
 ghost use Rattle.collections.specs.ById.{has_id};
-ghost use Rattle.guild_model.specs.Record.{channel_id};
-ghost use Rattle.channel_privacy.specs.Shown.{is_shown};
-ghost use Rattle.channel_privacy.specs.Withheld.{lost, created, is_in_channel, voice_there, gained};
+ghost use Rattle.guild_model.specs.Record.{channel_id, speaks_in};
+ghost use Rattle.guild_model.specs.Shown.{is_shown};
+ghost use Rattle.channel_privacy.specs.Withheld.{lost, created, voice_there, gained};
 ghost use Rattle.channel_privacy.specs.ByNote.{lost_by, losses_by, gained_by, gains_by};
 
 use crate::before::ShownBefore;
-use crate::shown::is_shown;
 use dispatch_types::{ChannelObject, Dispatch, VoiceObject, VoiceStateUpdate};
 use event_views::Recipient;
 use guild_model::{Channel, Voice};
@@ -44,7 +43,7 @@ fn is_lost(
     ensures { result ≡ (has_id channel_id channel to.now.after.channels && not (is_shown private standing.now channel)) }
 {
     let after = to.after;
-    after.channel(channel).is_some() && !is_shown(private, standing, channel)
+    after.channel(channel).is_some() && !standing.shows(private, channel)
 }
 
 /// Adds CHANNEL_DELETE of each channel that was shown, stands and is shown no longer, as it was.
@@ -89,7 +88,7 @@ fn add_voices(
     list: &mut Vec<Dispatch>,
 ) -> Result<(), AllocError>
     ensures { OnOk result (list.new.items
-        ≡ list.old.items ++ flat_map (voice_there to.now.after to.now.viewer) (filter (is_in_channel channel) voices.now)) }
+        ≡ list.old.items ++ flat_map (voice_there to.now.after to.now.viewer) (filter (speaks_in channel) voices.now)) }
 {
     for voice in voices {
         if voice.channel == channel {
@@ -144,7 +143,7 @@ pub(crate) fn add_gains(
     let after = to.after;
     let standing = StandingRef::in_guild(to.after, to.me);
     for channel in after.channels.as_slice() {
-        if was.hidden.contains(channel.id.0) && is_shown(private, &standing, channel.id) {
+        if was.hidden.contains(channel.id.0) && standing.shows(private, channel.id) {
             add_gained(alloc, to, channel, list)?;
         }
     }

@@ -8,7 +8,6 @@ ghost use Rattle.channel_privacy.specs.ByNote.{showing_by};
 ghost use Rattle.channel_privacy.specs.Fates.{told_as};
 
 use crate::before::ShownBefore;
-use crate::shown::is_shown;
 use dispatch_types::{Dispatch, VoiceObject, VoiceStateUpdate};
 use overwrite_eval::StandingRef;
 
@@ -44,7 +43,7 @@ fn voice_fate(
 {
     let spoke = was.speaking.contains(update.voice.user.0);
     match update.voice.channel {
-        Some(channel) if is_shown(private, standing, channel) => Fate::Told,
+        Some(channel) if standing.shows(private, channel) => Fate::Told,
         Some(_) if spoke => Fate::Left,
         Some(_) => Fate::Withheld,
         None if spoke => Fate::Told,
@@ -61,9 +60,9 @@ fn fate_of(
     ensures { told_as result dispatch.now ≡ told_shown (showing_by was.now private standing.now) dispatch.now }
 {
     match dispatch {
-        Dispatch::ChannelCreate(object) => told_if(is_shown(private, standing, object.id)),
+        Dispatch::ChannelCreate(object) => told_if(standing.shows(private, object.id)),
         Dispatch::ChannelUpdate(object) => told_if(
-            was.shown.contains(object.id.0) && is_shown(private, standing, object.id),
+            was.shown.contains(object.id.0) && standing.shows(private, object.id),
         ),
         Dispatch::ChannelDelete(object) => told_if(was.shown.contains(object.id.0)),
         Dispatch::VoiceStateUpdate(update) => voice_fate(was, private, standing, update),

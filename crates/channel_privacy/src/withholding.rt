@@ -68,22 +68,22 @@ fn told_rows(
 
 /// The list of an edit where channels are withheld, of a list that hides nothing: by what was noted before the
 /// edit, and the record after it. Of the edit's own dispatches those that tell of shown channels stay, then come
-/// the channels that are lost and those that are gained, then THREAD_LIST_SYNC. `private`: channels are withheld
-/// after the edit.
+/// the channels that are lost and those that are gained, then THREAD_LIST_SYNC.
 ///
 /// # Errors
 /// Out of memory.
 pub fn withhold(
     alloc: Global,
     was: &ShownBefore,
-    private: bool,
     to: &Recipient<'_>,
     list: Vec<Dispatch>,
 ) -> Result<Vec<Dispatch>, AllocError>
     ensures { IfOk result (λ told. told.items
-        ≡ withheld_by was.now private to.now.after to.now.me to.now.viewer list.items) }
+        ≡ withheld_by was.now to.now.after.private to.now.after to.now.me to.now.viewer list.items) }
 {
-    let standing = StandingRef::in_guild(to.after, to.me);
+    let after = to.after;
+    let private = after.private;
+    let standing = StandingRef::in_guild(after, to.me);
     let Parts { rows, mut syncs } = apart(alloc, list)?;
     let mut told = told_rows(alloc, was, private, &standing, rows)?;
     add_losses(alloc, was, private, to, &mut told)?;

@@ -9,13 +9,14 @@ use Rattle.guild_model.specs.declared.member.Member.{Member}
 use Rattle.guild_model.specs.declared.thread.Thread.{Thread}
 use Rattle.guild_model.specs.Record.{Record}
 use Rattle.guild_model.specs.Sight.{member_sees}
+use Rattle.guild_model.specs.Shown.{shown_part}
 use Rattle.dispatch_types.specs.declared.viewer.Viewer.{Viewer}
 use Rattle.dispatch_types.specs.declared.view.GuildView.{GuildView}
 use Rattle.dispatch_types.specs.declared.view.GuildView.TheVariants.{Unavailable, Open}
 use Rattle.dispatch_types.specs.declared.view.OpenView.{OpenView}
 use Rattle.dispatch_types.specs.declared.view.ThreadView.{ThreadView}
 use Rattle.dispatch_types.specs.Serves.{served}
-use Rattle.dispatch_types.specs.Projection.{is_active, thread_view, open_view, view_as, projection}
+use Rattle.dispatch_types.specs.Projection.{is_active, thread_view, open_view, shown_view, view_as, projection}
 use Rattle.dispatch_types.specs.Fold.{Held, on_open, view_sees, purged, purge}
 
 pub purged-open : (s : Record) (intents : ℕ) (known : List ℕ) (me : Member) → purged intents s.id (open_view s intents known me) ≡ open_view s intents known me
@@ -30,9 +31,9 @@ pub purged-projection : (s : Record) (v : Viewer) (known : List ℕ) → on_open
 unfolding projection
 purged-projection s v known = by_intents (has_bit v.intents guilds)
   where
-    by_outage : (me : Member) (outage : Bool) → on_open (purged v.intents s.id) (Some (if outage then Unavailable else Open (open_view s v.intents known me))) ≡ Some (if outage then Unavailable else Open (open_view s v.intents known me))
+    by_outage : (me : Member) (outage : Bool) → on_open (purged v.intents s.id) (Some (if outage then Unavailable else Open (shown_view s v.intents known me))) ≡ Some (if outage then Unavailable else Open (shown_view s v.intents known me))
     by_outage me true = refl
-    by_outage me false = ap (λ (view : OpenView). Some (Open view)) (purged-open s v.intents known me)
+    by_outage me false = ap (λ (view : OpenView). Some (Open view)) (purged-open (shown_part s me) v.intents known me)
 
     by_member : (me : Option Member) → on_open (purged v.intents s.id) (view_as s v.intents known me) ≡ view_as s v.intents known me
     by_member None = refl
@@ -65,8 +66,15 @@ module _ (s : Record) (v : Viewer) (known : List ℕ) where
       either true = refl
       either false = refl
 
-  pub projection-open : (me : Member) → has_bit v.intents guilds ≡ true → served v s ≡ Some me → s.outage ≡ false → projection s v known ≡ Some (Open (open_view s v.intents known me))
+  pub projection-open : (me : Member) → has_bit v.intents guilds ≡ true → served v s ≡ Some me → s.outage ≡ false → projection s v known ≡ Some (Open (shown_view s v.intents known me))
   unfolding projection
   projection-open me asks is_served available =
       ap (λ b. if b then view_as s v.intents known (served v s) else None) asks
-      ∙ (ap (view_as s v.intents known) is_served ∙ ap (λ b. Some (if b then Unavailable else Open (open_view s v.intents known me))) available)
+      ∙ (ap (view_as s v.intents known) is_served ∙ ap (λ b. Some (if b then Unavailable else Open (shown_view s v.intents known me))) available)
+
+  -- in an outage no more than that
+  pub projection-out : (me : Member) → has_bit v.intents guilds ≡ true → served v s ≡ Some me → s.outage ≡ true → projection s v known ≡ Some Unavailable
+  unfolding projection
+  projection-out me asks is_served out =
+      ap (λ b. if b then view_as s v.intents known (served v s) else None) asks
+      ∙ (ap (view_as s v.intents known) is_served ∙ ap (λ b. Some (if b then Unavailable else Open (shown_view s v.intents known me))) out)

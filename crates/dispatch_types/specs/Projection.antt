@@ -1,4 +1,5 @@
--- What a viewer may hold of a guild, from scratch (Gateway Events, Guild Create; Gateway, Gateway Intents).
+-- What a viewer may hold of a guild, from scratch (Gateway Events, Guild Create; Gateway, Gateway Intents). Of a guild
+-- that withholds channels it holds what its member is shown; that is this server's own.
 use Rattle.std.specs.Prelude.{ℕ, List, [], map, filter, min, length, Bool, not, ◌&&◌, Option, Some, None, if◌then◌else◌}
 use Rattle.collections.specs.ById.{find_id, has_id}
 use Rattle.perm_bits.specs.Bits.{has_bit}
@@ -7,6 +8,7 @@ use Rattle.guild_model.specs.declared.member.Member.{Member}
 use Rattle.guild_model.specs.declared.thread.Thread.{Thread}
 use Rattle.guild_model.specs.Record.{Record, own_id, thread_member_id}
 use Rattle.guild_model.specs.Sight.{member_sees}
+use Rattle.guild_model.specs.Shown.{shown_part}
 use Rattle.dispatch_types.specs.declared.viewer.Viewer.{Viewer}
 use Rattle.dispatch_types.specs.declared.view.GuildView.{GuildView}
 use Rattle.dispatch_types.specs.declared.view.GuildView.TheVariants.{Unavailable, Open}
@@ -42,6 +44,7 @@ seen_threads s me = filter (λ (t : Thread). is_active t && member_sees s me t) 
 abbrev pub is_known : List ℕ → Member → Bool
 is_known known m = has_id own_id m.user.id known
 
+-- the guild, by the viewer's intents
 abbrev pub open_view : Record → ℕ → List ℕ → Member → OpenView
 open_view s intents known me = record {
   name = s.name;
@@ -56,9 +59,13 @@ open_view s intents known me = record {
   presences = listed intents guild_presences s.presences;
 }
 
+-- what a member is shown of it
+abbrev pub shown_view : Record → ℕ → List ℕ → Member → OpenView
+shown_view s intents known me = open_view (shown_part s me) intents known me
+
 abbrev pub view_as : Record → ℕ → List ℕ → Option Member → Option GuildView
 view_as s intents known None = None
-view_as s intents known (Some me) = Some (if s.outage then Unavailable else Open (open_view s intents known me))
+view_as s intents known (Some me) = Some (if s.outage then Unavailable else Open (shown_view s intents known me))
 
 -- nothing without GUILDS, or where the viewer is not served; of an outage no more than that
 unfoldable pub projection : Record → Viewer → List ℕ → Option GuildView

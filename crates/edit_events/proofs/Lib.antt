@@ -1,7 +1,14 @@
 pub mod Greets
-pub mod Out
+pub mod Shown
+pub mod Part
+pub mod Walk
+pub mod Owed
+pub mod Fits
+pub mod Has
+pub mod Flags
 pub mod Keeps
+pub mod Only
 pub mod Others
+pub mod Noted
 pub mod Messages
 pub mod SameForms
-pub mod Noted

@@ -1,53 +1,43 @@
 -- What is given by what was noted before an edit is what is due by the record before it.
-use Rattle.std.proofs.Common.{◌≡◌, ℕ, true, List, [], ◌++◌, Option, Some, None, if◌then◌else◌, refl, sym, ap, subst, ◌∙◌}
-use Rattle.std.specs.Prelude.{is_some}
-use Rattle.collections.specs.ById.{find_id}
+use Rattle.std.proofs.Common.{◌≡◌, Bool, true, false, List, [], Option, Some, None, if◌then◌else◌, refl, sym, ap, ◌∙◌}
 use Rattle.guild_model.specs.declared.member.Member.{Member}
-use Rattle.guild_model.specs.Record.{Record, member_id}
+use Rattle.guild_model.specs.Record.{Record}
 use Rattle.dispatch_types.specs.declared.viewer.Viewer.{Viewer}
 use Rattle.dispatch_types.specs.declared.dispatch.Dispatch.{Dispatch}
 use Rattle.dispatch_types.specs.Serves.{served}
-use Rattle.thread_sync.proofs.Enough.{sights_are_enough}
-use Rattle.event_views.specs.Asked.{told_if}
-use Rattle.role_member_events.proofs.Noted.{role_member_note_is_enough}
-use Rattle.channel_edit.specs.ChannelEdits.{channel_applied}
-use Rattle.channel_events.specs.Ends.{channel_note}
-use Rattle.channel_events.specs.Dispatches.{channel_dispatches}
-use Rattle.channel_events.specs.ByNote.{channel_by_note}
-use Rattle.channel_events.proofs.Noted.{channel_note_is_enough}
-use Rattle.thread_events.proofs.Noted.{thread_note_is_enough}
-use Rattle.edit_apply.specs.declared.guild.GuildEdit.TheVariants.{GuildOpen, GuildRename, GuildOwner, GuildOutage, GuildBack}
+use Rattle.edit_apply.specs.declared.guild.GuildEdit.TheVariants.{GuildOutage, GuildBack}
 use Rattle.edit_apply.specs.declared.Edit.{Edit}
 use Rattle.edit_apply.specs.declared.Edit.TheVariants as edit
-use Rattle.edit_apply.specs.Edits.{applied, accepts}
-use Rattle.edit_events.specs.Was.{note_of, was_of}
-use Rattle.edit_events.specs.Due.{guild_updated, dispatches, due_to, due_of_accepted, due}
-use Rattle.edit_events.specs.ByNote.{by_note, due_by_note, due_between}
+use Rattle.edit_apply.specs.Edits.{applied}
+use Rattle.whole_events.specs.Dispatches.{whole_dispatches}
+use Rattle.whole_events.proofs.Noted.{note_is_enough as whole_note_is_enough}
+use Rattle.whole_events.proofs.Others.{id-kept}
+use Rattle.channel_privacy.proofs.Enough.{note_is_enough as shown_note_is_enough}
+use Rattle.edit_events.specs.Due.{told_of, dispatches, due_to, due_of_accepted, due}
+use Rattle.edit_events.specs.Was.{will_withhold, shown_then, was_to, was_of}
+use Rattle.edit_events.specs.ByNote.{told_by, own_by, due_between}
 use Rattle.edit_events.specs.Law.{NoteIsEnough}
-use Rattle.edit_events.proofs.Greets.{served-found}
-use Rattle.edit_events.proofs.Keeps.{channel-served}
+use Rattle.edit_events.proofs.Flags.{as-noted}
+
+told-noted : (s : Record) (me : Member) (t : Record) (me' : Member) (v : Viewer) (b : Bool) (ds : List Dispatch) → t.id ≡ s.id → told_by (shown_then b s me) t me' v ds ≡ told_of s me t me' v b ds
+told-noted s me t me' v true ds same = shown_note_is_enough s.private s me t.private t me' v ds same
+told-noted s me t me' v false ds same = refl
 
 module _ (s : Record) (v : Viewer) (me me' : Member) where
   -- of a viewer that is served before and after an edit
-  own-noted : (e : Edit) → served v s ≡ Some me → served v (applied s e) ≡ Some me' → by_note (note_of s (Some me) e) (applied s e) v me' e ≡ dispatches s me (applied s e) me' v e
-  own-noted (edit.Guild (GuildOpen opening)) is is' = refl
-  own-noted (edit.Guild (GuildRename name)) is is' = refl
-  own-noted (edit.Guild (GuildOwner user)) is is' = ap (λ o. guild_updated (record s { owner = user }) v ++ told_if v o) (sights_are_enough s (record s { owner = user }) me me')
+  own-noted : (e : Edit) → served v s ≡ Some me → served v (applied s e) ≡ Some me' → own_by (was_to s (Some me) e) (applied s e) v me' e ≡ dispatches s me (applied s e) me' v e
   own-noted (edit.Guild GuildOutage) is is' = refl
   own-noted (edit.Guild GuildBack) is is' = refl
-  own-noted (edit.RoleMember e) is is' = role_member_note_is_enough s e v me me' (served-found v s me is) (served-found v (applied s (edit.RoleMember e)) me' is')
-  own-noted (edit.Channel e) is is' =
-      let same_me : Some me ≡ Some me' = sym is ∙ (sym (channel-served s e v) ∙ is') in
-      let mine : me ≡ me' = cc in
-      subst (λ (m : Member). channel_by_note (channel_note s me e) (channel_applied s e) v m e ≡ channel_dispatches s me (channel_applied s e) m v e) mine (channel_note_is_enough s e v me)
-  own-noted (edit.Thread e) is is' = thread_note_is_enough s (applied s (edit.Thread e)) e v me me'
-  own-noted (edit.VoicePresence e) is is' = refl
-  own-noted (edit.Message e) is is' = refl
+  own-noted e is is' =
+      let t : Record = applied s e in
+      let ds : List Dispatch = whole_dispatches s me t me' v e in
+      ap (told_by (shown_then (will_withhold s e) s me) t me' v) (whole_note_is_enough s e v me me' is is')
+      ∙ (told-noted s me t me' v (will_withhold s e) ds (id-kept s e) ∙ ap (λ b. told_of s me t me' v b ds) (sym (as-noted s e)))
 
 accepted-noted : (s : Record) (e : Edit) (v : Viewer) → due_between (applied s e) v (was_of s v e) (served v (applied s e)) e ≡ due_of_accepted s e v
 accepted-noted s e v = by_members (served v s) (served v (applied s e)) refl refl
   where
-    by_members : (o o' : Option Member) → served v s ≡ o → served v (applied s e) ≡ o' → due_by_note (applied s e) v (is_some o) (note_of s o e) o' e ≡ due_to s o (applied s e) o' v e
+    by_members : (o o' : Option Member) → served v s ≡ o → served v (applied s e) ≡ o' → due_between (applied s e) v (was_to s o e) o' e ≡ due_to s o (applied s e) o' v e
     by_members None None is is' = refl
     by_members None (Some me') is is' = refl
     by_members (Some me) None is is' = refl

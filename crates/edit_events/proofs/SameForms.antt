@@ -1,6 +1,5 @@
 -- Viewers of one form are due the same.
 use Rattle.std.proofs.Common.{◌≡◌, Option, Some, None, refl, sym, ◌∙◌}
-use Rattle.std.specs.Prelude.{is_some}
 use Rattle.guild_model.specs.declared.member.Member.{Member}
 use Rattle.guild_model.specs.Record.{Record}
 use Rattle.message_edit.specs.declared.MessageEdit.{MessageEdit}
@@ -13,12 +12,12 @@ use Rattle.message_events.specs.Forms.{message_form}
 use Rattle.message_events.proofs.Alike.{form-decides}
 use Rattle.edit_apply.specs.declared.Edit.TheVariants as edit
 use Rattle.edit_events.specs.Due.{due_to}
-use Rattle.edit_events.specs.Forms.{form_to, FormIsDue}
-use Rattle.edit_events.specs.Was.{note_of}
+use Rattle.edit_events.specs.Forms.{form_between, FormIsDue}
+use Rattle.edit_events.specs.Was.{was_to}
 
 -- one with a form is due the dispatches of the edit
 formed : (s after : Record) (v : Viewer) (e : MessageEdit) (f : MessageForm) (o o' : Option Member)
-    → form_to after v (edit.Message e) (note_of s o (edit.Message e)) (is_some o) o' ≡ Some f
+    → form_between after v (was_to s o (edit.Message e)) o' (edit.Message e) ≡ Some f
     → (message_form after v (message_note s e) e ≡ f)
     × (due_to s o after o' v (edit.Message e) ≡ message_dispatches after v (message_note s e) e)
 formed s after v e f (Some me) (Some me') is = (cc, refl)

@@ -9,8 +9,8 @@ use Rattle.message_events.specs.declared.forms.MessageForm.{MessageForm}
 use Rattle.message_events.specs.Forms.{message_form}
 use Rattle.edit_apply.specs.declared.Edit.{Edit}
 use Rattle.edit_apply.specs.declared.Edit.TheVariants as edit
-use Rattle.edit_events.specs.declared.due.Before.{Before}
-use Rattle.edit_events.specs.declared.due.Before.TheVariants.{Message}
+use Rattle.whole_events.specs.declared.dispatches.Before.{Before}
+use Rattle.whole_events.specs.declared.dispatches.Before.TheVariants.{Message}
 use Rattle.edit_events.specs.declared.due.Was.{Was}
 use Rattle.edit_events.specs.Due.{due_to}
 use Rattle.edit_events.specs.Was.{was_of}

@@ -1,5 +1,5 @@
--- GUILD_CREATE of a guild for a viewer (Gateway Events, Guild Create). Which members and presences
--- stand in it is this server's choice.
+-- GUILD_CREATE of a guild for a viewer (Gateway Events, Guild Create). Which members and presences stand in it, and
+-- that a guild may withhold channels, is this server's choice.
 use Rattle.std.specs.Prelude.{ℕ, map, filter, length, nat_lt, Bool, not, ◌&&◌, ◌||◌, ◌==◌, option_map}
 use Rattle.collections.specs.ById.{find_id, has_id}
 use Rattle.perm_bits.specs.Bits.{has_bit}
@@ -9,6 +9,7 @@ use Rattle.guild_model.specs.declared.presence.Presence.{Presence}
 use Rattle.guild_model.specs.declared.thread.Thread.{Thread}
 use Rattle.guild_model.specs.declared.thread.ThreadMember.{ThreadMember}
 use Rattle.guild_model.specs.Record.{Record, thread_member_id, voice_id, presence_id}
+use Rattle.guild_model.specs.Shown.{shown_part}
 use Rattle.dispatch_types.specs.declared.viewer.Viewer.{Viewer}
 use Rattle.dispatch_types.specs.declared.threads.JoinedThread.{JoinedThread}
 use Rattle.dispatch_types.specs.declared.guilds.GuildCreate.{GuildCreate}
@@ -38,9 +39,9 @@ module _ (s : Record) (v : Viewer) where
   abbrev pub thread_told : Thread → JoinedThread
   thread_told t = record { thread = thread_object s.id t; joined = option_map joined_at (find_id thread_member_id v.user t.members) }
 
-  -- what a viewer with this member is told
-  unfoldable pub greeting : Member → GuildCreate
-  greeting me = record {
+  -- where nothing is withheld, to a viewer with this member
+  unfoldable pub whole_greeting : Member → GuildCreate
+  whole_greeting me = record {
     id = s.id;
     name = s.name;
     owner = s.owner;
@@ -53,3 +54,8 @@ module _ (s : Record) (v : Viewer) where
     voices = map voice_object (listed v.intents guild_voice_states s.voices);
     presences = map (presence_object s.id) (filter is_told s.presences);
   }
+
+-- what a viewer with this member is told: the channels and voice states that the member is shown, and who is in voice
+-- by these
+abbrev pub greeting : Record → Viewer → Member → GuildCreate
+greeting s v me = whole_greeting (shown_part s me) v me

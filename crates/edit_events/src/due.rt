@@ -1,105 +1,95 @@
 //! What an accepted edit owes to a viewer (Gateway Events, Receive Events).
 
-ghost use Rattle.std.specs.Prelude.{◌≡◌, ◌++◌, IfOk, OnOk, Some, false, true};
+ghost use Rattle.std.specs.Prelude.{◌≡◌, ◌++◌, IfOk, OnOk, Some, true};
 ghost use Rattle.guild_model.specs.Record.{Record};
 ghost use Rattle.dispatch_types.specs.Serves.{served};
-ghost use Rattle.thread_sync.specs.ChannelSights.{by_sights};
-ghost use Rattle.thread_sync.specs.Sync.{uncovered_to};
-ghost use Rattle.event_views.specs.Asked.{asked, told_if};
 ghost use Rattle.edit_apply.specs.Edits.{accepts, applied};
-ghost use Rattle.edit_events.specs.Greeting.{greeting};
-ghost use Rattle.edit_events.specs.Due.{guild_gone, guild_updated, due};
-ghost use Rattle.edit_events.specs.ByNote.{by_note, due_between};
-ghost use Rattle.edit_events.specs.Was.{note_of, was_of};
+ghost use Rattle.edit_events.specs.Due.{guild_gone, guild_comes, due};
+ghost use Rattle.edit_events.specs.ByNote.{told_by, own_by, due_between};
+ghost use Rattle.edit_events.specs.Was.{will_withhold, shown_then, was_to, was_of};
 
 use crate::create::greeting;
-use channel_events::ChannelNote;
-use collections::ById;
-use dispatch_types::{Dispatch, GuildDelete, GuildUpdate, Viewer, served};
+use channel_privacy::{ShownBefore, withhold};
+use dispatch_types::{Dispatch, GuildDelete, Viewer, served};
 use edit_apply::{Edit, GuildEdit};
-use event_views::{Recipient, add_list_sync};
+use event_views::Recipient;
 use guild_model::{Guild, Member};
 use intent_set::Kind;
-use message_events::MessageNote;
-use role_member_events::RoleMemberNote;
 use snowflake_id::Snowflake;
 use std::alloc::{AllocError, Global};
-use thread_events::ThreadNote;
-use thread_sync::{ChannelSight, sights_of};
-
-/// What is noted for a viewer that is served before an edit, by the kind of edit.
-pub enum Before {
-    /// The edit asks for nothing of the record before it.
-    Nothing,
-    /// Before another member is the owner: the sights of the channels that the viewer saw.
-    Owner(ById<ChannelSight>),
-    RoleMember(RoleMemberNote),
-    Channel(ChannelNote),
-    Thread(ThreadNote),
-    Message(MessageNote),
-}
-
-impl Drop for Before {
-    fn drop(self) {
-        match self {
-            Before::Nothing => {}
-            Before::Owner(held) => drop(held),
-            Before::RoleMember(held) => drop(held),
-            Before::Channel(held) => drop(held),
-            Before::Thread(held) => drop(held),
-            Before::Message(held) => drop(held),
-        }
-    }
-}
+use whole_events::{Before, add_dispatches};
 
 /// What has to be known of the record before an edit.
 pub struct Was {
     /// Whether the viewer was served.
     pub served: bool,
+    /// What the edit's own dispatches ask for.
     pub note: Before,
+    /// What was shown, if channels are withheld before the edit or after it.
+    pub shown: Option<ShownBefore>,
 }
 
 impl Drop for Was {
     fn drop(self) {
-        let Was { served: _, note } = self;
+        let Was {
+            served: _,
+            note,
+            shown,
+        } = self;
         drop(note);
+        drop(shown);
     }
 }
 
-fn before_edit(
+// Whether channels are withheld before an edit or after it, and it may change what is shown or tell of a channel.
+fn will_withhold(before: &Guild, edit: &Edit) -> bool
+    ensures { result ≡ will_withhold before.now edit.now }
+{
+    match edit {
+        Edit::Message(_) => false,
+        Edit::Guild(GuildEdit::GuildPrivate { private }) => before.private || *private,
+        _ => before.private,
+    }
+}
+
+fn shown_then(
     alloc: Global,
     before: &Guild,
     me: &Member,
-    edit: &Edit,
-) -> Result<Before, AllocError>
-    ensures { IfOk result (λ note. note ≡ note_of before.now (Some me.now) edit.now) }
+    withholds: bool,
+) -> Result<Option<ShownBefore>, AllocError>
+    ensures { IfOk result (λ shown. shown ≡ shown_then withholds before.now me.now) }
 {
-    match edit {
-        Edit::Guild(GuildEdit::GuildOwner { .. }) => {
-            Ok(Before::Owner(sights_of(alloc, before, me)?))
-        }
-        Edit::RoleMember(edit) => Ok(Before::RoleMember(role_member_events::note(
-            alloc, before, me, edit,
-        )?)),
-        Edit::Channel(edit) => Ok(Before::Channel(channel_events::note(alloc, before, me, edit)?)),
-        Edit::Thread(edit) => Ok(Before::Thread(thread_events::note(before, me, edit))),
-        Edit::Message(edit) => Ok(Before::Message(message_events::note(before, edit))),
-        _ => Ok(Before::Nothing),
+    if withholds {
+        Ok(Some(ShownBefore::of(alloc, before, me)?))
+    } else {
+        Ok(None)
     }
 }
 
+fn note_for(alloc: Global, before: &Guild, edit: &Edit, me: &Member) -> Result<Was, AllocError>
+    ensures { IfOk result (λ was. was ≡ was_to before.now (Some me.now) edit.now) }
+{
+    Ok(Was {
+        served: true,
+        note: whole_events::note(alloc, before, me, edit)?,
+        shown: shown_then(alloc, before, me, will_withhold(before, edit))?,
+    })
+}
+
 /// Keeps what [`events`] has to know of the record before an edit.
+///
+/// # Errors
+/// Out of memory.
 pub fn note(alloc: Global, before: &Guild, edit: &Edit, viewer: &Viewer) -> Result<Was, AllocError>
     ensures { IfOk result (λ was. was ≡ was_of before.now viewer.now edit.now) }
 {
     match served(before, viewer) {
-        Some(me) => Ok(Was {
-            served: true,
-            note: before_edit(alloc, before, me, edit)?,
-        }),
+        Some(me) => note_for(alloc, before, edit, me),
         None => Ok(Was {
             served: false,
             note: Before::Nothing,
+            shown: None,
         }),
     }
 }
@@ -110,8 +100,7 @@ fn add_created(
     to: &Recipient<'_>,
     list: &mut Vec<Dispatch>,
 ) -> Result<(), AllocError>
-    ensures { OnOk result (list.new.items ≡ list.old.items
-        ++ asked to.now.viewer false (Dispatch.GuildCreate (greeting to.now.after to.now.viewer to.now.me))) }
+    ensures { OnOk result (list.new.items ≡ list.old.items ++ guild_comes to.now.after to.now.viewer to.now.me) }
 {
     if !to.asks(Kind::GuildCreate, false) {
         return Ok(());
@@ -141,73 +130,40 @@ fn add_gone(
     Ok(())
 }
 
-// GUILD_UPDATE, with the guild's name and owner.
-fn add_updated(
+// Of the dispatches that are owed where nothing is withheld, those that are told.
+fn told(
     alloc: Global,
+    shown: &Option<ShownBefore>,
     to: &Recipient<'_>,
-    list: &mut Vec<Dispatch>,
-) -> Result<(), AllocError>
-    ensures { OnOk result (list.new.items ≡ list.old.items ++ guild_updated to.now.after to.now.viewer) }
+    list: Vec<Dispatch>,
+) -> Result<Vec<Dispatch>, AllocError>
+    ensures { IfOk result (λ told. told.items ≡ told_by shown.now to.now.after to.now.me to.now.viewer list.items) }
 {
-    if !to.asks(Kind::GuildUpdate, false) {
-        return Ok(());
+    match shown {
+        Some(shown) => withhold(alloc, shown, to, list),
+        None => Ok(list),
     }
-    let after = to.after;
-    list.push(Dispatch::GuildUpdate(GuildUpdate {
-        id: after.id,
-        name: after.name.copy(alloc)?,
-        owner: after.owner,
-    }))?;
-    Ok(())
 }
 
-// GUILD_UPDATE, and then what the viewer gained.
-fn add_owner_updated(
+// The list of an edit for a viewer that is served before and after it.
+fn own_events(
     alloc: Global,
-    before: &ById<ChannelSight>,
-    to: &Recipient<'_>,
-    list: &mut Vec<Dispatch>,
-) -> Result<(), AllocError>
-    ensures { OnOk result (list.new.items ≡ list.old.items ++ (guild_updated to.now.after to.now.viewer
-        ++ told_if to.now.viewer (uncovered_to (by_sights before.now) to.now.after to.now.me))) }
-{
-    add_updated(alloc, to, list)?;
-    add_list_sync(alloc, before, to, list)
-}
-
-// The dispatches of an edit for a viewer that is served before and after it.
-fn add_dispatches(
-    alloc: Global,
-    note: &Before,
+    was: &Was,
     to: &Recipient<'_>,
     edit: &Edit,
-    list: &mut Vec<Dispatch>,
-) -> Result<(), AllocError>
-    ensures { OnOk result (list.new.items ≡ list.old.items
-        ++ by_note note.now to.now.after to.now.viewer to.now.me edit.now) }
+) -> Result<Vec<Dispatch>, AllocError>
+    ensures { IfOk result (λ list. list.items ≡ own_by was.now to.now.after to.now.viewer to.now.me edit.now) }
 {
-    match (note, edit) {
-        (_, Edit::Guild(GuildEdit::GuildRename { .. })) => add_updated(alloc, to, list),
-        (Before::Owner(before), Edit::Guild(GuildEdit::GuildOwner { .. })) => {
-            add_owner_updated(alloc, before, to, list)
+    let mut list = Vec::new(alloc);
+    match edit {
+        Edit::Guild(GuildEdit::GuildOutage) => add_gone(to.guild(), to.viewer, true, &mut list)?,
+        Edit::Guild(GuildEdit::GuildBack) => add_created(alloc, to, &mut list)?,
+        _ => {
+            add_dispatches(alloc, &was.note, to, edit, &mut list)?;
+            return told(alloc, &was.shown, to, list);
         }
-        (_, Edit::Guild(GuildEdit::GuildOutage)) => add_gone(to.guild(), to.viewer, true, list),
-        (_, Edit::Guild(GuildEdit::GuildBack)) => add_created(alloc, to, list),
-        (Before::RoleMember(note), Edit::RoleMember(edit)) => {
-            role_member_events::add_dispatches(alloc, note, to, edit, list)
-        }
-        (Before::Channel(note), Edit::Channel(edit)) => {
-            channel_events::add_dispatches(alloc, note, to, edit, list)
-        }
-        (Before::Thread(note), Edit::Thread(edit)) => {
-            thread_events::add_dispatches(alloc, note, to, edit, list)
-        }
-        (_, Edit::VoicePresence(edit)) => voice_presence_events::add_dispatches(to, edit, list),
-        (Before::Message(note), Edit::Message(edit)) => {
-            message_events::add_dispatches(alloc, note, to, edit, list)
-        }
-        _ => Ok(()),
     }
+    Ok(list)
 }
 
 // What an edit owes, by what was noted before it.
@@ -227,8 +183,7 @@ fn noted_events(
         (false, Some(me)) => add_created(alloc, &Recipient { after, viewer, me }, &mut list)?,
         (true, None) => add_gone(after.id, viewer, false, &mut list)?,
         (true, Some(me)) => {
-            let to = Recipient { after, viewer, me };
-            add_dispatches(alloc, &was.note, &to, edit, &mut list)?
+            return own_events(alloc, was, &Recipient { after, viewer, me }, edit);
         }
     }
     Ok(list)
@@ -237,7 +192,11 @@ fn noted_events(
 /// What an accepted edit owes to a viewer, by the record after it and what [`note`] kept of the record
 /// before it: the edit's own dispatches to one that is served before and after it, GUILD_CREATE alone to
 /// one that is served after it alone, GUILD_DELETE alone to one that was served before it alone, and
-/// nothing to any other. Each only if the viewer's intents ask for it (Gateway, Gateway Intents).
+/// nothing to any other. Each only if the viewer's intents ask for it (Gateway, Gateway Intents), and of
+/// channels only what the viewer's member is shown.
+///
+/// # Errors
+/// Out of memory.
 pub fn events(
     alloc: Global,
     after: &Guild,

@@ -4,11 +4,12 @@ ghost use Rattle.std.specs.Prelude.{◌≡◌};
 ghost use Rattle.dispatch_types.specs.Serves.{served};
 ghost use Rattle.edit_events.specs.Forms.{form_between};
 
-use crate::due::{Before, Was};
+use crate::due::Was;
 use dispatch_types::{Viewer, served};
 use edit_apply::Edit;
 use guild_model::Guild;
 use message_events::MessageForm;
+use whole_events::Before;
 
 /// How an edit of messages, reactions or typing is told a viewer that is served before and after it;
 /// `None` exactly if it is another edit or the viewer is not. Does not allocate.

@@ -3,6 +3,7 @@
 ghost use Rattle.edit_events.specs.Law.{NoteIsEnough, EditKeeps, ProjectionStays, OthersStay, GreetingHolds, GreetingStays};
 ghost use Rattle.edit_events.specs.Forms.{FormIsDue};
 ghost use Rattle.edit_events.specs.Messages.{MessagesAreShown};
+ghost use Rattle.edit_events.specs.Privacy.{EditTellsOnly, GreetingTellsOnly};
 
 /// What is given by what [`note`](crate::note) kept of the record before an accepted edit is what is due
 /// by that record.
@@ -43,4 +44,15 @@ pub fn messages_are_shown()
 /// Viewers to which an edit of messages is told in one form are due the same.
 pub fn form_is_due()
     ensures { FormIsDue }
+{}
+
+/// What an edit owes tells of no channel, and of no voice state in a channel, that is shown neither before nor
+/// after the edit.
+pub fn edit_tells_only()
+    ensures { EditTellsOnly }
+{}
+
+/// GUILD_CREATE tells of the channels that are shown, and of voice states in them alone.
+pub fn greeting_tells_only()
+    ensures { GreetingTellsOnly }
 {}

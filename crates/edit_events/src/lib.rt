@@ -7,5 +7,5 @@ pub mod forms;
 pub mod law;
 
 pub use create::greeting;
-pub use due::{Before, Was, events, note};
+pub use due::{Was, events, note};
 pub use forms::form_for;

@@ -11,6 +11,7 @@ use Rattle.intent_set.specs.Intents.{guilds, guild_members}
 use Rattle.guild_model.specs.declared.member.Member.{Member}
 use Rattle.guild_model.specs.Record.{Record, own_id, member_id}
 use Rattle.guild_model.specs.Ascending.{IsWell}
+use Rattle.guild_model.specs.Shown.{shown_part}
 use Rattle.gateway_frames.specs.declared.frame.Ask.{Ask}
 use Rattle.dispatch_types.specs.declared.viewer.Viewer.{Viewer}
 use Rattle.dispatch_types.specs.declared.view.OpenView.{OpenView}
@@ -76,8 +77,8 @@ module _ (s : Record) (v : Viewer) (me : Member) (well : IsWell s) (is_served : 
       by_guilds : (b : Bool) → has_bit v.intents guilds ≡ b → change h.view ≡ projection s v known
       by_guilds true asks =
           ap change (view ∙ projection-open s v h.known me asks is_served available)
-          ∙ (ap (λ (w : OpenView). Some (Open (purged v.intents s.id w))) (view-more s v.intents h.known me ms well.ascending.members there)
-          ∙ (ap (λ (w : OpenView). Some (Open w)) (purged-open s v.intents known me)
+          ∙ (ap (λ (w : OpenView). Some (Open (purged v.intents s.id w))) (view-more (shown_part s me) v.intents h.known me ms well.ascending.members there)
+          ∙ (ap (λ (w : OpenView). Some (Open w)) (purged-open (shown_part s me) v.intents known me)
           ∙ sym (projection-open s v known me asks is_served available)))
         where
           there : All (λ (m : Member). find_id member_id m.user.id s.members ≡ Some m) ms

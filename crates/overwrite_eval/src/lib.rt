@@ -4,6 +4,7 @@
 mod bounded;
 mod mask_source;
 mod masks;
+mod shown;
 mod sight;
 mod standing;
 mod tiers;
@@ -11,4 +12,5 @@ mod tiers;
 pub use bounded::{base_mask, channel_mask, mask_from, sees_channel, sees_thread};
 pub use mask_source::MaskSource;
 pub use masks::part_mask;
+pub use shown::{shown_channels, shown_voices};
 pub use standing::StandingRef;

@@ -2,25 +2,49 @@
 
 ghost use Rattle.std.specs.Prelude.{◌≡◌, IfOk};
 ghost use Rattle.intent_set.specs.Intents.{guild_voice_states, guild_presences};
-ghost use Rattle.dispatch_types.specs.Projection.{listed, open_view, projection};
+ghost use Rattle.guild_model.specs.Shown.{shown_channels, shown_voices};
+ghost use Rattle.dispatch_types.specs.Projection.{listed, shown_view, projection};
 
 use crate::members::{member_count, members};
 use crate::threads::threads;
 use collections::{ById, Duplicate};
 use dispatch_types::{GuildView, OpenView, Viewer, served};
-use guild_model::{Guild, Member, Presence, Voice};
+use guild_model::{Channel, Guild, Member, Presence, Voice};
 use intent_set::Intents;
+use overwrite_eval::{shown_channels, shown_voices};
 use snowflake_id::Snowflake;
 use std::alloc::{AllocError, Global};
 
-// The voice states, if GUILD_VOICE_STATES tells of them.
-fn voices(alloc: Global, guild: &Guild, intents: Intents) -> Result<ById<Voice>, AllocError>
-    ensures { IfOk result (λ voices. voices ≡ listed intents guild_voice_states guild.now.voices) }
+// The channels that a member is shown: all of them, unless the guild withholds channels.
+#[tactic(auto, using(crate::proofs::Shown::channels_shown))]
+fn channels(alloc: Global, guild: &Guild, me: &Member) -> Result<ById<Channel>, AllocError>
+    ensures { IfOk result (λ channels. channels
+        ≡ shown_channels guild.now.private guild.now me.now) }
 {
-    if intents.has(Intents::GUILD_VOICE_STATES) {
-        guild.voices.copy(alloc)
+    if guild.private {
+        shown_channels(alloc, guild, me)
     } else {
+        guild.channels.duplicate(alloc)
+    }
+}
+
+// The voice states in the channels that a member is shown, if GUILD_VOICE_STATES tells of them.
+#[tactic(auto, using(crate::proofs::Shown::voices_shown))]
+fn voices(
+    alloc: Global,
+    guild: &Guild,
+    intents: Intents,
+    me: &Member,
+) -> Result<ById<Voice>, AllocError>
+    ensures { IfOk result (λ voices. voices
+        ≡ listed intents guild_voice_states (shown_voices guild.now.private guild.now me.now)) }
+{
+    if !intents.has(Intents::GUILD_VOICE_STATES) {
         Ok(ById::new(alloc))
+    } else if guild.private {
+        shown_voices(alloc, guild, me)
+    } else {
+        guild.voices.copy(alloc)
     }
 }
 
@@ -37,25 +61,27 @@ fn presences(alloc: Global, guild: &Guild, intents: Intents) -> Result<ById<Pres
 }
 
 // What a member of a guild that is available may hold of it.
-fn open_view(
+fn shown_view(
     alloc: Global,
     guild: &Guild,
     intents: Intents,
     known: &[Snowflake],
     me: &Member,
 ) -> Result<OpenView, AllocError>
-    ensures { IfOk result (λ view. view ≡ open_view guild.now intents known.now me.now) }
+    ensures { IfOk result (λ view. view ≡ shown_view guild.now intents known.now me.now) }
 {
+    let channels = channels(alloc, guild, me)?;
+    let threads = threads(alloc, guild, &channels, intents, me)?;
     Ok(OpenView {
         name: guild.name.copy(alloc)?,
         owner: guild.owner,
         roles: guild.roles.duplicate(alloc)?,
-        channels: guild.channels.duplicate(alloc)?,
+        channels,
         me: me.duplicate(alloc)?,
         members: members(alloc, guild, intents, known)?,
         member_count: member_count(guild, intents),
-        threads: threads(alloc, guild, intents, me)?,
-        voices: voices(alloc, guild, intents)?,
+        threads,
+        voices: voices(alloc, guild, intents, me)?,
         presences: presences(alloc, guild, intents)?,
     })
 }
@@ -63,7 +89,8 @@ fn open_view(
 /// What a viewer may hold of a guild if it was told of the members among `known`, in any order:
 /// `None` exactly if the viewer does not ask for GUILDS or is not served; in an outage no more than
 /// that; else the guild by the viewer's intents (Gateway, Gateway Intents), with the active threads
-/// that its member sees (Threads, Private Threads).
+/// that its member sees (Threads, Private Threads); of a guild that withholds channels, the channels
+/// that its member sees, and the voice states in them.
 #[tactic(auto, unfolding(dispatch_types::specs::Projection::projection))]
 pub fn project(
     alloc: Global,
@@ -82,6 +109,6 @@ pub fn project(
     if guild.outage {
         return Ok(Some(GuildView::Unavailable));
     }
-    let view = open_view(alloc, guild, viewer.intents, known, me)?;
+    let view = shown_view(alloc, guild, viewer.intents, known, me)?;
     Ok(Some(GuildView::Open(view)))
 }

@@ -4,24 +4,21 @@ use Rattle.std.specs.Prelude.{All, ◌&&◌, not, flat_map, map}
 use Rattle.std.specs.List.{range_with_len}
 use Rattle.std.proofs.lemmas.List.Elements.{All-nil, All-cons, All-append, All-weaker}
 use Rattle.perm_bits.specs.Bits.{has_bit}
-use Rattle.intent_set.specs.Asks.{asks}
 use Rattle.intent_set.specs.Intents.{guilds}
-use Rattle.intent_set.specs.declared.kind.Kind.TheVariants as kind
 use Rattle.guild_model.specs.declared.member.Member.{Member}
 use Rattle.guild_model.specs.Record.{Record}
 use Rattle.dispatch_types.specs.declared.viewer.Viewer.{Viewer}
 use Rattle.dispatch_types.specs.declared.dispatch.Dispatch.{Dispatch}
-use Rattle.dispatch_types.specs.declared.dispatch.Dispatch.TheVariants.{Ready, GuildCreate, GuildDelete, GuildMembersChunk}
+use Rattle.dispatch_types.specs.declared.dispatch.Dispatch.TheVariants.{Ready, GuildCreate, GuildMembersChunk}
 use Rattle.dispatch_types.specs.declared.ready.Ready.{Ready as Greeted}
 use Rattle.dispatch_types.specs.GuildOf.{guild_of}
 use Rattle.dispatch_types.specs.Serves.{served}
 use Rattle.gateway_frames.specs.declared.frame.Ask.{Ask}
 use Rattle.member_chunks.specs.Answered.{answered, chunk, chunk_count, chunks, found, is_answered}
 use Rattle.edit_apply.specs.declared.Edit.{Edit}
-use Rattle.edit_apply.specs.Edits.{accepts, applied}
-use Rattle.edit_events.specs.Due.{dispatches, due, due_of_accepted, due_to}
+use Rattle.edit_events.specs.Due.{due}
 use Rattle.edit_events.specs.Greeting.{greeting}
-use Rattle.edit_events.proofs.Others.{dispatches-of}
+use Rattle.edit_events.proofs.Others.{due-of}
 use Rattle.client_session.specs.declared.session.Session.{Session as ClientSession}
 use Rattle.client_session.specs.Table.{begun, session_after}
 use Rattle.session_core.specs.Resume.{session_id}
@@ -59,21 +56,9 @@ one_if : (b : Bool) (d : Dispatch) → IsNoReady d → AreNoReady (if b then d �
 one_if true d later = All-cons IsNoReady d [] later (All-nil IsNoReady)
 one_if false d later = All-nil IsNoReady
 
-due_to_no_ready : (before : Record) (o : Option Member) (after : Record) (o' : Option Member) (v : Viewer) (e : Edit) → AreNoReady (due_to before o after o' v e)
-due_to_no_ready before None after None v e = All-nil IsNoReady
-due_to_no_ready before None after (Some me') v e = one_if (asks v.intents kind.GuildCreate false) (GuildCreate (greeting after v me')) (λ n. refl)
-due_to_no_ready before (Some me) after None v e = one_if (asks v.intents kind.GuildDelete false) (GuildDelete (record { id = after.id; unavailable = false })) (λ n. refl)
-due_to_no_ready before (Some me) after (Some me') v e =
-    All-weaker (λ (d : Dispatch). guild_of d ≡ Some after.id) IsNoReady (of_no_ready after.id) (dispatches before me after me' v e) (dispatches-of before me after me' v e)
-
 -- each that is due for an edit
 pub due_no_ready : (s : Record) (e : Edit) (v : Viewer) → AreNoReady (due s e v)
-unfolding due
-due_no_ready s e v = by_verdict (accepts s e)
-  where
-    by_verdict : (b : Bool) → AreNoReady (if b then due_of_accepted s e v else [])
-    by_verdict true = due_to_no_ready s (served v s) (applied s e) (served v (applied s e)) v e
-    by_verdict false = All-nil IsNoReady
+due_no_ready s e v = All-weaker (λ (d : Dispatch). guild_of d ≡ Some s.id) IsNoReady (of_no_ready s.id) (due s e v) (due-of s e v)
 
 -- ---- what no entry made
 

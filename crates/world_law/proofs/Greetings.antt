@@ -1,5 +1,5 @@
 -- READY and the guilds that follow it bring the projection of every guild.
-use Rattle.edit_events.proofs.Greets.{greeting_holds}
+use Rattle.edit_events.proofs.Keeps.{greeting_holds}
 use Rattle.edit_events.proofs.Others.{projection_stays, greeting_stays}
 use Rattle.std.proofs.Common.{◌≡◌, ℕ, List, [], ◌∷◌, map, Bool, true, false, not, Option, Some, None, if◌then◌else◌, refl, sym, ap, subst, ◌∙◌, arith}
 use Rattle.std.specs.Prelude.{◌==◌, ◌&&◌, ◌||◌, filter, flat_map}

@@ -5,7 +5,7 @@ use Rattle.guild_model.specs.Record.{Record, closed}
 use Rattle.edit_apply.specs.declared.Edit.{Edit}
 use Rattle.edit_apply.specs.Edits.{verdict, after, after_verdict, state_from, state, StaysWell}
 use Rattle.edit_apply.proofs.Well.{stays}
-use Rattle.edit_events.proofs.Others.{id-kept}
+use Rattle.whole_events.proofs.Others.{id-kept}
 
 pub state_is_well : StaysWell
 state_is_well = stays

@@ -26,7 +26,8 @@ use Rattle.world_law.specs.Entries.{EntriesHold, IsMadeForMessages, IsOfMessages
 use Rattle.world_law.proofs.Entries.{IsOfEntry, IsPlain, made-append}
 use Rattle.world_law.proofs.Lists.{all_at}
 use Rattle.world_law.proofs.Folds.{same_id}
-use Rattle.world_law.proofs.Quiet.{IsOfMessage, IsOther, IsQuiet, by_kind, due-quiet}
+use Rattle.edit_events.proofs.Owed.{IsOther}
+use Rattle.world_law.proofs.Quiet.{IsOfMessage, IsQuiet, by_kind, due-quiet}
 
 -- the one dispatch of an edit of messages
 is_shown : (t : Record) (v : Viewer) (o : Option About) (sent : List Dispatch) → is_some o ≡ true → sent ≡ shown t v o → IsShown t v o sent

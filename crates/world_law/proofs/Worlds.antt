@@ -1,6 +1,6 @@
 -- What was sent to each session of each worker holds in each world that a list of steps makes.
 use Rattle.std.proofs.Common.{◌≡◌, ℕ, ◌≤◌, List, [], ◌∷◌, ◌++◌, Bool, true, false, Option, Some, None, if◌then◌else◌, length, take, drop, refl, sym, ap, subst, ◌∙◌, append_assoc, arith}
-use Rattle.std.specs.Prelude.{All, ◌==◌}
+use Rattle.std.specs.Prelude.{All, ◌==◌, ◌||◌}
 use Rattle.std.proofs.lemmas.List.Elements.{All-map, All-weaker, All-nil}
 use Rattle.std.proofs.lemmas.List.{take-append-le, length-append}
 use Rattle.std.proofs.Math.Seq.{drop-append_seam}
@@ -8,16 +8,18 @@ use Rattle.std.proofs.lemmas.Bool.{eqb-true}
 use Rattle.guild_model.specs.Record.{Record}
 use Rattle.dispatch_types.specs.declared.dispatch.Dispatch.{Dispatch}
 use Rattle.edit_apply.specs.declared.Edit.{Edit}
-use Rattle.edit_apply.specs.Edits.{after}
+use Rattle.edit_apply.specs.Edits.{after, state}
+use Rattle.edit_events.specs.Privacy.{TellsOnly, shown_for}
+use Rattle.edit_events.proofs.Only.{edit_tells_only}
 use Rattle.session_core.specs.declared.bot.Bot.{Bot}
 use Rattle.session_core.specs.State.{Session}
 use Rattle.session_core.specs.Frames.{Members, Presence, Voice, Move, Nothing, Answers, ClosesWith, Begins, Denies, Resumes, Wants}
-use Rattle.world_law.specs.TheLaw.{AreOf, EachConnectionHolds, EachEntryHolds, EachMessageHolds, EachRunHolds, EachWorkerHolds, IsOf, OfSessions, all_taken}
+use Rattle.world_law.specs.TheLaw.{AreOf, EachConnectionHolds, EachEntryHolds, EachEntryTellsOnly, EachMessageHolds, EachRunHolds, EachWorkerHolds, IsOf, OfSessions, all_taken}
 use Rattle.world_law.specs.Inputs.{Closed, Frame, Input, Look, Lost, Open, Rebase, Tick, taken}
 use Rattle.world_law.specs.Keeping.{Cursors, record_at}
 use Rattle.world_law.specs.World.{Edits, Frames, Leaves, Looks, Loses, Opens, Step, Ticks, World, at_worker, first_of, first_world, lags, look_at, run, stepped}
 use Rattle.world_law.proofs.Workers.{Follows, SessionMeets}
-use Rattle.world_law.specs.Entries.{MessagesHold, SessionEntriesHold, first_cursors}
+use Rattle.world_law.specs.Entries.{EntriesTellOnly, MessagesHold, SessionEntriesHold, first_cursors}
 use Rattle.world_law.proofs.Sessions.{Meets, grown}
 use Rattle.world_law.specs.Model.{Seen, Worker, cursors, first_worker, in_model, seen_with}
 use Rattle.world_law.specs.Sent.{Sent}
@@ -208,6 +210,23 @@ each_entry_holds text bots guilds places steps =
     All-weaker (Stays m.logs) (OfSessions SessionEntriesHold m.logs) (worker_entries m.logs) m.workers
     (run_stays text steps (first_world bots guilds places) (first_stays bots guilds places))
 
+session_tells : (logs seen : Seen) (x : Session Sent) → IsFront seen logs → SessionMeets seen x → EntriesTellOnly logs (cursors seen) x
+session_tells logs seen x front old g earlier e is from upto =
+    let s : Record = state g earlier in
+    subst (λ (ds : List Dispatch). All (TellsOnly (λ channel. shown_for s x.viewer channel || shown_for (after s e) x.viewer channel)) ds)
+    (sym ((session_entries logs seen x front old).handled g earlier e is from upto)) (edit_tells_only s e x.viewer)
+
+worker_tells : (logs : Seen) (w : Worker) → Stays logs w → OfSessions EntriesTellOnly logs w
+worker_tells logs w old =
+    All-weaker (SessionMeets w.logs.seen) (EntriesTellOnly logs (cursors w.logs.seen)) (λ x. session_tells logs w.logs.seen x old.front) w.core.sessions old.follows.sessions
+
+pub each_entry_tells_only : EachEntryTellsOnly
+unfolding EachEntryTellsOnly
+each_entry_tells_only text bots guilds places steps =
+    let m : World = run text (first_world bots guilds places) steps in
+    All-weaker (Stays m.logs) (OfSessions EntriesTellOnly m.logs) (worker_tells m.logs) m.workers
+    (run_stays text steps (first_world bots guilds places) (first_stays bots guilds places))
+
 session_messages : (logs seen : Seen) (x : Session Sent) → IsFront seen logs → SessionMeets seen x → MessagesHold logs (cursors seen) x
 session_messages logs seen x front old =
     let entries : SessionEntriesHold logs (cursors seen) x = session_entries logs seen x front old in
@@ -238,5 +257,6 @@ each_worker_holds text bots guilds number url logs inputs are =
       alone = old.sound.alone;
       folds = worker_holds logs (all_taken text first inputs) old;
       entries = worker_entries logs (all_taken text first inputs) old;
+      tells = worker_tells logs (all_taken text first inputs) old;
       messages = worker_messages logs (all_taken text first inputs) old;
     }

@@ -1,5 +1,5 @@
 -- Which dispatches of a session were made for which entry of a log, and who was sent messages.
-use Rattle.std.specs.Prelude.{◌≡◌, ℕ, ◌+◌, ◌<◌, ◌≤◌, List, [], ◌∷◌, ◌++◌, Bool, true, false, ◌==◌, ◌&&◌, Option, Some, if◌then◌else◌, length, map, filter, take, All}
+use Rattle.std.specs.Prelude.{◌≡◌, ℕ, ◌+◌, ◌<◌, ◌≤◌, List, [], ◌∷◌, ◌++◌, Bool, true, false, ◌==◌, ◌&&◌, ◌||◌, Option, Some, if◌then◌else◌, length, map, filter, take, All}
 use Rattle.guild_model.specs.Record.{Record}
 use Rattle.dispatch_types.specs.declared.viewer.Viewer.{Viewer}
 use Rattle.dispatch_types.specs.declared.dispatch.Dispatch.{Dispatch}
@@ -13,6 +13,7 @@ use Rattle.edit_apply.specs.Edits.{state, accepts, after}
 use Rattle.edit_apply.specs.declared.Edit.{Edit}
 use Rattle.edit_apply.specs.declared.Edit.TheVariants as edit
 use Rattle.edit_events.specs.Due.{due}
+use Rattle.edit_events.specs.Privacy.{TellsOnly, shown_for}
 use Rattle.session_core.specs.declared.reply.Mark.{Mark}
 use Rattle.session_core.specs.declared.reply.Mark.TheVariants.{Entry}
 use Rattle.session_core.specs.State.{Session}
@@ -44,6 +45,14 @@ pub record EntriesHold (logs : ℕ → List Edit) (start last : Cursors) (v : Vi
 
 abbrev pub SessionEntriesHold : (ℕ → List Edit) → Cursors → Session Sent → Type 0
 SessionEntriesHold logs now x = EntriesHold logs (first_cursors x.sent.told) (last_cursors now x) x.viewer x.sent.told
+
+-- what was made for an entry tells only of channels that are shown to the session's bot before that very entry or
+-- after it, and of voice states in them
+abbrev pub EntriesTellOnly : (ℕ → List Edit) → Cursors → Session Sent → Type 0
+EntriesTellOnly logs now x = (g : ℕ) (front : List Edit) (e : Edit) → take (length front + 1) (logs g) ≡ front ++ e ∷ []
+    → first_cursors x.sent.told g ≤ length front → length front + 1 ≤ last_cursors now x g
+    → let s = state g front in
+    All (TellsOnly (λ channel. shown_for s x.viewer channel || shown_for (after s e) x.viewer channel)) (made_for g (length front + 1) x.sent.told)
 
 -- an edit of messages has one dispatch, which was sent exactly if it is shown by this record: if the viewer is
 -- served, asks for it, and sees its channel or thread

@@ -12,7 +12,7 @@ use Rattle.world_law.specs.World.{Step, run, first_world}
 use Rattle.world_law.specs.Folds.{SessionHolds}
 use Rattle.world_law.specs.Sends.{IsAlone, EachSendHolds}
 use Rattle.world_law.specs.Connections.{EachOutputHolds}
-use Rattle.world_law.specs.Entries.{SessionEntriesHold, MessagesHold}
+use Rattle.world_law.specs.Entries.{SessionEntriesHold, EntriesTellOnly, MessagesHold}
 use Rattle.world_law.specs.Resumes.{EachResumeHolds}
 
 -- of each session of a worker, by the logs and by what the worker has handled of them
@@ -31,6 +31,10 @@ EachRunHolds = InEachWorld SessionHolds
 -- what it was sent for an entry is what that entry owed, and it was sent nothing for any other
 unfoldable pub EachEntryHolds : Type 0
 EachEntryHolds = InEachWorld SessionEntriesHold
+
+-- what it was sent for an entry tells only of channels that its bot is shown before the entry or after it
+unfoldable pub EachEntryTellsOnly : Type 0
+EachEntryTellsOnly = InEachWorld EntriesTellOnly
 
 -- the dispatch of an edit of messages was sent, once, exactly if it is shown
 unfoldable pub EachMessageHolds : Type 0
@@ -67,6 +71,7 @@ pub record WorkerHolds (logs : ℕ → List Edit) (w : Worker) : Type 0 where
   pub alone : (conn : ℕ) → IsAlone conn w.core.sessions
   pub folds : OfSessions SessionHolds logs w
   pub entries : OfSessions SessionEntriesHold logs w
+  pub tells : OfSessions EntriesTellOnly logs w
   pub messages : OfSessions MessagesHold logs w
 
 -- the same of a worker by itself, whatever inputs come that are of some logs
@@ -87,6 +92,8 @@ pub record TheLaw : Type 0 where
   pub outputs : EachOutputHolds
   -- each entry made exactly what it owed
   pub entries : EachEntryHolds
+  -- and tells only of channels that are shown
+  pub tells : EachEntryTellsOnly
   -- a message comes exactly if it is shown
   pub messages : EachMessageHolds
   -- a resume goes on where the client stopped, or is refused

@@ -25,8 +25,8 @@ more p ms i m shown lt here is =
 pub loop-member-preserved : goal.loop-member-preserved
 loop-member-preserved c =
     let lt : c.loop-member.member-index < length c.as_slice-members.result.now = omega arith in
-    let step = λ (shown : Bool). more (is_shown c.args.guild.now c.args.viewer.now) c.as_slice-members.result.now c.loop-member.member-index c.member-item.result shown lt (sym c.member-item.is) in
+    let step = λ (shown : Bool). more (is_shown c.args.part.now c.args.viewer.now) c.as_slice-members.result.now c.loop-member.member-index c.member-item.result shown lt (sym c.member-item.is) in
     elim c.if-is_shown.branch [
       | then-is_shown+in_ok-of+in_ok-push w ↦ (let next = step true (sym c.is_shown.ensures ∙ w.if-is_shown.true) in cc (next, c.loop-member.invariant, w.in_ok-push.ensures.ok, w.in_ok-of.ensures, w.objects-is))
-      | else-is_shown w ↦ (let next = step false (sym c.is_shown.ensures ∙ w.if-is_shown.false) in cc (next, append-nil (map member_object (filter (is_shown c.args.guild.now c.args.viewer.now) (take c.loop-member.member-index c.as_slice-members.result.now))), c.loop-member.invariant, w.objects-is))
+      | else-is_shown w ↦ (let next = step false (sym c.is_shown.ensures ∙ w.if-is_shown.false) in cc (next, append-nil (map member_object (filter (is_shown c.args.part.now c.args.viewer.now) (take c.loop-member.member-index c.as_slice-members.result.now))), c.loop-member.invariant, w.objects-is))
     ]

@@ -5,4 +5,4 @@ use Rattle.edit_events.specs.Greeting.{is_shown}
 use Rattle.edit_events.proofs.create.members.Given as goal
 
 abbrev pub invariant-loop-member : goal.invariant-loop-member
-invariant-loop-member l = l.objects ≡ map member_object (filter (is_shown l.guild l.viewer) (take l.member-index l.members))
+invariant-loop-member l = l.objects ≡ map member_object (filter (is_shown l.part l.viewer) (take l.member-index l.members))

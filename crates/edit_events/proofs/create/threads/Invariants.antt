@@ -7,4 +7,4 @@ use Rattle.edit_events.specs.Greeting.{thread_told}
 use Rattle.edit_events.proofs.create.threads.Given as goal
 
 abbrev pub invariant-loop-thread : goal.invariant-loop-thread
-invariant-loop-thread l = l.told ≡ map (thread_told l.guild l.viewer) (filter (λ (t : Thread). is_active t && member_sees l.guild l.me t) (take l.thread-index l.threads))
+invariant-loop-thread l = l.told ≡ map (thread_told l.part l.viewer) (filter (λ (t : Thread). is_active t && member_sees l.part l.me t) (take l.thread-index l.threads))

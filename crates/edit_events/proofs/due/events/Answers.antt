@@ -1,4 +1,4 @@
-use Rattle.std.proofs.Common.{◌≡◌, ap, ◌∙◌}
+use Rattle.std.proofs.Common.{ap, ◌∙◌}
 use Rattle.guild_model.specs.Record.{Record}
 use Rattle.dispatch_types.specs.Serves.{served}
 use Rattle.edit_events.specs.declared.due.Was.{Was}

@@ -1,4 +1,4 @@
-use Rattle.edit_events.proofs.Greets.{greeting_holds}
+use Rattle.edit_events.proofs.Keeps.{greeting_holds}
 use Rattle.edit_events.proofs.law.greeting_holds.Goals as goal
 
 pub returns : goal.returns

@@ -1,6 +1,0 @@
-use Rattle.collections.proofs.Finds.{IsById-filter}
-use Rattle.guild_model.specs.Record.{channel_id}
-use Rattle.channel_privacy.proofs.before.shown_channels.Goals as goal
-
-pub from_ascending-requires : goal.from_ascending-requires
-from_ascending-requires c = rw (c.in_ok-copies.ensures, c.as_slice.ensures.items) (IsById-filter channel_id _ _ c.as_slice.ensures.ascending)

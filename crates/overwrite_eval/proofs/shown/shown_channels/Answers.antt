@@ -1,0 +1,6 @@
+use Rattle.collections.proofs.Finds.{IsById-filter}
+use Rattle.guild_model.specs.Record.{channel_id}
+use Rattle.overwrite_eval.proofs.shown.shown_channels.Goals as goal
+
+pub from_ascending-requires : goal.from_ascending-requires
+from_ascending-requires c = rw (c.in_ok-copies.ensures, c.as_slice-channels.ensures.items) (IsById-filter channel_id _ _ c.as_slice-channels.ensures.ascending)

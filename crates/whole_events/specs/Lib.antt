@@ -1,0 +1,4 @@
+pub mod Notes
+pub mod Dispatches
+pub mod ByNote
+pub mod Law

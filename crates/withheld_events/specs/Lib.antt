@@ -1,4 +1,0 @@
-pub mod Projection
-pub mod Due
-pub mod Law
-pub mod Privacy
