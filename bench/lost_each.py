@@ -215,7 +215,7 @@ def main(every=1, seconds=3600):
             bad += bool(faults)
         player.end()
     if oracle and not left:
-        missing = set(oracle.EDITS) - kinds - {"guild_private"}
+        missing = set(oracle.EDITS) - kinds
         bad += bool(missing)
         if missing:
             print(f"lost each: no file has {', '.join(sorted(missing))}")

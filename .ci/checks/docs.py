@@ -17,7 +17,7 @@ import rig
 STEPS, TRANSCRIPT, PAYLOADS, LOAD = "docs/STEPS.md", "docs/TRANSCRIPT.md", "docs/PAYLOADS.md", "docs/LOAD.md"
 SERVE, CLIENT, CLAIMS, README = "docs/SERVE.md", "docs/CLIENT.md", "docs/CLAIMS.md", "README.md"
 # The pages that bot authors read.
-FOR_AUTHORS = [README, STEPS, TRANSCRIPT, PAYLOADS, "docs/COOKBOOK.md", "examples/README.md", SERVE, CLIENT, "docs/CLIENTS.md", LOAD]
+FOR_AUTHORS = [README, STEPS, TRANSCRIPT, PAYLOADS, "docs/COOKBOOK.md", "docs/PRIVACY.md", "examples/README.md", SERVE, CLIENT, "docs/CLIENTS.md", LOAD]
 MOST_WORDS = 1200
 # The tables of exit statuses, by their pages and heads.
 STATUSES = [(TRANSCRIPT, "status"), (LOAD, "status of a load"), (SERVE, "status of a server"), (CLIENT, "status of a client"), (STEPS, "status of a lift")]
@@ -103,7 +103,7 @@ def verdicts(name, own, crate, rules, limits):
 def verdicts_of(edit):
     """The verdicts of an edit, but for those that every edit has in a guild that is not open or in an outage."""
     file = "guild" if edit.startswith("guild_") else "reaction" if edit.startswith("reaction_") else edit
-    check = "check" if file != "guild" else "in_service" if edit == "guild_outage" else "check_" + re.sub("^guild_", "", edit)
+    check = "check" if file != "guild" else "in_service" if edit in ("guild_outage", "guild_private") else "check_" + re.sub("^guild_", "", edit)
     paths = [path for path in glob.glob(f"crates/*/src/{file}.rt") if "fn check" in text_of(path)]
     path = (paths or ["crates/edit_apply/src/guild.rt"])[0]
     rules, crate = functions("crates/guild_model/src/rules.rt"), functions(f"{os.path.dirname(path)}/**/*.rt")

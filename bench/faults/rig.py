@@ -20,7 +20,7 @@ import threading
 ROOT = os.path.dirname(os.path.dirname(os.path.dirname(os.path.abspath(__file__))))
 ORACLE = os.environ.get("ORACLE") or "none"
 BUILT = ("crates/gateway_main/out/gateway_main", "out/gate")
-STAGE = "c"  # what the program has of the reference's stages, and of the next the versions of a bot line
+STAGE = "e15"  # what the program has of the stages of the reference
 MEMBERS = 5000  # the most members of a guild
 REQUEST = struct.Struct("8I200s200s200s")
 CALL = struct.Struct("iii")
@@ -68,13 +68,6 @@ def oracle():
     sys.dont_write_bytecode = True
     sys.path.insert(0, ORACLE)
     import gate_oracle
-
-    class Config(gate_oracle.Config):
-        def __init__(self, *words):
-            super().__init__(*words)
-            self.member_limit, self.bot_v2 = MEMBERS, True
-
-    gate_oracle.Config = Config
     return gate_oracle
 
 
