@@ -2,3 +2,4 @@ pub mod TierFacts
 pub mod Grants
 pub mod Granted
 pub mod Alike
+pub mod ByMasks

@@ -2,6 +2,7 @@
 #![tactic(auto)]
 
 mod bounded;
+mod by_masks;
 mod mask_source;
 mod masks;
 mod shown;
@@ -10,6 +11,7 @@ mod standing;
 mod tiers;
 
 pub use bounded::{base_mask, channel_mask, mask_from, sees_channel, sees_thread};
+pub use by_masks::{sees_channel_by, sees_thread_by};
 pub use mask_source::MaskSource;
 pub use masks::part_mask;
 pub use shown::{shown_channels, shown_voices};

@@ -1,9 +1,13 @@
 //! What a member is granted in the channels of a guild, by the parts that decide it.
 
-ghost use Rattle.std.specs.Prelude.{◌≡◌, ◌^◌, ◌<◌, ◌↔◌, ℕ, IsTrue};
+ghost use Rattle.std.specs.Prelude.{◌≡◌, ◌^◌, ◌<◌, ◌↔◌, ℕ, None, IsTrue, IfSome, is_some};
+ghost use Rattle.collections.specs.ById.{find_id, has_id};
 ghost use Rattle.perm_bits.specs.Bits.{has_bit};
+ghost use Rattle.guild_model.specs.Record.{channel_id};
 ghost use Rattle.guild_model.specs.Sight.{granted, sees, sees_in, standing, is_in};
+ghost use Rattle.overwrite_eval.specs.Stands.{IsStandingOf};
 
+use crate::mask_source::MaskSource;
 use crate::masks::{part_base, part_mask_from};
 use crate::sight::{may_view, shows_thread};
 use collections::ById;
@@ -81,13 +85,25 @@ impl<'a> StandingRef<'a> {
 }
 
 impl StandingRef<'_> {
+    // What the member may do in a channel that exists.
+    fn mask_in(&self, channel: Snowflake) -> Option<Perms>
+        ensures there { is_some result ≡ has_id channel_id channel self.now.channels }
+        ensures bits { IfSome result (λ mask. (b : ℕ) → b < 53 → has_bit mask b ≡ granted self.now channel b) }
+        ensures none { result ≡ None → find_id channel_id channel self.now.channels ≡ None }
+    {
+        match self.channels.get(channel.0) {
+            Some(channel) => Some(part_mask_from(self.guild, self.me, channel, self.base)),
+            None => None,
+        }
+    }
+
     /// What the member may do in a channel: nothing in one that does not exist.
     #[tactic(auto, using(perm_bits::proofs::BitSets::bit_sets))]
     pub fn mask(&self, channel: Snowflake) -> Perms
         ensures { (b : ℕ) → b < 53 → has_bit result b ≡ granted self.now channel b }
     {
-        match self.channels.get(channel.0) {
-            Some(channel) => part_mask_from(self.guild, self.me, channel, self.base),
+        match self.mask_in(channel) {
+            Some(mask) => mask,
             None => Perms::NONE,
         }
     }
@@ -127,5 +143,13 @@ impl StandingRef<'_> {
         let me = self.me;
         let joined = thread.members.contains(me.user.id.0);
         self.sees_in(thread.parent, thread.kind, joined)
+    }
+}
+
+impl MaskSource for StandingRef<'_> {
+    ghost stands_for = { λ standing s user. IsStandingOf s user standing };
+
+    fn mask(&self, channel: Snowflake) -> Option<Perms> {
+        self.mask_in(channel)
     }
 }
