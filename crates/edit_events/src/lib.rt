@@ -8,4 +8,4 @@ pub mod law;
 
 pub use create::greeting;
 pub use due::{Was, events, note};
-pub use forms::form_for;
+pub use forms::{form_by, form_for};

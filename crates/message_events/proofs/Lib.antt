@@ -3,3 +3,4 @@ pub mod Follows
 pub mod Told
 pub mod Forming
 pub mod Alike
+pub mod Unserved

@@ -9,11 +9,12 @@ ghost use Rattle.message_events.specs.Dispatches.{user_of, mentioned, created, u
 ghost use Rattle.message_events.specs.Forms.{form_by, form_of, message_form};
 
 use crate::notes::MessageNote;
-use dispatch_types::Viewer;
+use dispatch_types::{Viewer, served};
 use guild_model::Guild;
 use intent_set::Kind;
 use message_edit::{MessageBody, MessageCreate, MessageEdit, MessageUpdate};
-use message_gate::{reads, shows};
+use message_gate::{reads, shows_by};
+use overwrite_eval::{MaskSource, StandingRef};
 use snowflake_id::Snowflake;
 
 /// How an edit of messages, reactions or typing is told a viewer. Viewers of one form are told the
@@ -55,43 +56,106 @@ fn by_content(after: &Guild, viewer: &Viewer, author: Snowflake, body: &MessageB
     }
 }
 
-fn created(after: &Guild, viewer: &Viewer, edit: &MessageCreate) -> MessageForm
-    ensures { result ≡ form_of after.now viewer.now (option_map (created after.now edit.now) (user_of after.now edit.now.author)) }
+fn created<M: MaskSource>(
+    after: &Guild,
+    viewer: &Viewer,
+    edit: &MessageCreate,
+    masks: &M,
+) -> MessageForm
+    ensures { M.stands_for masks.now after.now viewer.now.user
+        → result ≡ form_of after.now viewer.now (option_map (created after.now edit.now) (user_of after.now edit.now.author)) }
 {
     let Some(member) = after.member(edit.author) else {
         return MessageForm::Hidden;
     };
-    if !shows(after, viewer, edit.channel, Kind::MessageCreate) {
+    if !shows_by(after, viewer, edit.channel, Kind::MessageCreate, masks) {
         return MessageForm::Hidden;
     }
     by_content(after, viewer, member.user.id, &edit.body)
 }
 
-fn updated(after: &Guild, viewer: &Viewer, edit: &MessageUpdate) -> MessageForm
-    ensures { result ≡ form_of after.now viewer.now (option_map (updated after.now edit.now) (find_head edit.now.message after.now.messages)) }
+fn updated<M: MaskSource>(
+    after: &Guild,
+    viewer: &Viewer,
+    edit: &MessageUpdate,
+    masks: &M,
+) -> MessageForm
+    ensures { M.stands_for masks.now after.now viewer.now.user
+        → result ≡ form_of after.now viewer.now (option_map (updated after.now edit.now) (find_head edit.now.message after.now.messages)) }
 {
     let Some(head) = after.message(edit.message) else {
         return MessageForm::Hidden;
     };
-    if !shows(after, viewer, head.channel, Kind::MessageUpdate) {
+    if !shows_by(after, viewer, head.channel, Kind::MessageUpdate, masks) {
         return MessageForm::Hidden;
     }
     by_content(after, viewer, head.author.id, &edit.body)
 }
 
 // The form of a dispatch without content.
-fn plain(after: &Guild, viewer: &Viewer, channel: Snowflake, kind: Kind) -> MessageForm
-    ensures { result ≡ form_by (shows after.now viewer.now channel kind) true }
+fn plain<M: MaskSource>(
+    after: &Guild,
+    viewer: &Viewer,
+    channel: Snowflake,
+    kind: Kind,
+    masks: &M,
+) -> MessageForm
+    ensures { M.stands_for masks.now after.now viewer.now.user
+        → result ≡ form_by (shows after.now viewer.now channel kind) true }
 {
-    if shows(after, viewer, channel, kind) {
+    if shows_by(after, viewer, channel, kind, masks) {
         MessageForm::Whole
     } else {
         MessageForm::Hidden
     }
 }
 
+/// The form of an edit for a viewer, by what was noted before the edit, the record after it and what
+/// answers the masks of the viewer's user (Permissions, VIEW_CHANNEL; Gateway, Message Content Intent).
+/// Does not allocate.
+pub fn form_by<M: MaskSource>(
+    note: &MessageNote,
+    after: &Guild,
+    viewer: &Viewer,
+    edit: &MessageEdit,
+    masks: &M,
+) -> MessageForm
+    ensures { M.stands_for masks.now after.now viewer.now.user → result ≡ message_form after.now viewer.now note.now edit.now }
+{
+    match edit {
+        MessageEdit::MessageCreate(edit) => created(after, viewer, edit, masks),
+        MessageEdit::MessageUpdate(edit) => updated(after, viewer, edit, masks),
+        MessageEdit::MessageDelete { .. } => match note {
+            MessageNote::Stood(channel) => plain(
+                after,
+                viewer,
+                *channel,
+                Kind::MessageDelete,
+                masks,
+            ),
+            MessageNote::Nothing => MessageForm::Hidden,
+        },
+        MessageEdit::ReactionAdd(reaction) => match after.message(reaction.message) {
+            Some(head) => plain(after, viewer, head.channel, Kind::MessageReactionAdd, masks),
+            None => MessageForm::Hidden,
+        },
+        MessageEdit::ReactionRemove(reaction) => match after.message(reaction.message) {
+            Some(head) => plain(
+                after,
+                viewer,
+                head.channel,
+                Kind::MessageReactionRemove,
+                masks,
+            ),
+            None => MessageForm::Hidden,
+        },
+        MessageEdit::Typing(edit) => plain(after, viewer, edit.channel, Kind::TypingStart, masks),
+    }
+}
+
 /// The form of an edit for a viewer, by what was noted before the edit and the record after it. Does
 /// not allocate.
+#[tactic(auto, using(crate::proofs::Unserved::hidden_unserved, message_gate::proofs::ByMember::stands_served))]
 pub fn form_for(
     note: &MessageNote,
     after: &Guild,
@@ -100,21 +164,8 @@ pub fn form_for(
 ) -> MessageForm
     ensures { result ≡ message_form after.now viewer.now note.now edit.now }
 {
-    match edit {
-        MessageEdit::MessageCreate(edit) => created(after, viewer, edit),
-        MessageEdit::MessageUpdate(edit) => updated(after, viewer, edit),
-        MessageEdit::MessageDelete { .. } => match note {
-            MessageNote::Stood(channel) => plain(after, viewer, *channel, Kind::MessageDelete),
-            MessageNote::Nothing => MessageForm::Hidden,
-        },
-        MessageEdit::ReactionAdd(reaction) => match after.message(reaction.message) {
-            Some(head) => plain(after, viewer, head.channel, Kind::MessageReactionAdd),
-            None => MessageForm::Hidden,
-        },
-        MessageEdit::ReactionRemove(reaction) => match after.message(reaction.message) {
-            Some(head) => plain(after, viewer, head.channel, Kind::MessageReactionRemove),
-            None => MessageForm::Hidden,
-        },
-        MessageEdit::Typing(edit) => plain(after, viewer, edit.channel, Kind::TypingStart),
+    match served(after, viewer) {
+        Some(me) => form_by(note, after, viewer, edit, &StandingRef::in_guild(after, me)),
+        None => MessageForm::Hidden,
     }
 }

@@ -9,5 +9,5 @@ pub mod notes;
 pub mod objects;
 
 pub use dispatches::{add_dispatches, in_form};
-pub use forms::{MessageForm, form_for};
+pub use forms::{MessageForm, form_by, form_for};
 pub use notes::{MessageNote, note};

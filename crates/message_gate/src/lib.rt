@@ -5,4 +5,4 @@ pub mod redacted;
 pub mod shown;
 
 pub use redacted::{reads, redact};
-pub use shown::shows;
+pub use shown::{shows, shows_by};

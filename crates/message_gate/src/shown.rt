@@ -1,38 +1,61 @@
 //! Whom a dispatch about a channel or a thread is shown (Gateway, Gateway Intents; Permissions,
 //! VIEW_CHANNEL; Threads, Private Threads).
 
-ghost use Rattle.std.specs.Prelude.{◌≡◌, ◌||◌, Some};
-ghost use Rattle.collections.specs.ById.{find_id};
-ghost use Rattle.guild_model.specs.Record.{thread_id};
-ghost use Rattle.guild_model.specs.Sight.{sees, standing, sees_thread_of};
-ghost use Rattle.message_gate.specs.Shows.{shows};
+ghost use Rattle.std.specs.Prelude.{◌≡◌};
+ghost use Rattle.message_gate.specs.Shows.{sees_channel_or_thread, shows};
 
 use dispatch_types::{Viewer, served};
-use guild_model::{Guild, Member};
+use guild_model::Guild;
 use intent_set::Kind;
-use overwrite_eval::StandingRef;
+use overwrite_eval::{MaskSource, StandingRef, sees_channel_by, sees_thread_by};
 use snowflake_id::Snowflake;
 
-// Whether a member sees a channel or a thread.
-fn member_sees(guild: &Guild, me: &Member, channel: Snowflake) -> bool
-    ensures { result ≡ (sees (standing guild.now me.now) channel
-        || sees_thread_of guild.now (Some me.now) (find_id thread_id channel guild.now.threads)) }
+// Whether a user sees a channel or a thread, by its masks.
+fn sees_by<M: MaskSource>(guild: &Guild, user: Snowflake, channel: Snowflake, masks: &M) -> bool
+    ensures { M.stands_for masks.now guild.now user → result ≡ sees_channel_or_thread guild.now user channel }
 {
-    let standing = StandingRef::in_guild(guild, me);
     match guild.thread(channel) {
-        Some(thread) => standing.sees(channel) || standing.sees_thread(thread),
-        None => standing.sees(channel),
+        Some(thread) => sees_channel_by(masks, channel) || sees_thread_by(masks, user, thread),
+        None => sees_channel_by(masks, channel),
+    }
+}
+
+/// Whether a viewer is shown a dispatch of a kind about a channel or a thread, by what answers its user's
+/// masks: it is served the guild, its intents ask for the kind (Gateway, Gateway Intents), and its user sees
+/// the channel (Permissions, VIEW_CHANNEL). Does not allocate.
+#[tactic(auto, using(crate::proofs::ByMember::shown_to, crate::proofs::ByMember::unshown))]
+pub fn shows_by<M: MaskSource>(
+    guild: &Guild,
+    viewer: &Viewer,
+    channel: Snowflake,
+    kind: Kind,
+    masks: &M,
+) -> bool
+    ensures { M.stands_for masks.now guild.now viewer.now.user → result ≡ shows guild.now viewer.now channel kind }
+{
+    match served(guild, viewer) {
+        Some(_me) => viewer.intents.asks(kind, false)
+            && sees_by(guild, viewer.user, channel, masks),
+        None => false,
     }
 }
 
 /// Whether a viewer is shown a dispatch of a kind about a channel or a thread: it is served the guild,
 /// its intents ask for the kind, and its user sees the channel, all by this record alone. Does not allocate.
-#[tactic(auto, using(crate::proofs::ByMember::shown_to, crate::proofs::ByMember::unshown))]
+#[tactic(auto, using(crate::proofs::ByMember::shown_to, crate::proofs::ByMember::unshown, crate::proofs::ByMember::stands_served))]
 pub fn shows(guild: &Guild, viewer: &Viewer, channel: Snowflake, kind: Kind) -> bool
     ensures { result ≡ shows guild.now viewer.now channel kind }
 {
     match served(guild, viewer) {
-        Some(me) => viewer.intents.asks(kind, false) && member_sees(guild, me, channel),
+        Some(me) => {
+            viewer.intents.asks(kind, false)
+                && sees_by(
+                    guild,
+                    viewer.user,
+                    channel,
+                    &StandingRef::in_guild(guild, me),
+                )
+        }
         None => false,
     }
 }
