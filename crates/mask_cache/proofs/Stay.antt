@@ -12,7 +12,7 @@ use Rattle.guild_model.specs.declared.presence.ShownStatus.{ShownStatus}
 use Rattle.guild_model.specs.declared.verdict.Verdict.{Verdict}
 use Rattle.guild_model.specs.declared.verdict.Verdict.TheVariants.{IdTaken, UnknownChannel}
 use Rattle.guild_model.specs.Record.{Record, own_id, role_id, member_id, channel_id}
-use Rattle.guild_model.specs.Ascending.{IsWell}
+use Rattle.guild_model.specs.Consistent.{IsConsistent}
 use Rattle.guild_model.specs.Statuses.{status_shown}
 use Rattle.guild_model.specs.Tests.{refused_if, first_of, too_many, too_long, unknown_channel}
 use Rattle.guild_model.proofs.Tests.{first_passes, not_refused, passed}
@@ -165,7 +165,7 @@ module _ (s : Record) (user : ℕ) (is_member : has_id member_id user s.members 
       by_own false is = member-other at f same is
 
   -- a role that is created is held by nobody yet
-  role-created : (body : RoleBody) → IsWell s → s.opened ≡ true → has_id role_id body.role s.roles ≡ false → SameElsewhere (λ id. false) s (role_created s body) user
+  role-created : (body : RoleBody) → IsConsistent s → s.opened ≡ true → has_id role_id body.role s.roles ≡ false → SameElsewhere (λ id. false) s (role_created s body) user
   role-created body well opened new =
       elsewhere s (role_created s body) user me.0 me.0 me.1 me.1
       (base-role s.id s.owner (role_of body) s.roles me.0 not-everyone not-held)
@@ -173,10 +173,10 @@ module _ (s : Record) (user : ℕ) (is_member : has_id member_id user s.members 
       (λ id. false) (λ channel other. refl)
     where
       not-everyone : (body.role == s.id) ≡ false
-      not-everyone = false_from_ne_true (body.role == s.id) (λ is. let here : body.role ≡ s.id = eqb-true body.role s.id is in let all = well.consistent.everyone opened in absurd (cc))
+      not-everyone = false_from_ne_true (body.role == s.id) (λ is. let here : body.role ≡ s.id = eqb-true body.role s.id is in let all = well.everyone opened in absurd (cc))
 
       not-held : has_id own_id body.role me.0.roles ≡ false
-      not-held = false_from_ne_true (has_id own_id body.role me.0.roles) (λ held. let has = (well.consistent.held user body.role me.0 me.1 held).0 in absurd (cc))
+      not-held = false_from_ne_true (has_id own_id body.role me.0.roles) (λ held. let has = (well.held user body.role me.0 me.1 held).0 in absurd (cc))
 
   member-came : (add : Adding) → has_id member_id add.user s.members ≡ false → SameElsewhere (λ id. false) s (member_added s add) user
   member-came add new =
@@ -193,10 +193,10 @@ module _ (s : Record) (user : ℕ) (is_member : has_id member_id user s.members 
       (find-without member_id gone user s.members
       ∙ (ap (λ here. if here then None else find_id member_id user s.members) (has-left member_id gone user s.members stays).0 ∙ me.1)) refl refl
 
-  role_member : (e : RoleMemberEdit) → IsWell s → s.opened ≡ true → role_member_verdict s e ≡ None → has_id member_id user (role_member_applied s e).members ≡ true
+  role_member : (e : RoleMemberEdit) → ((body : RoleBody) → e ≡ RoleCreate body → IsConsistent s) → s.opened ≡ true → role_member_verdict s e ≡ None → has_id member_id user (role_member_applied s e).members ≡ true
       → Leaves (role_member_change user e) s (role_member_applied s e) user
   role_member (RoleCreate body) well opened accepted stays =
-      role-created body well opened (not_refused (has_id role_id body.role s.roles) IdTaken
+      role-created body (well body refl) opened (not_refused (has_id role_id body.role s.roles) IdTaken
       (first_passes (role_taken s body.role) (too_many 250 (length s.roles) ∷ too_long 100 body.name ∷ []) accepted).0)
   role_member (RoleUpdate body) well opened accepted stays = tt
   role_member (RoleDelete role) well opened accepted stays = tt
@@ -301,7 +301,7 @@ message-keeps s (Typing e) = record { id = refl; owner = refl; roles = refl; mem
 past : (s : Record) (v : Option Verdict) → first_of (out_of_service s ∷ v ∷ []) ≡ None → v ≡ None
 past s v accepted = (first_passes v [] (first_passes (out_of_service s) (v ∷ []) accepted).1).0
 
-leaves : (s : Record) (e : Edit) (user : ℕ) → IsWell s → s.opened ≡ true → verdict s e ≡ None → has_id member_id user s.members ≡ true → has_id member_id user (applied s e).members ≡ true
+leaves : (s : Record) (e : Edit) (user : ℕ) → ((body : RoleBody) → e ≡ edit.RoleMember (RoleCreate body) → IsConsistent s) → s.opened ≡ true → verdict s e ≡ None → has_id member_id user s.members ≡ true → has_id member_id user (applied s e).members ≡ true
     → Leaves (mask_change user e) s (applied s e) user
 leaves s (edit.Guild (GuildOpen opens)) user well opened accepted own stays = tt
 leaves s (edit.Guild (GuildRename name)) user well opened accepted own stays = kept s user own (record s { name = name }) (record { id = refl; owner = refl; roles = refl; members = refl; channels = refl })
@@ -309,7 +309,7 @@ leaves s (edit.Guild (GuildOwner owner)) user well opened accepted own stays = t
 leaves s (edit.Guild GuildOutage) user well opened accepted own stays = kept s user own (record s { outage = true }) (record { id = refl; owner = refl; roles = refl; members = refl; channels = refl })
 leaves s (edit.Guild GuildBack) user well opened accepted own stays = kept s user own (record s { outage = false }) (record { id = refl; owner = refl; roles = refl; members = refl; channels = refl })
 leaves s (edit.Guild (GuildPrivate private)) user well opened accepted own stays = kept s user own (record s { private = private }) (record { id = refl; owner = refl; roles = refl; members = refl; channels = refl })
-leaves s (edit.RoleMember e) user well opened accepted own stays = role_member s user own e well opened (past s (role_member_verdict s e) accepted) stays
+leaves s (edit.RoleMember e) user well opened accepted own stays = role_member s user own e (λ body is. well body (ap (λ (e : RoleMemberEdit). edit.RoleMember e) is)) opened (past s (role_member_verdict s e) accepted) stays
 leaves s (edit.Channel e) user well opened accepted own stays = channel s user own e (past s (channel_verdict s e) accepted)
 leaves s (edit.Thread e) user well opened accepted own stays = kept s user own (thread_applied s e) (thread-keeps s e)
 leaves s (edit.VoicePresence (VoiceSet set)) user well opened accepted own stays = kept s user own (with_voice s set set.channel) (voice-keeps s set set.channel)
@@ -320,7 +320,7 @@ pub others_stay : OthersStay
 others_stay s e t user follows =
     let is : t ≡ applied s e = follows.after ∙ ap (λ v. after_verdict v s e) follows.accepted in
     let stays : has_id member_id user (applied s e).members ≡ true = subst (λ (t : Record). has_id member_id user t.members ≡ true) is follows.is_member in
-    subst (λ (t : Record). Leaves (mask_change user e) s t user) (sym is) (leaves s e user follows.well follows.opened follows.accepted follows.was_member stays)
+    subst (λ (t : Record). Leaves (mask_change user e) s t user) (sym is) (leaves s e user follows.consistent follows.opened follows.accepted follows.was_member stays)
 
 -- by the masks that the edit was found to change
 pub left : (s : Record) (e : Edit) (t : Record) (user : ℕ) (change : MaskChange) → mask_change user e ≡ change → Follows s e t user → Leaves change s t user

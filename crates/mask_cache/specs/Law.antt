@@ -4,22 +4,25 @@ use Rattle.std.specs.List.{sum_by}
 use Rattle.collections.specs.ById.{has_id}
 use Rattle.guild_model.specs.declared.channel.Channel.{Channel}
 use Rattle.guild_model.specs.Record.{Record, member_id, channel_id}
-use Rattle.guild_model.specs.Ascending.{IsWell}
+use Rattle.guild_model.specs.Consistent.{IsConsistent}
 use Rattle.guild_model.specs.Permissions.{base as base_has, grants}
 use Rattle.overwrite_eval.specs.Looks.{looks_of, role_looks, overwrite_looks}
+use Rattle.role_member_edit.specs.declared.role_body.RoleBody.{RoleBody}
+use Rattle.role_member_edit.specs.declared.RoleMemberEdit.TheVariants.{RoleCreate}
 use Rattle.edit_apply.specs.declared.Edit.{Edit}
+use Rattle.edit_apply.specs.declared.Edit.TheVariants as edit
 use Rattle.edit_apply.specs.Edits.{verdict, after}
 use Rattle.mask_cache.specs.declared.mask_change.MaskChange.{MaskChange}
 use Rattle.mask_cache.specs.declared.mask_change.MaskChange.TheVariants.{Nothing, Gone, InChannel, All}
 use Rattle.mask_cache.specs.Changes.{mask_change}
 
 -- an accepted edit takes one record to the other; the guild is open, and the user is a member before
--- and after
-pub record Follows (s : Record) (edit : Edit) (t : Record) (user : ℕ) : Type 0 where
-  pub well : IsWell s
+-- and after; where a role is created, members hold only roles that exist
+pub record Follows (s : Record) (e : Edit) (t : Record) (user : ℕ) : Type 0 where
+  pub consistent : (body : RoleBody) → e ≡ edit.RoleMember (RoleCreate body) → IsConsistent s
   pub opened : s.opened ≡ true
-  pub accepted : verdict s edit ≡ None
-  pub after : t ≡ after s edit
+  pub accepted : verdict s e ≡ None
+  pub after : t ≡ after s e
   pub was_member : has_id member_id user s.members ≡ true
   pub is_member : has_id member_id user t.members ≡ true
 
@@ -44,8 +47,8 @@ Leaves All s t user = Unit {0}
 
 -- THE LAW OF MASKS: no other mask changes than those that an edit may change
 abbrev pub OthersStay : Type 0
-OthersStay = (s : Record) (edit : Edit) (t : Record) (user : ℕ) → Follows s edit t user
-    → Leaves (mask_change user edit) s t user
+OthersStay = (s : Record) (e : Edit) (t : Record) (user : ℕ) → Follows s e t user
+    → Leaves (mask_change user e) s t user
 
 -- the overwrites of all channels
 abbrev pub all_overwrites : Record → ℕ
@@ -59,4 +62,4 @@ looks_for g user (InChannel channel) = overwrite_looks g channel
 looks_for g user All = role_looks g user + all_overwrites g
 
 abbrev pub mend_looks : Record → ℕ → Edit → ℕ
-mend_looks g user edit = looks_for g user (mask_change user edit)
+mend_looks g user e = looks_for g user (mask_change user e)
