@@ -4,7 +4,7 @@ use Rattle.std.specs.Prelude.{◌==◌, ◌||◌, ◌&&◌, not, is_some, option
 use Rattle.std.specs.List.{find, list_any}
 use Rattle.std.specs.Str.{bytes_eq}
 use Rattle.guild_model.specs.Record.{Record}
-use Rattle.worker_core.specs.declared.replica.Replica.{Replica}
+use Rattle.guild_replica.specs.Replicas.{GuildCopy}
 use Rattle.dispatch_types.specs.declared.viewer.Viewer.{Viewer}
 use Rattle.edit_apply.specs.declared.Edit.{Edit}
 use Rattle.edit_events.specs.Due.{due}
@@ -53,7 +53,7 @@ any_join p (x ∷ xs) ys = by_test (p x) (any_join p xs ys)
     by_test false rest = rest
 
 -- one entry
-module _ (seen : Seen) (g : ℕ) (e : Edit) (replicas : List Replica) where
+module _ (seen : Seen) (g : ℕ) (e : Edit) (replicas : List GuildCopy) where
   abbrev here : Record
   here = record_of seen g
 

@@ -22,7 +22,7 @@ use Rattle.session_core.specs.Ends.{closes, session_conns, end_all_replies, all_
 use Rattle.session_core.specs.Frames.{Move, Nothing, Answers, ClosesWith, Begins, Denies, Resumes, Wants, Want, Members, Presence, Voice, want_reply, move_replies, is_spent}
 use Rattle.session_core.specs.Resume.{resume_replies}
 use Rattle.replay_ring.specs.Replay.{Replay, fresh, texts_after}
-use Rattle.worker_core.specs.declared.replica.Replica.{Replica}
+use Rattle.guild_replica.specs.Replicas.{GuildCopy}
 use Rattle.worker_core.specs.declared.io.Output.{Output as Written}
 use Rattle.worker_core.specs.declared.io.StepFault.{StepFault}
 use Rattle.worker_core.proofs.Putting.{all_live, AreLive, look_sends_is, look_spends_is, looked_is, put_twice, puts_once}
@@ -51,20 +51,20 @@ use Rattle.world_law.specs.Keeping.{record_at, with_sessions}
 use Rattle.world_law.proofs.Folds.{same_id, state_join}
 use Rattle.worker_core.specs.Faults.{step_fault}
 
-abbrev pub empty : ℕ → Replica
+abbrev pub empty : ℕ → GuildCopy
 empty g = replica_of (closed g)
 
 -- ---- looks
 
 -- a look at a guild that the worker has, by its replica
-module _ (k : KeptMachine) (g : ℕ) (es : List Edit) (r : Replica) (found : find_id replica_id g k.logs ≡ Some r) where
+module _ (k : KeptMachine) (g : ℕ) (es : List Edit) (r : GuildCopy) (found : find_id replica_id g k.logs ≡ Some r) where
   here : record_at in_code k.logs g ≡ Some r.guild
   here = find_guild g k.logs ∙ ap (option_map guild_of) found
 
   looked_key : replica_id (replica_of (state_from r.guild es)) ≡ g
   looked_key = from_id r.guild es ∙ key-found replica_id g k.logs r found
 
-  pub is_there : (again : Replica) → again ≡ replica_of (state_from r.guild es) → IsSome (find_id replica_id (replica_id again) (put_id replica_id (empty g) k.logs))
+  pub is_there : (again : GuildCopy) → again ≡ replica_of (state_from r.guild es) → IsSome (find_id replica_id (replica_id again) (put_id replica_id (empty g) k.logs))
   is_there again is =
       let at : replica_id again ≡ g = ap replica_id is ∙ looked_key in
       ap is_some (ap (λ n. find_id replica_id n (put_id replica_id (empty g) k.logs)) at
@@ -83,8 +83,8 @@ module _ (k : KeptMachine) (g : ℕ) (es : List Edit) (r : Replica) (found : fin
         ∙ (looked_is es k g r.guild live
         ∙ ap (λ rs. record k { logs = rs; core = with_sessions (kept_looked r.guild es k.core.sessions) k.core }) (puts_once es r.guild k.logs own ascend))
 
-module _ (k : KeptWorker) (g : ℕ) (es : List Edit) (r : Replica) (found : find_id replica_id g k.machine.logs ≡ Some r) (live : AreLive k.machine.core.sessions) where
-  pub look_made : (k1 k2 k3 : KeptWorker) (again : Replica) (out : List Written) → IsById replica_id k.machine.logs
+module _ (k : KeptWorker) (g : ℕ) (es : List Edit) (r : GuildCopy) (found : find_id replica_id g k.machine.logs ≡ Some r) (live : AreLive k.machine.core.sessions) where
+  pub look_made : (k1 k2 k3 : KeptWorker) (again : GuildCopy) (out : List Written) → IsById replica_id k.machine.logs
       → k1 ≡ record k { machine = record k.machine { logs = put_id replica_id (empty g) k.machine.logs } }
       → k2 ≡ record k1 { machine = record k1.machine { core = with_sessions (kept_looked r.guild es k1.machine.core.sessions) k1.machine.core } }
       → k3 ≡ record k2 { machine = record k2.machine { logs = put_id replica_id again k2.machine.logs } }
@@ -98,8 +98,8 @@ module _ (k : KeptWorker) (g : ℕ) (es : List Edit) (r : Replica) (found : find
         three
             ∙ (ap (λ (h : KeptWorker). record h { machine = record h.machine { logs = put_id replica_id again h.machine.logs } }) two
             ∙ (ap (λ (h : KeptWorker). record h { machine = record h.machine { core = with_sessions (kept_looked r.guild es h.machine.core.sessions) h.machine.core; logs = put_id replica_id again h.machine.logs } }) one
-            ∙ (ap (λ (a : Replica). record k { machine = record k.machine { core = core; logs = put_id replica_id a (put_id replica_id (empty g) k.machine.logs) } }) is
-            ∙ (ap (λ (rs : List Replica). record k { machine = record k.machine { core = core; logs = rs } }) (put_twice (replica_of (state_from r.guild es)) (empty g) k.machine.logs key ascend)
+            ∙ (ap (λ (a : GuildCopy). record k { machine = record k.machine { core = core; logs = put_id replica_id a (put_id replica_id (empty g) k.machine.logs) } }) is
+            ∙ (ap (λ (rs : List GuildCopy). record k { machine = record k.machine { core = core; logs = rs } }) (put_twice (replica_of (state_from r.guild es)) (empty g) k.machine.logs key ascend)
             ∙ ap (λ (h : KeptMachine). record k { machine = h }) (sym (look_is k.machine g es r found ascend live)))))),
         (
           sent ∙ (ap (λ (h : KeptWorker). all_written (kept_sends r.guild es h.machine.core.sessions)) one
@@ -114,7 +114,7 @@ module _ (k : KeptWorker) (g : ℕ) (es : List Edit) (r : Replica) (found : find
       subst (λ b. FaultBy b fault) (ap (λ (h : KeptWorker). kept_spends r.guild es h.machine.core.sessions) one ∙ sym (look_spent k.machine g es r found live)) fails
 
 -- the sessions are as they were before the replica was taken out
-pub live_at : (k k1 : KeptWorker) (logs : List Replica) → k1 ≡ record k { machine = record k.machine { logs = logs } } → length (live k1.machine.core) ≡ length k1.machine.core.sessions
+pub live_at : (k k1 : KeptWorker) (logs : List GuildCopy) → k1 ≡ record k { machine = record k.machine { logs = logs } } → length (live k1.machine.core) ≡ length k1.machine.core.sessions
     → AreLive k.machine.core.sessions
 live_at k k1 logs one same = all_live k.machine.core.sessions (subst (λ (h : KeptWorker). length (live h.machine.core) ≡ length h.machine.core.sessions) one same)
 
@@ -247,7 +247,7 @@ from_base g base log es basis first rest =
 record_there : (k : KeptMachine) (g : ℕ) → has_id replica_id g k.logs ≡ true → (s : Record) × (record_at in_code k.logs g ≡ Some s)
 record_there k g has = by_found (find_id replica_id g k.logs) refl
   where
-    by_found : (o : Option Replica) → find_id replica_id g k.logs ≡ o → (s : Record) × (record_at in_code k.logs g ≡ Some s)
+    by_found : (o : Option GuildCopy) → find_id replica_id g k.logs ≡ o → (s : Record) × (record_at in_code k.logs g ≡ Some s)
     by_found None e = absurd (cc (has, ap is_some e))
     by_found (Some r) e = (r.guild, find_guild g k.logs ∙ ap (option_map guild_of) e)
 
@@ -257,7 +257,7 @@ rebase_past k g log out lacks empty =
     let o : record_at in_code k.machine.logs g ≡ None = none_here k.machine g (by_found (find_id replica_id g k.machine.logs) lacks) in
     (ap (λ o. record k { machine = rebased_by in_code o k.machine g log }) (sym o), (empty ∙ ap (λ o. all_written (rebase_sends_by o k.machine.core)) (sym o), refl))
   where
-    by_found : (o : Option Replica) → is_some o ≡ false → o ≡ None
+    by_found : (o : Option GuildCopy) → is_some o ≡ false → o ≡ None
     by_found None e = refl
     by_found (Some r) e = absurd (cc e)
 
@@ -391,7 +391,7 @@ steps k new w i items (Err fault) stands takes = subst (λ b. FaultBy b fault) (
 
 -- ---- the first worker
 
-abbrev pub first_replica : ℕ → Replica
+abbrev pub first_replica : ℕ → GuildCopy
 first_replica g = replica_of (closed g)
 
 first_put : (g : ℕ) (gs : List ℕ) → put_id replica_id (first_replica g) (map first_replica gs) ≡ map first_replica (put_id own_id g gs)

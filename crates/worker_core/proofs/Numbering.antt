@@ -22,7 +22,7 @@ use Rattle.session_core.specs.Resume.{session_id}
 use Rattle.world_law.specs.Greeting.{greeting_of, ready}
 use Rattle.world_law.specs.Keeping.{record_at}
 use Rattle.world_law.specs.Wants.{answer_to, answered_by, change_first, is_numbered, numbered}
-use Rattle.worker_core.specs.declared.replica.Replica.{Replica}
+use Rattle.guild_replica.specs.Replicas.{GuildCopy}
 use Rattle.worker_core.specs.InCode.{in_code, KeptMachine, KeptWorker}
 use Rattle.worker_core.specs.Replies.{greeted}
 use Rattle.worker_core.specs.declared.io.Output.{Output as Written}
@@ -222,7 +222,7 @@ module _ (k : KeptMachine) (n : ℕ) where
 
   pub greeted_held : (h : Holder) (r : Greeted) (v : Viewer) (start pushed list : List Dispatch) → Some h ≡ option_map (holder_of k.core.worker) (numbered n k.core.sessions) → v ≡ viewer_for h
       → ((m : ℕ) → h.id ≡ session_id k.core.worker m → r ≡ ready in_code k (viewer_for h) h.name m) → start ≡ [] → pushed ≡ start ++ Ready r ∷ []
-      → list ≡ pushed ++ flat_map (λ (r : Replica). greeting_of v r.guild) k.logs → option_map_or (greeted k n) (numbered n k.core.sessions) [] ≡ list
+      → list ≡ pushed ++ flat_map (λ (r : GuildCopy). greeting_of v r.guild) k.logs → option_map_or (greeted k n) (numbered n k.core.sessions) [] ≡ list
   greeted_held h r v start pushed list held viewed made empty one all = by_item (numbered n k.core.sessions) refl held
     where
       by_item : (o : Option (Session Replay)) → numbered n k.core.sessions ≡ o → Some h ≡ option_map (holder_of k.core.worker) o → option_map_or (greeted k n) o [] ≡ list

@@ -11,7 +11,7 @@ use Rattle.edit_apply.specs.Edits.{after, state_from}
 use Rattle.edit_apply.specs.declared.Edit.{Edit}
 use Rattle.replay_ring.specs.Replay.{Replay}
 use Rattle.session_core.specs.State.{Session, is_live}
-use Rattle.worker_core.specs.declared.replica.Replica.{Replica}
+use Rattle.guild_replica.specs.Replicas.{GuildCopy}
 use Rattle.worker_core.specs.InCode.{KeptMachine, in_code, replica_id, replica_of}
 use Rattle.world_law.specs.Looks.{after_entry, entered, look_sends, looked}
 use Rattle.world_law.specs.Spent.{entry_spends, look_spends}
@@ -23,7 +23,7 @@ use Rattle.world_law.specs.Keeping.{with_sessions}
 -- ---- replicas
 
 -- of two replicas of one guild the later one stays
-pub put_twice : (x y : Replica) (rs : List Replica) → replica_id x ≡ replica_id y → IsById replica_id rs → put_id replica_id x (put_id replica_id y rs) ≡ put_id replica_id x rs
+pub put_twice : (x y : GuildCopy) (rs : List GuildCopy) → replica_id x ≡ replica_id y → IsById replica_id rs → put_id replica_id x (put_id replica_id y rs) ≡ put_id replica_id x rs
 put_twice x y rs one h = same_by_id replica_id _ _ (IsById-put replica_id x _ (IsById-put replica_id y _ h)) (IsById-put replica_id x _ h)
     (λ id. find-put replica_id x id (put_id replica_id y rs)
     ∙ (ap (λ o. if replica_id x == id then Some x else o) (find-put replica_id y id rs)
@@ -37,22 +37,22 @@ put_twice x y rs one h = same_by_id replica_id _ _ (IsById-put replica_id x _ (I
         ap (λ b. if b then Some y else find_id replica_id id rs) other
 
 -- one that stands in a list is put into its own place
-put_same : (x : Replica) (rs : List Replica) → find_id replica_id (replica_id x) rs ≡ Some x → IsById replica_id rs → put_id replica_id x rs ≡ rs
+put_same : (x : GuildCopy) (rs : List GuildCopy) → find_id replica_id (replica_id x) rs ≡ Some x → IsById replica_id rs → put_id replica_id x rs ≡ rs
 put_same x rs found h = same_by_id replica_id _ _ (IsById-put replica_id x _ h) h (λ id. find-put replica_id x id rs ∙ by_test id (replica_id x == id) refl)
   where
     by_test : (id : ℕ) (b : Bool) → (replica_id x == id) ≡ b → (if b then Some x else find_id replica_id id rs) ≡ find_id replica_id id rs
     by_test id true e = sym (ap (λ n. find_id replica_id n rs) (sym (eqb-true (replica_id x) id e)) ∙ found)
     by_test id false e = refl
 
-abbrev pub puts : Record → List Edit → List Replica → List Replica
+abbrev pub puts : Record → List Edit → List GuildCopy → List GuildCopy
 puts s [] rs = rs
 puts s (e ∷ es) rs = puts (after s e) es (put_id replica_id (replica_of (after s e)) rs)
 
 -- all that was put leaves the last
-pub puts_once : (es : List Edit) (s : Record) (rs : List Replica) → find_id replica_id s.id rs ≡ Some (replica_of s) → IsById replica_id rs → puts s es rs ≡ put_id replica_id (replica_of (state_from s es)) rs
+pub puts_once : (es : List Edit) (s : Record) (rs : List GuildCopy) → find_id replica_id s.id rs ≡ Some (replica_of s) → IsById replica_id rs → puts s es rs ≡ put_id replica_id (replica_of (state_from s es)) rs
 puts_once [] s rs found h = sym (put_same (replica_of s) rs found h)
 puts_once (e ∷ es) s rs found h =
-    let next : Replica = replica_of (after s e) in
+    let next : GuildCopy = replica_of (after s e) in
     let there : find_id replica_id (after s e).id (put_id replica_id next rs) ≡ Some next =
     find-put replica_id next (after s e).id rs ∙ ap (λ b. if b then Some next else find_id replica_id (after s e).id rs) (same_id (after s e).id) in
     puts_once es (after s e) (put_id replica_id next rs) there (IsById-put replica_id next _ h)
@@ -89,7 +89,7 @@ module _ (s : Record) (e : Edit) where
   told_live [] live = tt
   told_live (x ∷ xs) live = (live.0, told_live xs live.1)
 
-  each_live : (rs : List Replica) (g : ℕ) (xs : List (Session Replay)) → AreLive xs → map (after_entry in_code rs g s e) xs ≡ map (told_more s e) xs
+  each_live : (rs : List GuildCopy) (g : ℕ) (xs : List (Session Replay)) → AreLive xs → map (after_entry in_code rs g s e) xs ≡ map (told_more s e) xs
   each_live rs g [] live = refl
   each_live rs g (x ∷ xs) live =
       ap (λ b. (if b then told_more s e x else x) ∷ map (after_entry in_code rs g s e) xs) live.0 ∙ ap (λ ys. told_more s e x ∷ ys) (each_live rs g xs live.1)

@@ -13,11 +13,11 @@ use Rattle.world_law.specs.Keeping.{record_id}
 use Rattle.world_law.specs.Model.{Seen, record_of}
 use Rattle.world_law.proofs.Logs.{state_id}
 use Rattle.world_law.proofs.Found.{contains_found, find_record}
-use Rattle.worker_core.specs.declared.replica.Replica.{Replica}
+use Rattle.guild_replica.specs.Replicas.{GuildCopy}
 use Rattle.worker_core.specs.InCode.{replica_id, guild_of}
 
 -- a replica that is put is a record that is put
-pub put_guild : (r : Replica) (rs : List Replica) → map guild_of (put_id replica_id r rs) ≡ put_id record_id (guild_of r) (map guild_of rs)
+pub put_guild : (r : GuildCopy) (rs : List GuildCopy) → map guild_of (put_id replica_id r rs) ≡ put_id record_id (guild_of r) (map guild_of rs)
 put_guild r [] = refl
 put_guild r (x ∷ rs) = by_tests (nat_lt (replica_id r) (replica_id x)) (replica_id r == replica_id x) (put_guild r rs)
   where
@@ -28,10 +28,10 @@ put_guild r (x ∷ rs) = by_tests (nat_lt (replica_id r) (replica_id x)) (replic
     by_tests false true rest = refl
     by_tests false false rest = ap (λ gs. guild_of x ∷ gs) rest
 
-own_key : (r : Replica) → record_id (guild_of r) ≡ replica_id r
+own_key : (r : GuildCopy) → record_id (guild_of r) ≡ replica_id r
 own_key r = refl
 
-pub find_guild : (g : ℕ) (rs : List Replica) → find_id record_id g (map guild_of rs) ≡ option_map guild_of (find_id replica_id g rs)
+pub find_guild : (g : ℕ) (rs : List GuildCopy) → find_id record_id g (map guild_of rs) ≡ option_map guild_of (find_id replica_id g rs)
 find_guild g rs = find-map replica_id record_id guild_of own_key g rs
 
 keyed : (seen : Seen) (g : ℕ) → record_id (record_of seen g) ≡ g

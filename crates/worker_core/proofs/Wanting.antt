@@ -24,7 +24,7 @@ use Rattle.wishes.specs.Wishes.{presence_wish}
 use Rattle.replay_ring.specs.Replay.{Replay}
 use Rattle.session_core.specs.State.{State, Session}
 use Rattle.session_core.specs.Frames.{Members, Presence, Voice}
-use Rattle.worker_core.specs.declared.replica.Replica.{Replica}
+use Rattle.guild_replica.specs.Replicas.{GuildCopy}
 use Rattle.worker_core.specs.declared.io.Output.{Output as Written}
 use Rattle.worker_core.specs.declared.io.StepFault.{StepFault}
 use Rattle.worker_core.specs.declared.io.StepFault.TheVariants.{Spent}
@@ -110,23 +110,23 @@ never : {A : Type 0} (o : Option A) → option_map_or (λ x. false) o false ≡ 
 never None = refl
 never (Some x) = refl
 
-pub each_guild : {B : Type 0} (f : Record → List B) (rs : List Replica) → flat_map f (map guild_of rs) ≡ flat_map (λ (r : Replica). f r.guild) rs
+pub each_guild : {B : Type 0} (f : Record → List B) (rs : List GuildCopy) → flat_map f (map guild_of rs) ≡ flat_map (λ (r : GuildCopy). f r.guild) rs
 each_guild f [] = refl
 each_guild f (r ∷ rs) = ap (λ ys. f r.guild ++ ys) (each_guild f rs)
 
 -- the guilds that READY lists
-pub served_ids : (v : Viewer) (rs : List Replica) → map replica_id (filter (λ (r : Replica). serves v r.guild) rs) ≡ map record_id (filter (λ s. serves v s) (map guild_of rs))
+pub served_ids : (v : Viewer) (rs : List GuildCopy) → map replica_id (filter (λ (r : GuildCopy). serves v r.guild) rs) ≡ map record_id (filter (λ s. serves v s) (map guild_of rs))
 served_ids v [] = refl
 served_ids v (r ∷ rs) = by_test (serves v r.guild) (served_ids v rs)
   where
-    by_test : (b : Bool) → map replica_id (filter (λ (r : Replica). serves v r.guild) rs) ≡ map record_id (filter (λ s. serves v s) (map guild_of rs))
-        → map replica_id (if b then r ∷ filter (λ (r : Replica). serves v r.guild) rs else filter (λ (r : Replica). serves v r.guild) rs)
+    by_test : (b : Bool) → map replica_id (filter (λ (r : GuildCopy). serves v r.guild) rs) ≡ map record_id (filter (λ s. serves v s) (map guild_of rs))
+        → map replica_id (if b then r ∷ filter (λ (r : GuildCopy). serves v r.guild) rs else filter (λ (r : GuildCopy). serves v r.guild) rs)
         ≡ map record_id (if b then r.guild ∷ filter (λ s. serves v s) (map guild_of rs) else filter (λ s. serves v s) (map guild_of rs))
     by_test true rest = ap (λ ids. r.guild.id ∷ ids) rest
     by_test false rest = rest
 
-pub listed_is : (v : Viewer) (rs : List Replica)
-    → (if has_bit v.intents guilds then map replica_id (filter (λ (r : Replica). serves v r.guild) rs) else []) ≡ listed_guilds v (map guild_of rs)
+pub listed_is : (v : Viewer) (rs : List GuildCopy)
+    → (if has_bit v.intents guilds then map replica_id (filter (λ (r : GuildCopy). serves v r.guild) rs) else []) ≡ listed_guilds v (map guild_of rs)
 listed_is v rs = ap (λ (ids : List ℕ). if has_bit v.intents guilds then ids else []) (served_ids v rs)
 
 module _ (k : KeptWorker) (n : ℕ) (before : List Written) where
@@ -139,7 +139,7 @@ module _ (k : KeptWorker) (n : ℕ) (before : List Written) where
   by_viewer (Some x) v is f = ap f (sym (same_Some x.viewer v is))
 
   pub sets : (status : Status) (v : Viewer) (out : List Written) → option_map viewer_of (numbered n k.machine.core.sessions) ≡ Some v
-      → out ≡ before ++ all_written (flat_map (λ (r : Replica). wished (replica_id r) (presence_wish r.guild v status)) k.machine.logs) → Gives k n (Presence status) k before out
+      → out ≡ before ++ all_written (flat_map (λ (r : GuildCopy). wished (replica_id r) (presence_wish r.guild v status)) k.machine.logs) → Gives k n (Presence status) k before out
   sets status v out is sent =
       let all : Viewer → List Output = λ v. presence_wishes v status (map guild_of k.machine.logs) in (
         refl,
@@ -150,7 +150,7 @@ module _ (k : KeptWorker) (n : ℕ) (before : List Written) where
         ),
       )
 
-  pub speaks : (ask : VoiceAsk) (v : Viewer) (o : Option Replica) (out : List Written) → option_map viewer_of (numbered n k.machine.core.sessions) ≡ Some v
+  pub speaks : (ask : VoiceAsk) (v : Viewer) (o : Option GuildCopy) (out : List Written) → option_map viewer_of (numbered n k.machine.core.sessions) ≡ Some v
       → o ≡ find_id replica_id ask.guild k.machine.logs → out ≡ before ++ all_written (voice_wishes v ask (option_map guild_of o)) → Gives k n (Voice ask) k before out
   speaks ask v o out is found sent =
       let all : Viewer → List Output = λ v. voice_wishes v ask (record_at in_code k.machine.logs ask.guild) in (
@@ -173,7 +173,7 @@ when_if_ok P Q (Err e) f p = tt
 
 -- ---- the chunks of an answer, and the first dispatches
 
-pub answers_by : (k : KeptMachine) (ask : Ask) (v : Viewer) (r : Replica) → find_id replica_id ask.guild k.logs ≡ Some r
+pub answers_by : (k : KeptMachine) (ask : Ask) (v : Viewer) (r : GuildCopy) → find_id replica_id ask.guild k.logs ≡ Some r
     → answered_by v ask (record_at in_code k.logs ask.guild) ≡ answered r.guild v ask
 answers_by k ask v r found = ap (answered_by v ask) (find_guild ask.guild k.logs ∙ ap (option_map guild_of) found)
 
@@ -185,10 +185,10 @@ name_of x = x.name
 
 pub greeted_at : (k : KeptMachine) (n : ℕ) (o : Option (Session Replay)) (v : Viewer) (name : List ℕ) (r : Greeted) (start pushed list : List Dispatch)
     → option_map viewer_of o ≡ Some v → option_map name_of o ≡ Some name → r ≡ ready in_code k v name n → start ≡ [] → pushed ≡ start ++ Ready r ∷ []
-    → list ≡ pushed ++ flat_map (λ (r : Replica). greeting_of v r.guild) k.logs → option_map_or (greeted k n) o [] ≡ list
+    → list ≡ pushed ++ flat_map (λ (r : GuildCopy). greeting_of v r.guild) k.logs → option_map_or (greeted k n) o [] ≡ list
 greeted_at k n None v name r start pushed list is named made empty one all = absurd (cc is)
 greeted_at k n (Some x) v name r start pushed list is named made empty one all =
-    let rest : List Dispatch = flat_map (λ (r : Replica). greeting_of v r.guild) k.logs in
+    let rest : List Dispatch = flat_map (λ (r : GuildCopy). greeting_of v r.guild) k.logs in
     let whole : list ≡ Ready r ∷ rest = all ∙ ap (λ (ds : List Dispatch). ds ++ rest) (one ∙ ap (λ (ds : List Dispatch). ds ++ Ready r ∷ []) empty) in
     ap (λ (w : Viewer). first_dispatches in_code k w x.name n) (same_Some x.viewer v is)
     ∙ (ap (λ (m : List ℕ). first_dispatches in_code k v m n) (same_Some x.name name named)

@@ -14,7 +14,7 @@ use Rattle.world_law.specs.Sent.{Sent}
 use Rattle.world_law.specs.Model.{Logs, in_model}
 use Rattle.world_law.specs.Inputs.{Input, taken}
 use Rattle.worker_core.specs.declared.io.StepFault.{StepFault}
-use Rattle.worker_core.specs.declared.replica.Replica.{Replica}
+use Rattle.guild_replica.specs.Replicas.{GuildCopy}
 
 -- the text of a dispatch as it is sent (Gateway, Payload Structure)
 abbrev pub wire_text : ℕ → Dispatch → List ℕ
@@ -24,20 +24,20 @@ wire_text number dispatch = compact_text (data_of dispatch number)
 abbrev pub wire_model : Keeping Sent Logs
 wire_model = in_model wire_text
 
-abbrev pub replica_id : Replica → ℕ
+abbrev pub replica_id : GuildCopy → ℕ
 replica_id r = r.guild.id
 
-abbrev pub guild_of : Replica → Record
+abbrev pub guild_of : GuildCopy → Record
 guild_of r = r.guild
 
-abbrev pub replica_of : Record → Replica
+abbrev pub replica_of : Record → GuildCopy
 replica_of s = record { guild = s }
 
 -- with dispatches more
 abbrev pub held_with : List Dispatch → Replay → Replay
 held_with ds held = pushed_all held (texts_from wire_text held.last ds)
 
-abbrev pub in_code : Keeping Replay (List Replica)
+abbrev pub in_code : Keeping Replay (List GuildCopy)
 in_code = record {
   text = wire_text;
   records = λ replicas. map guild_of replicas;
@@ -53,7 +53,7 @@ in_code = record {
 }
 
 abbrev pub KeptMachine : Type 0
-KeptMachine = Machine Replay (List Replica)
+KeptMachine = Machine Replay (List GuildCopy)
 
 -- a worker's value: the fault by which it is finished, if it is, and the number of dispatches of the sessions that
 -- have ended, or 2^64 - 1 if there are more

@@ -13,12 +13,13 @@ ghost use Rattle.worker_core.specs.Telling.{TellsAt, FailsAt};
 
 use crate::form_index::FormIndex;
 use crate::io::{Output, StepFault};
+use crate::recipients::Recipients;
 use crate::tell::{envelopes_of, tell_written};
 use dispatch_equality::same_list;
 use dispatch_types::{Dispatch, Viewer};
 use edit_apply::Edit;
-use edit_events::{Was, events, form_for};
-use guild_model::Guild;
+use edit_events::{Was, events};
+use guild_replica::Replica;
 use payload_text::Envelope;
 use session_core::Sessions;
 use std::alloc::{AllocError, Global};
@@ -127,25 +128,26 @@ impl DueLists {
         }
     }
 
-    // The index of what an accepted entry owes to a viewer. A viewer in a form seen before reuses that
-    // form's list.
+    // The index of what an accepted entry owes to a viewer, whose user has an index too. A viewer in a form
+    // seen before reuses that form's list.
     fn index_for(
         &mut self,
-        guild: &Guild,
+        replica: &Replica,
         entry: &Edit,
         was: &Was,
         viewer: &Viewer,
+        user: usize,
     ) -> Result<usize, AllocError>
-        ensures due { IfOk result (λ index. (s : Record) → was.now ≡ was_of s viewer.now entry.now → guild.now ≡ applied s entry.now → accepts s entry.now ≡ true
+        ensures due { IfOk result (λ index. (s : Record) → was.now ≡ was_of s viewer.now entry.now → replica.now.guild ≡ applied s entry.now → accepts s entry.now ≡ true
             → AreDue s entry.now self.old.told.items self.old.forms
             → (slice_get self.new.told.items index ≡ Some (due s entry.now viewer.now)) × AreDue s entry.now self.new.told.items self.new.forms) }
         ensures longer { OnOk result (IsLonger self.old.told.items self.new.told.items) }
     {
-        let form = form_for(guild, entry, was, viewer);
+        let form = replica.form_for(entry, was, viewer, user);
         if let Some(index) = self.forms.index(form) {
             return Ok(index);
         }
-        let due = events(self.alloc, guild, entry, was, viewer)?;
+        let due = events(self.alloc, replica.guild(), entry, was, viewer)?;
         let index = index_of(self.alloc, &mut self.told, due)?;
         self.forms.keep(form, index);
         Ok(index)
@@ -174,20 +176,22 @@ impl DueDispatches {
     /// before it.
     pub fn of(
         alloc: Global,
-        guild: &Guild,
+        replica: &Replica,
         entry: &Edit,
         notes: &[Was],
-        viewers: &[Viewer],
+        recipients: &Recipients,
     ) -> Result<DueDispatches, AllocError>
-        requires { length notes.now ≡ length viewers.now }
-        ensures { IfOk result (λ o. (s : Record) → notes.now ≡ map (λ v. was_of s v entry.now) viewers.now → guild.now ≡ applied s entry.now → accepts s entry.now ≡ true
-            → Picks o.told.items o.whose.items (map (due s entry.now) viewers.now)) }
+        requires { length notes.now ≡ length recipients.now.viewers.items }
+        ensures { IfOk result (λ o. (s : Record) → notes.now ≡ map (λ v. was_of s v entry.now) recipients.now.viewers.items → replica.now.guild ≡ applied s entry.now → accepts s entry.now ≡ true
+            → Picks o.told.items o.whose.items (map (due s entry.now) recipients.now.viewers.items)) }
     {
+        let viewers = recipients.viewers.as_slice();
         let mut whose = Vec::with_capacity(alloc, viewers.len())?;
         let mut lists = DueLists::new(alloc);
         for index in 0..viewers.len() {
             let (was, viewer) = (&notes[index], &viewers[index]);
-            let due = lists.index_for(guild, entry, was, viewer)?;
+            let user = recipients.user_of(index);
+            let due = lists.index_for(replica, entry, was, viewer, user)?;
             whose.push(due)?;
         }
         Ok(DueDispatches {

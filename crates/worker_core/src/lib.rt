@@ -9,14 +9,12 @@ mod look;
 mod made;
 mod ready;
 mod recipients;
-pub mod replica;
-mod tell;
+pub mod tell;
 mod wish;
 pub mod wished_edit;
 pub mod worker;
 
 pub use io::{Input, Output, StepFault};
 pub use made::Made;
-pub use replica::Replica;
 pub use wished_edit::WishedEdit;
 pub use worker::Worker;

@@ -20,6 +20,7 @@ use dispatch_types::Viewer;
 use edit_apply::{Edit, judge, make};
 use edit_events::{Was, note};
 use guild_model::Guild;
+use guild_replica::Replica;
 use session_core::Sessions;
 use std::alloc::{AllocError, Global};
 
@@ -72,43 +73,43 @@ fn apply_one(alloc: Global, guild: &mut Guild, entry: &Edit) -> Result<(), Alloc
 /// changes nothing.
 fn enter(
     alloc: Global,
-    guild: &mut Guild,
+    replica: &mut Replica,
     entry: &Edit,
     recipients: &Recipients,
     sessions: &mut Sessions,
     out: &mut Vec<Output>,
 ) -> Result<(), StepFault>
     requires { Picks recipients.now.viewers.items recipients.now.whose.items (map viewer_of sessions.old.sessions) }
-    ensures guild { OnOk result (guild.new ≡ after guild.old entry.now) }
-    ensures told { MatchResult result (λ _. TellsEach guild.old entry.now sessions.old sessions.new out.old.items out.new.items) (FailsEach guild.old entry.now sessions.old) }
+    ensures guild { OnOk result (replica.new.guild ≡ after replica.old.guild entry.now) }
+    ensures told { MatchResult result (λ _. TellsEach replica.old.guild entry.now sessions.old sessions.new out.old.items out.new.items) (FailsEach replica.old.guild entry.now sessions.old) }
 {
-    if judge(guild, entry).is_err() {
+    if judge(replica.guild(), entry).is_err() {
         return Ok(());
     }
     let viewers = recipients.viewers.as_slice();
-    let notes = notes(alloc, guild, entry, viewers)?;
-    make(alloc, guild, entry.copy(alloc)?)?;
-    let lists = DueDispatches::of(alloc, guild, entry, notes.as_slice(), viewers)?;
+    let notes = notes(alloc, replica.guild(), entry, viewers)?;
+    replica.make(alloc, entry)?;
+    let lists = DueDispatches::of(alloc, replica, entry, notes.as_slice(), recipients)?;
     tell_each(&lists, recipients, sessions, out)
 }
 
 /// Entries in their order.
 pub fn look(
     alloc: Global,
-    guild: &mut Guild,
+    replica: &mut Replica,
     entries: &[Edit],
     recipients: &Recipients,
     sessions: &mut Sessions,
     out: &mut Vec<Output>,
 ) -> Result<(), StepFault>
     requires { Picks recipients.now.viewers.items recipients.now.whose.items (map viewer_of sessions.old.sessions) }
-    ensures guild { OnOk result (guild.new ≡ state_from guild.old entries.now) }
-    ensures sessions { OnOk result (sessions.new ≡ with_sessions (kept_looked guild.old entries.now sessions.old.sessions) sessions.old) }
-    ensures out { OnOk result (out.new.items ≡ out.old.items ++ all_written (kept_sends guild.old entries.now sessions.old.sessions)) }
-    ensures spent { MatchResult result (λ _. kept_spends guild.old entries.now sessions.old.sessions ≡ false) (FaultBy (kept_spends guild.old entries.now sessions.old.sessions)) }
+    ensures guild { OnOk result (replica.new.guild ≡ state_from replica.old.guild entries.now) }
+    ensures sessions { OnOk result (sessions.new ≡ with_sessions (kept_looked replica.old.guild entries.now sessions.old.sessions) sessions.old) }
+    ensures out { OnOk result (out.new.items ≡ out.old.items ++ all_written (kept_sends replica.old.guild entries.now sessions.old.sessions)) }
+    ensures spent { MatchResult result (λ _. kept_spends replica.old.guild entries.now sessions.old.sessions ≡ false) (FaultBy (kept_spends replica.old.guild entries.now sessions.old.sessions)) }
 {
     for entry in entries {
-        enter(alloc, guild, entry, recipients, sessions, out)?;
+        enter(alloc, replica, entry, recipients, sessions, out)?;
     }
     Ok(())
 }

@@ -7,10 +7,10 @@ ghost use Rattle.dispatch_types.specs.Serves.{serves};
 ghost use Rattle.world_law.specs.Greeting.{greeting_of};
 ghost use Rattle.worker_core.specs.InCode.{replica_id};
 
-use crate::replica::Replica;
 use collections::Seq;
 use dispatch_types::{Dispatch, Viewer, served, serves};
 use edit_events::greeting;
+use guild_replica::Replica;
 use intent_set::Intents;
 use snowflake_id::Snowflake;
 use std::alloc::{AllocError, Global};
@@ -28,8 +28,9 @@ pub fn ready_guilds(
         return Ok(ids);
     }
     for replica in replicas {
-        if serves(&replica.guild, viewer) {
-            ids.push(replica.guild.id)?;
+        let guild = replica.guild();
+        if serves(guild, viewer) {
+            ids.push(guild.id)?;
         }
     }
     Ok(ids)
@@ -48,11 +49,12 @@ pub fn guild_creates(
         return Ok(());
     }
     for replica in replicas {
-        let Some(me) = served(&replica.guild, viewer) else {
+        let guild = replica.guild();
+        let Some(me) = served(guild, viewer) else {
             continue;
         };
-        if !replica.guild.outage {
-            let create = greeting(alloc, &replica.guild, viewer, me)?;
+        if !guild.outage {
+            let create = greeting(alloc, guild, viewer, me)?;
             list.push(Dispatch::GuildCreate(create))?;
         }
     }

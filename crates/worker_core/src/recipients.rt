@@ -6,6 +6,7 @@ ghost use Rattle.worker_core.specs.Recipients.{Picks, IsLonger, picked_by, viewe
 
 use dispatch_types::Viewer;
 use session_core::Sessions;
+use snowflake_id::Snowflake;
 use std::alloc::{AllocError, Global};
 
 /// The viewers of sessions, each once, and for each session, by its index, the index of its viewer.
@@ -14,13 +15,24 @@ pub struct Recipients {
     pub viewers: Vec<Viewer>,
     /// For each session, by its index, the index of its viewer.
     pub whose: Vec<usize>,
+    /// The users of the viewers, each once.
+    pub users: Vec<Snowflake>,
+    /// For each viewer, by its index, the index of its user.
+    users_of: Vec<usize>,
 }
 
 impl Drop for Recipients {
     fn drop(self) {
-        let Recipients { viewers, whose } = self;
+        let Recipients {
+            viewers,
+            whose,
+            users,
+            users_of,
+        } = self;
         drop(viewers);
         drop(whose);
+        drop(users);
+        drop(users_of);
     }
 }
 
@@ -37,12 +49,39 @@ fn index_of(viewers: &mut Vec<Viewer>, viewer: &Viewer) -> Result<usize, AllocEr
     Ok(index)
 }
 
+// The index of a user in a list, to which it is added if it is not in it.
+fn index_of_user(users: &mut Vec<Snowflake>, user: Snowflake) -> Result<usize, AllocError> {
+    if let Some(index) = users.iter().position(|one| *one == user) {
+        return Ok(index);
+    }
+    let index = users.len();
+    users.push(user)?;
+    Ok(index)
+}
+
+// The viewers of these sessions, each once, and for each session the index of its viewer.
+fn viewers_of(alloc: Global, sessions: &Sessions) -> Result<(Vec<Viewer>, Vec<usize>), AllocError>
+    ensures { IfOk result (λ lists. Picks lists.0.items lists.1.items (map viewer_of sessions.now.sessions)) }
+{
+    let mut viewers = Vec::new(alloc);
+    let mut whose = Vec::with_capacity(alloc, sessions.len())?;
+    for index in 0..sessions.len() {
+        let Some(viewer) = sessions.viewer_at(index) else {
+            return Ok((viewers, whose));
+        };
+        whose.push(index_of(&mut viewers, viewer)?)?;
+    }
+    Ok((viewers, whose))
+}
+
 impl Recipients {
     /// Those of no session. Does not allocate.
     pub fn none(alloc: Global) -> Recipients {
         Recipients {
             viewers: Vec::new(alloc),
             whose: Vec::new(alloc),
+            users: Vec::new(alloc),
+            users_of: Vec::new(alloc),
         }
     }
 
@@ -83,18 +122,26 @@ impl Recipients {
         Ok(())
     }
 
-    /// The viewers of these sessions.
+    /// The index of the user of the viewer at an index.
+    pub fn user_of(&self, viewer: usize) -> usize {
+        self.users_of.get(viewer).copied().unwrap_or(0)
+    }
+
+    /// The viewers of these sessions, and their users.
     fn of(alloc: Global, sessions: &Sessions) -> Result<Recipients, AllocError>
         ensures { IfOk result (λ recipients. Picks recipients.viewers.items recipients.whose.items (map viewer_of sessions.now.sessions)) }
     {
-        let mut viewers = Vec::new(alloc);
-        let mut whose = Vec::with_capacity(alloc, sessions.len())?;
-        for index in 0..sessions.len() {
-            let Some(viewer) = sessions.viewer_at(index) else {
-                return Ok(Recipients { viewers, whose });
-            };
-            whose.push(index_of(&mut viewers, viewer)?)?;
+        let (viewers, whose) = viewers_of(alloc, sessions)?;
+        let mut users = Vec::new(alloc);
+        let mut users_of = Vec::with_capacity(alloc, viewers.len())?;
+        for viewer in viewers.as_slice() {
+            users_of.push(index_of_user(&mut users, viewer.user)?)?;
         }
-        Ok(Recipients { viewers, whose })
+        Ok(Recipients {
+            viewers,
+            whose,
+            users,
+            users_of,
+        })
     }
 }

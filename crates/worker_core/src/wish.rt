@@ -7,12 +7,12 @@ ghost use Rattle.worker_core.specs.Outputs.{all_written};
 ghost use Rattle.worker_core.specs.InCode.{replica_id};
 
 use crate::io::{Output, put};
-use crate::replica::Replica;
 use crate::wished_edit::WishedEdit;
 use dispatch_types::Viewer;
 use edit_apply::Edit;
 use gateway_frames::VoiceAsk;
 use guild_model::Status;
+use guild_replica::Replica;
 use snowflake_id::Snowflake;
 use std::alloc::{AllocError, Global};
 use wishes::{presence_wish, voice_wish};
@@ -43,8 +43,9 @@ pub fn wish_presence(
     ensures { OnOk result (out.new.items ≡ out.old.items ++ all_written (flat_map (λ r. wished (replica_id r) (presence_wish r.guild viewer.now status)) replicas.now)) }
 {
     for replica in replicas {
-        let wish = presence_wish(&replica.guild, viewer, status);
-        put_wish(alloc, out, replica.guild.id, wish)?;
+        let guild = replica.guild();
+        let wish = presence_wish(guild, viewer, status);
+        put_wish(alloc, out, guild.id, wish)?;
     }
     Ok(())
 }
@@ -59,6 +60,7 @@ pub fn wish_voice(
 ) -> Result<(), AllocError>
     ensures { OnOk result (out.new.items ≡ out.old.items ++ all_written (wished (replica_id replica.now) (voice_wish replica.now.guild viewer.now ask.now))) }
 {
-    let wish = voice_wish(&replica.guild, viewer, ask);
-    put_wish(alloc, out, replica.guild.id, wish)
+    let guild = replica.guild();
+    let wish = voice_wish(guild, viewer, ask);
+    put_wish(alloc, out, guild.id, wish)
 }

@@ -36,7 +36,6 @@ use crate::look::{apply_each, look};
 use crate::made::{Made, counted_more, live_dispatches};
 use crate::ready::{guild_creates, ready_guilds};
 use crate::recipients::Recipients;
-use crate::replica::Replica;
 use crate::tell::tell;
 use crate::wish::{wish_presence, wish_voice};
 use collections::{ById, Text};
@@ -44,6 +43,7 @@ use dispatch_types::{Dispatch, Ready, Viewer};
 use edit_apply::Edit;
 use gateway_frames::{Ask, Out, VoiceAsk};
 use guild_model::{Guild, Status, User};
+use guild_replica::Replica;
 use member_chunks::answer;
 use payload_text::Payload;
 use session_core::{Bot, Holder, Mark, Reply, SessionFault, Sessions, Spent};
@@ -110,9 +110,7 @@ impl Worker {
     {
         let mut replicas = ById::new(alloc);
         for id in guilds {
-            replicas.put(Replica {
-                guild: Guild::closed(alloc, *id),
-            })?;
+            replicas.put(Replica::new(alloc, Guild::closed(alloc, *id)))?;
         }
         Ok(Worker {
             alloc,
@@ -230,7 +228,7 @@ impl Worker {
         let Some(mut replica) = self.take_replica(guild) else {
             return Ok(Vec::new(self.alloc));
         };
-        let out = self.follow(&mut replica.guild, entries)?;
+        let out = self.follow(&mut replica, entries)?;
         self.put_replica(replica);
         Ok(out)
     }
@@ -246,10 +244,8 @@ impl Worker {
         if !self.has_replica(guild) {
             return None;
         }
-        let replica = self.replicas.exchange(Replica {
-            guild: Guild::closed(self.alloc, guild),
-        });
-        Some(replica)
+        let empty = Replica::new(self.alloc, Guild::closed(self.alloc, guild));
+        Some(self.replicas.exchange(empty))
     }
 
     /// Whether the worker has a guild.
@@ -279,18 +275,19 @@ impl Worker {
     }
 
     /// Handles the entries of a guild, for its record and for each session.
-    fn follow(&mut self, guild: &mut Guild, entries: &[Edit]) -> Result<Vec<Output>, StepFault>
-        ensures guild { OnOk result (guild.new ≡ state_from guild.old entries.now) }
-        ensures core { OnOk result (self.new ≡ record self.old { machine = record self.old.machine { core = with_sessions (kept_looked guild.old entries.now self.old.machine.core.sessions) self.old.machine.core } }) }
-        ensures out { IfOk result (λ out. out.items ≡ all_written (kept_sends guild.old entries.now self.old.machine.core.sessions)) }
-        ensures spent { MatchResult result (λ _. kept_spends guild.old entries.now self.old.machine.core.sessions ≡ false) (FaultBy (kept_spends guild.old entries.now self.old.machine.core.sessions)) }
+    fn follow(&mut self, replica: &mut Replica, entries: &[Edit]) -> Result<Vec<Output>, StepFault>
+        ensures guild { OnOk result (replica.new.guild ≡ state_from replica.old.guild entries.now) }
+        ensures core { OnOk result (self.new ≡ record self.old { machine = record self.old.machine { core = with_sessions (kept_looked replica.old.guild entries.now self.old.machine.core.sessions) self.old.machine.core } }) }
+        ensures out { IfOk result (λ out. out.items ≡ all_written (kept_sends replica.old.guild entries.now self.old.machine.core.sessions)) }
+        ensures spent { MatchResult result (λ _. kept_spends replica.old.guild entries.now self.old.machine.core.sessions ≡ false) (FaultBy (kept_spends replica.old.guild entries.now self.old.machine.core.sessions)) }
         ensures live { length (live self.old.machine.core) ≡ length self.old.machine.core.sessions }
     {
         let mut out = Vec::with_capacity(self.alloc, self.room_for(entries))?;
         self.recipients.update(self.alloc, &self.sessions)?;
+        replica.keep_masks(self.alloc, self.recipients.users.as_slice())?;
         look(
             self.alloc,
-            guild,
+            replica,
             entries,
             &self.recipients,
             &mut self.sessions,
@@ -324,7 +321,7 @@ impl Worker {
     {
         let mut guild = basis;
         apply_each(self.alloc, &mut guild, entries)?;
-        self.replicas.put(Replica { guild })?;
+        self.replicas.put(Replica::new(self.alloc, guild))?;
         Ok(())
     }
 
@@ -565,7 +562,7 @@ impl Worker {
         ensures { IfOk result (λ list. list.items ≡ answered_by viewer.now ask.now (record_at in_code self.now.machine.logs ask.now.guild)) }
     {
         match self.replica(ask.guild) {
-            Some(replica) => answer(self.alloc, &replica.guild, viewer, ask),
+            Some(replica) => answer(self.alloc, replica.guild(), viewer, ask),
             None => Ok(Vec::new(self.alloc)),
         }
     }

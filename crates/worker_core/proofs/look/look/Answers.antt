@@ -21,12 +21,12 @@ returns-in_err-enter-clause-spent c =
     let i = c.loop-entry.entry-index in
     let es : List Edit = c.args.entries.now in
     let e : Edit = c.entry-item.result in
-    let g = c.loop-entry.guild in
+    let g = c.loop-entry.replica.guild in
     let lt : i < length es = omega arith in
     let rest = rest_dropped es i e lt (sym c.entry-item.is) in
     let fault : StepFault = c.in_err-enter.field-0.0 in
     let p = err_from_is_err_and c.from_residual.result c.from_residual.ensures.1 in
-    rw p.1 (subst (λ (f : StepFault). FaultBy (kept_spends c.args.guild.now es c.args.sessions.now.sessions) f) (sym p.2)
+    rw p.1 (subst (λ (f : StepFault). FaultBy (kept_spends c.args.replica.now.guild es c.args.sessions.now.sessions) f) (sym p.2)
     (subst (λ b. FaultBy b fault) c.loop-entry.invariant.spent
     (subst (λ (ds : List Edit). FaultBy (kept_spends g ds c.loop-entry.sessions.sessions) fault) (sym rest)
     (spent_first g e (drop (i + 1) es) c.loop-entry.sessions fault c.in_err-enter.ensures.told))))
@@ -36,7 +36,7 @@ loop-entry-preserved c =
     let i = c.loop-entry.entry-index in
     let es : List Edit = c.args.entries.now in
     let e : Edit = c.entry-item.result in
-    let g = c.loop-entry.guild in
+    let g = c.loop-entry.replica.guild in
     let s = c.loop-entry.sessions in
     let later : List Edit = drop (i + 1) es in
     let lt : i < length es = omega arith in

@@ -9,8 +9,8 @@ use Rattle.world_law.specs.Keeping.{with_sessions}
 abbrev pub invariant-loop-entry : goal.invariant-loop-entry
 invariant-loop-entry l = record {
   recipients : Picks l.recipients.viewers.items l.recipients.whose.items (map viewer_of l.sessions.sessions);
-  guild : state_from l.guild (drop l.entry-index l.entries) ≡ state_from l.fn.guild l.entries;
-  sessions : with_sessions (kept_looked l.guild (drop l.entry-index l.entries) l.sessions.sessions) l.sessions ≡ with_sessions (kept_looked l.fn.guild l.entries l.fn.sessions.sessions) l.fn.sessions;
-  out : l.out.items ++ all_written (kept_sends l.guild (drop l.entry-index l.entries) l.sessions.sessions) ≡ l.fn.out.items ++ all_written (kept_sends l.fn.guild l.entries l.fn.sessions.sessions);
-  spent : kept_spends l.guild (drop l.entry-index l.entries) l.sessions.sessions ≡ kept_spends l.fn.guild l.entries l.fn.sessions.sessions;
+  guild : state_from l.replica.guild (drop l.entry-index l.entries) ≡ state_from l.fn.replica.guild l.entries;
+  sessions : with_sessions (kept_looked l.replica.guild (drop l.entry-index l.entries) l.sessions.sessions) l.sessions ≡ with_sessions (kept_looked l.fn.replica.guild l.entries l.fn.sessions.sessions) l.fn.sessions;
+  out : l.out.items ++ all_written (kept_sends l.replica.guild (drop l.entry-index l.entries) l.sessions.sessions) ≡ l.fn.out.items ++ all_written (kept_sends l.fn.replica.guild l.entries l.fn.sessions.sessions);
+  spent : kept_spends l.replica.guild (drop l.entry-index l.entries) l.sessions.sessions ≡ kept_spends l.fn.replica.guild l.entries l.fn.sessions.sessions;
 }

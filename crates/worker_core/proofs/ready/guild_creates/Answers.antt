@@ -8,12 +8,12 @@ use Rattle.guild_model.specs.declared.member.Member.{Member}
 use Rattle.dispatch_types.specs.Serves.{served}
 use Rattle.dispatch_types.specs.declared.viewer.Viewer.{Viewer}
 use Rattle.world_law.specs.Greeting.{greeting_for, greeting_of}
-use Rattle.worker_core.specs.declared.replica.Replica.{Replica}
+use Rattle.guild_replica.specs.Replicas.{GuildCopy}
 use Rattle.worker_core.proofs.ready.guild_creates.Goals as goal
 
-none_greeted : (v : Viewer) (rs : List Replica) → has_bit v.intents guilds ≡ false → flat_map (λ (r : Replica). greeting_of v r.guild) rs ≡ []
+none_greeted : (v : Viewer) (rs : List GuildCopy) → has_bit v.intents guilds ≡ false → flat_map (λ (r : GuildCopy). greeting_of v r.guild) rs ≡ []
 none_greeted v [] lacks = refl
-none_greeted v (r ∷ rs) lacks = ap (λ ds. ds ++ flat_map (λ (r : Replica). greeting_of v r.guild) rs) (one (served v r.guild)) ∙ none_greeted v rs lacks
+none_greeted v (r ∷ rs) lacks = ap (λ ds. ds ++ flat_map (λ (r : GuildCopy). greeting_of v r.guild) rs) (one (served v r.guild)) ∙ none_greeted v rs lacks
   where
     one : (me : Option Member) → greeting_for v r.guild me ≡ []
     one None = refl

@@ -15,14 +15,14 @@ loop-index-init c s noted is accepted =
 
 pub loop-index-preserved : goal.loop-index-preserved
 loop-index-preserved c s noted is accepted =
-    let vs : List Viewer = c.args.viewers.now in
+    let vs : List Viewer = c.args.recipients.now.viewers.items in
     let i = c.loop-index.index in
     let e = c.args.entry.now in
     let lt : i < length vs = omega arith in
     let here = item_at vs i lt in
     let v : Viewer = c.index-viewers-index.result in
     let was : Was = c.index-notes-index.result in
-    let viewed : v ≡ here.item = c.index-viewers-index.is ∙ get_or_from_slice_get vs i here.item v here.found in
+    let viewed : v ≡ here.item = rw c.as_slice-viewers.ensures.value at c.index-viewers-index.is ∙ get_or_from_slice_get vs i here.item v here.found in
     let kept : was ≡ was_of s here.item e =
     c.index-notes-index.is ∙ get_or_from_slice_get c.args.notes.now i (was_of s here.item e) was
     (ap (λ ns. slice_get ns i) noted ∙ (slice_get-map (λ (w : Viewer). was_of s w e) vs i ∙ ap (option_map (λ (w : Viewer). was_of s w e)) here.found)) in

@@ -1,6 +1,7 @@
 -- The chunks of a guild that the worker follows.
 use Rattle.std.proofs.Common.{◌≡◌, Vec, Global, sym, ap, ◌∙◌}
 use Rattle.std.specs.Option.{option_copied}
+use Rattle.guild_model.specs.Record.{Record}
 use Rattle.dispatch_types.specs.declared.dispatch.Dispatch.{Dispatch}
 use Rattle.member_chunks.specs.Answered.{answered}
 use Rattle.world_law.specs.Keeping.{record_at}
@@ -14,10 +15,10 @@ returns-in-Some c =
     let k : KeptMachine = c.args.self.now.machine in
     let ask = c.args.ask.now in
     let v = c.args.viewer.now in
-    let g = c.in-Some.replica.now.guild in
+    let g = c.guild.result.now in
     when_if_ok (λ (list : Vec Dispatch Global). list.items ≡ answered g v ask)
     (λ (list : Vec Dispatch Global). list.items ≡ answered_by v ask (record_at in_code k.logs ask.guild)) c.answer.result
-    (λ list is. is ∙ sym (answers_by k ask v c.in-Some.replica.now (sym c.replica.ensures ∙ ap option_copied c.in-Some.is))) c.answer.ensures
+    (λ list is. is ∙ (ap (λ (s : Record). answered s v ask) c.guild.ensures ∙ sym (answers_by k ask v c.in-Some.replica.now (sym c.replica.ensures ∙ ap option_copied c.in-Some.is)))) c.answer.ensures
 
 pub returns-in-None : goal.returns-in-None
 returns-in-None c =

@@ -4,7 +4,7 @@ use Rattle.std.specs.Prelude.{flat_map}
 use Rattle.std.specs.Option.{option_copied}
 use Rattle.world_law.specs.Greeting.{greeting_of}
 use Rattle.worker_core.specs.InCode.{KeptMachine}
-use Rattle.worker_core.specs.declared.replica.Replica.{Replica}
+use Rattle.guild_replica.specs.Replicas.{GuildCopy}
 use Rattle.worker_core.proofs.Numbering.{greeted_held, nobody_held}
 use Rattle.worker_core.proofs.worker.Worker.first_dispatches.Goals as goal
 
@@ -21,7 +21,7 @@ returns-clause-list c =
     let k : KeptMachine = record { url = c.self.inside.url; now = c.self.inside.clock; chunks = c.self.inside.chunks; logs = c.self.inside.replicas; core = c.self.inside.sessions } in
     rw (← c.self.view_is) (greeted_held k c.args.session c.in-Some.holder.now c.in_ok-ready.field-0 c.viewer-viewer.result c.new-list.result.items c.push.new.self.items c.guild_creates.new.list.items
     (sym (ap option_copied c.in-Some.is) ∙ c.holder.ensures.holder) c.viewer-viewer.ensures (rw (← c.self.view_is) at c.in_ok-ready.ensures) c.new-list.ensures.items c.in_ok-push.ensures.items
-    (c.in_ok-guild_creates.ensures ∙ ap (λ (rs : List Replica). c.push.new.self.items ++ flat_map (λ (r : Replica). greeting_of c.viewer-viewer.result r.guild) rs) c.as_slice.ensures.items))
+    (c.in_ok-guild_creates.ensures ∙ ap (λ (rs : List GuildCopy). c.push.new.self.items ++ flat_map (λ (r : GuildCopy). greeting_of c.viewer-viewer.result r.guild) rs) c.as_slice.ensures.items))
 
 pub returns-clause-once : goal.returns-clause-once
 returns-clause-once c = rw (← c.self.view_is) c.holder.ensures.once

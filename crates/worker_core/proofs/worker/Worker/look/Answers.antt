@@ -5,7 +5,7 @@ use Rattle.std.specs.Prelude.{IsSome}
 use Rattle.collections.specs.ById.{find_id, put_id}
 use Rattle.world_law.specs.Keeping.{with_sessions}
 use Rattle.world_law.specs.Inputs.{Look}
-use Rattle.worker_core.specs.declared.replica.Replica.{Replica}
+use Rattle.guild_replica.specs.Replicas.{GuildCopy}
 use Rattle.worker_core.specs.declared.io.StepFault.{StepFault}
 use Rattle.worker_core.specs.InCode.{replica_id, KeptWorker}
 use Rattle.worker_core.specs.Looked.{kept_looked}
@@ -20,7 +20,7 @@ returns-in_default c =
 pub returns-in_err-out : goal.returns-in_err-out
 returns-in_err-out c =
     let k : KeptWorker = c.args.self.now in
-    let r : Replica = c.in-Some.replica in
+    let r : GuildCopy = c.in-Some.replica in
     let one = c.take_replica.ensures.taken r c.in-Some.is in
     let p = err_from_is_err_and c.from_residual.result c.from_residual.ensures.1 in
     rw p.1 (subst (λ (f : StepFault). TakesNot k (Look c.args.guild c.args.entries.now) f) (sym p.2)
@@ -30,18 +30,18 @@ returns-in_err-out c =
 pub put_replica-requires : goal.put_replica-requires
 put_replica-requires c =
     let k : KeptWorker = c.args.self.now in
-    let r : Replica = c.in-Some.replica in
-    let there = is_there k.machine c.args.guild c.args.entries.now r (sym c.take_replica.ensures.found ∙ c.in-Some.is) (record { guild = c.follow.new.guild }) (ap (λ g. record { guild = g }) c.in_ok-out.ensures.guild) in
+    let r : GuildCopy = c.in-Some.replica in
+    let there = is_there k.machine c.args.guild c.args.entries.now r (sym c.take_replica.ensures.found ∙ c.in-Some.is) (record { guild = c.follow.new.replica.guild }) (ap (λ g. record { guild = g }) c.in_ok-out.ensures.guild) in
     let logs : c.follow.new.self.machine.logs ≡ put_id replica_id (empty c.args.guild) k.machine.logs =
     ap (λ (h : KeptWorker). h.machine.logs)
     (c.in_ok-out.ensures.core
     ∙ ap (λ (h : KeptWorker). record h { machine = record h.machine { core = with_sessions (kept_looked r.guild c.args.entries.now h.machine.core.sessions) h.machine.core } }) (c.take_replica.ensures.taken r c.in-Some.is)) in
-    subst (λ (rs : List Replica). IsSome (find_id replica_id (replica_id (record { guild = c.follow.new.guild })) rs)) (sym logs) there
+    subst (λ (rs : List GuildCopy). IsSome (find_id replica_id (replica_id (record { guild = c.follow.new.replica.guild })) rs)) (sym logs) there
 
 pub returns : goal.returns
 returns c =
     let k : KeptWorker = c.args.self.now in
-    let r : Replica = c.in-Some.replica in
+    let r : GuildCopy = c.in-Some.replica in
     let one = c.take_replica.ensures.taken r c.in-Some.is in
     look_made k c.args.guild c.args.entries.now r (sym c.take_replica.ensures.found ∙ c.in-Some.is) (live_at k c.take_replica.new.self _ one c.follow.ensures.live)
     c.take_replica.new.self c.follow.new.self c.put_replica.new.self _ c.in_ok-out.out.items c.take_replica.ensures.ascend

@@ -23,6 +23,6 @@ returns c = record {
         let done : drop c.loop-id.id-index c.args.guilds.now ≡ [] = no_more c.args.guilds.now c.loop-id.id-index (omega arith) in
         ap (map guild_of) (ap (λ gs. put_all replica_id c.loop-id.replicas (map first_replica gs)) (sym done) ∙ c.loop-id.invariant)
         ∙ first_records (put_all own_id [] c.args.guilds.now);
-    core = c.new.ensures;
+    core = c.new-2.ensures;
   };
 }

@@ -3,7 +3,7 @@ use Rattle.std.proofs.Common.{◌≡◌, ◌<◌, List, Some, length, ap, ◌∙
 use Rattle.std.specs.Prelude.{option_map}
 use Rattle.replay_ring.specs.Replay.{Replay}
 use Rattle.session_core.specs.State.{Session}
-use Rattle.worker_core.proofs.recipients.Recipients.of.Goals as goal
+use Rattle.worker_core.proofs.recipients.viewers_of.Goals as goal
 use Rattle.worker_core.proofs.Picking.{item_at, picks_next}
 use Rattle.worker_core.specs.Recipients.{viewer_of}
 

@@ -1,0 +1,138 @@
+//! A worker's copy of a guild.
+
+ghost use Rattle.std.specs.Prelude.{◌≡◌, true, OnOk, IfSome};
+ghost use Rattle.guild_model.specs.Record.{Record};
+ghost use Rattle.dispatch_types.specs.Serves.{served};
+ghost use Rattle.edit_apply.specs.Edits.{accepts, applied};
+ghost use Rattle.edit_events.specs.Forms.{form_between};
+ghost use Rattle.mask_cache.specs.Masks.{MasksOf};
+
+use crate::masks::{are_masks_of, masks_after, masks_of_each, masks_under};
+use collections::Keyed;
+use dispatch_types::Viewer;
+use edit_apply::{Edit, make};
+use edit_events::{Was, form_by, form_for};
+use guild_model::Guild;
+use mask_cache::Masks;
+use message_events::MessageForm;
+use snowflake_id::Snowflake;
+use std::alloc::{AllocError, Global};
+use std::marker::Model;
+use std::mem;
+
+/// A copy of a guild: the record after the entries of its log that were made, and masks of the bots that are
+/// served, from one entry to the next.
+pub struct Replica {
+    guild: Guild,
+    /// For each of the users that [`Replica::keep_masks`] was given, by its index, its masks on this very
+    /// record, if the guild is open and the user is a member.
+    masks: Vec<Option<Masks>>,
+}
+
+impl Drop for Replica {
+    fn drop(self) {
+        let Replica { guild, masks } = self;
+        drop(guild);
+        drop(masks);
+    }
+}
+
+impl Model for Replica {
+    ghost use Rattle.guild_replica.specs.Replicas.{GuildCopy, EachServed};
+
+    ghost Value = { GuildCopy };
+
+    ghost view = { λ r. record { guild = r.guild } };
+
+    ghost invariant = { λ r. EachServed r.guild r.masks.items };
+}
+
+impl Keyed for Replica {
+    ghost key = { λ r. r.guild.id };
+
+    fn key(&self) -> u64 {
+        self.guild.id.0
+    }
+}
+
+impl Replica {
+    /// A copy of a guild, without masks. Does not allocate.
+    pub fn new(alloc: Global, guild: Guild) -> Replica
+        ensures { result ≡ record { guild = guild } }
+    {
+        Replica {
+            guild,
+            masks: Vec::new(alloc),
+        }
+    }
+
+    /// The record.
+    pub fn guild(&self) -> &Guild
+        ensures { result.now ≡ self.now.guild }
+    {
+        &self.guild
+    }
+
+    /// Keeps the masks of those of these users who are members of the guild, if it is open, until it is given
+    /// other users.
+    ///
+    /// # Errors
+    /// Out of memory.
+    pub fn keep_masks(&mut self, alloc: Global, users: &[Snowflake]) -> Result<(), AllocError>
+        ensures { self.new ≡ self.old }
+    {
+        if are_masks_of(self.masks.as_slice(), &self.guild, users) {
+            return Ok(());
+        }
+        self.masks = masks_of_each(alloc, &self.guild, users)?;
+        Ok(())
+    }
+
+    /// Makes an edit that is accepted, and mends the masks.
+    ///
+    /// # Errors
+    /// Out of memory.
+    pub fn make(&mut self, alloc: Global, edit: &Edit) -> Result<(), AllocError>
+        requires { accepts self.old.guild edit.now ≡ true }
+        ensures { OnOk result (self.new.guild ≡ applied self.old.guild edit.now) }
+    {
+        let masks = mem::replace(&mut self.masks, Vec::new(alloc));
+        make(alloc, &mut self.guild, edit.copy(alloc)?)?;
+        self.masks = masks_after(alloc, masks, &self.guild, edit)?;
+        Ok(())
+    }
+
+    // The masks under an index, if they are those of the user.
+    fn masks_at(&self, index: usize, user: Snowflake) -> Option<&Masks>
+        ensures { IfSome result (λ masks. MasksOf self.now.guild user masks.now) }
+    {
+        let Some(Some(masks)) = masks_under(self.masks.as_slice(), index) else {
+            return None;
+        };
+        if masks.user() == user {
+            Some(masks)
+        } else {
+            None
+        }
+    }
+
+    /// How an edit of messages, reactions or typing is told a viewer that is served before and after it, by the
+    /// record after it; `None` exactly if it is another edit or the viewer is not. `index` is that of the
+    /// viewer's user among those of [`Replica::keep_masks`]; with another the answer is the same, and takes
+    /// longer. Does not allocate.
+    pub fn form_for(
+        &self,
+        edit: &Edit,
+        was: &Was,
+        viewer: &Viewer,
+        index: usize,
+    ) -> Option<MessageForm>
+        ensures { result ≡ form_between self.now.guild viewer.now was.now
+            (served viewer.now self.now.guild) edit.now }
+    {
+        match self.masks_at(index, viewer.user) {
+            Some(masks) => form_by(&self.guild, edit, was, viewer, masks),
+            None => form_for(&self.guild, edit, was, viewer),
+        }
+    }
+}
