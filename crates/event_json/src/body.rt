@@ -1,8 +1,7 @@
 //! The field `d` of a dispatch, both ways.
 
-ghost use Rattle.std.specs.Prelude.{◌≡◌, IfOk, OnOk, length};
+ghost use Rattle.std.specs.Prelude.{OnOk};
 ghost use Rattle.serde_json.specs.Data.{object, no_members};
-ghost use Rattle.serde_json.specs.Written.{compact_text};
 ghost use Rattle.object_json.specs.Added.{Adds};
 ghost use Rattle.event_json.specs.Body.{body_data, body_from, DispatchFits};
 ghost use Rattle.json_view.specs.Nodes.{view};
@@ -36,48 +35,6 @@ use object_json::field::{close, open};
 use object_json::readable::Readable;
 use object_json::written::Written;
 use std::alloc::{AllocError, Global};
-use std::marker::Model;
-
-/// The text of a dispatch's field `d`. It is the same for every session that is sent the dispatch.
-#[derive(Drop)]
-pub struct Body {
-    text: String,
-}
-
-impl Model for Body {
-    ghost use Rattle.std.specs.Prelude.{List, ℕ, string_bytes};
-
-    ghost Value = { List ℕ };
-
-    ghost view = { λ b. string_bytes b.text };
-}
-
-impl Body {
-    /// The text of the field `d` of a dispatch: compact, with the keys in byte order.
-    pub fn of(alloc: Global, of: &Dispatch) -> Result<Body, AllocError>
-        ensures text { IfOk result (λ body. body ≡ compact_text (body_data of.now)) }
-        ensures fits { OnOk result (DispatchFits of.now) }
-    {
-        let mut out = Writer::new(Vec::with_capacity(alloc, 256)?);
-        write_body(alloc, &mut out, of)?;
-        let text = String::from_utf8(out.into_inner()).unwrap();
-        Ok(Body { text })
-    }
-
-    /// The text.
-    pub fn as_str(&self) -> &str
-        ensures { result.now ≡ self.now }
-    {
-        self.text.as_str()
-    }
-
-    /// How many bytes there are.
-    pub fn len(&self) -> usize
-        ensures { result ≡ length self.now }
-    {
-        self.text.len()
-    }
-}
 
 fn empty(out: &mut Writer) -> Result<(), AllocError>
     ensures { Adds result out.old out.new (object no_members) }
@@ -87,7 +44,8 @@ fn empty(out: &mut Writer) -> Result<(), AllocError>
     Ok(())
 }
 
-fn write_body(alloc: Global, out: &mut Writer, of: &Dispatch) -> Result<(), AllocError>
+/// Writes the field `d` of a dispatch, with the keys in byte order.
+pub fn write_body(alloc: Global, out: &mut Writer, of: &Dispatch) -> Result<(), AllocError>
     ensures adds { Adds result out.old out.new (body_data of.now) }
     ensures fits { OnOk result (DispatchFits of.now) }
 {
