@@ -12,3 +12,4 @@ pub mod Others
 pub mod Noted
 pub mod Messages
 pub mod SameForms
+pub mod ByMasks

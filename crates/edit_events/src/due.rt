@@ -42,7 +42,7 @@ impl Drop for Was {
 }
 
 // Whether channels are withheld before an edit or after it, and it may change what is shown or tell of a channel.
-fn will_withhold(before: &Guild, edit: &Edit) -> bool
+pub(crate) fn will_withhold(before: &Guild, edit: &Edit) -> bool
     ensures { result ≡ will_withhold before.now edit.now }
 {
     match edit {
@@ -52,7 +52,7 @@ fn will_withhold(before: &Guild, edit: &Edit) -> bool
     }
 }
 
-fn shown_then(
+pub(crate) fn shown_then(
     alloc: Global,
     before: &Guild,
     me: &Member,
@@ -131,7 +131,7 @@ fn add_gone(
 }
 
 // Of the dispatches that are owed where nothing is withheld, those that are told.
-fn told(
+pub(crate) fn told(
     alloc: Global,
     shown: &Option<ShownBefore>,
     to: &Recipient<'_>,
@@ -146,7 +146,7 @@ fn told(
 }
 
 // The list of an edit for a viewer that is served before and after it.
-fn own_events(
+pub(crate) fn own_events(
     alloc: Global,
     was: &Was,
     to: &Recipient<'_>,
@@ -180,10 +180,12 @@ fn noted_events(
     let mut list = Vec::new(alloc);
     match (was.served, served(after, viewer)) {
         (false, None) => {}
-        (false, Some(me)) => add_created(alloc, &Recipient { after, viewer, me }, &mut list)?,
+        (false, Some(me)) => {
+            add_created(alloc, &Recipient::new(after, viewer, me), &mut list)?;
+        }
         (true, None) => add_gone(after.id, viewer, false, &mut list)?,
         (true, Some(me)) => {
-            return own_events(alloc, was, &Recipient { after, viewer, me }, edit);
+            return own_events(alloc, was, &Recipient::new(after, viewer, me), edit);
         }
     }
     Ok(list)

@@ -1,6 +1,7 @@
 //! The dispatch of each edit of messages, reactions and typing, in each form.
 
 ghost use Rattle.std.specs.Prelude.{◌≡◌, ◌++◌, Bool, IfOk, OnOk, option_map};
+ghost use Rattle.std.specs.Option.{option_to_list};
 ghost use Rattle.guild_model.specs.Heads.{find_head};
 ghost use Rattle.message_events.specs.Dispatches.{created, updated, deleted, reacted, unreacted, typed, user_of, message_whole, message_dispatches};
 ghost use Rattle.message_events.specs.Forms.{told_with, told_by, in_form};
@@ -154,6 +155,31 @@ pub fn in_form(
     }
 }
 
+/// Adds the dispatch of an edit for viewers of a form, by what was noted before the edit and the record after it.
+/// Nothing is added for the form [`MessageForm::Hidden`].
+///
+/// # Errors
+/// Out of memory.
+pub fn add_in_form(
+    alloc: Global,
+    form: MessageForm,
+    note: &MessageNote,
+    after: &Guild,
+    edit: &MessageEdit,
+    list: &mut Vec<Dispatch>,
+) -> Result<(), AllocError>
+    ensures { OnOk result (list.new.items
+        ≡ list.old.items ++ option_to_list (in_form form (message_whole after.now note.now edit.now))) }
+{
+    match in_form(alloc, form, note, after, edit)? {
+        Some(dispatch) => {
+            list.push(dispatch)?;
+            Ok(())
+        }
+        None => Ok(()),
+    }
+}
+
 /// Adds the dispatch of an edit if it is shown to the viewer, by what was noted before the edit and
 /// the record after it.
 #[tactic(auto, using(crate::proofs::Alike::dispatches_in_form))]
@@ -168,11 +194,5 @@ pub fn add_dispatches(
         ≡ list.old.items ++ message_dispatches to.now.after to.now.viewer note.now edit.now) }
 {
     let form = form_for(note, to.after, to.viewer, edit);
-    match in_form(alloc, form, note, to.after, edit)? {
-        Some(dispatch) => {
-            list.push(dispatch)?;
-            Ok(())
-        }
-        None => Ok(()),
-    }
+    add_in_form(alloc, form, note, to.after, edit, list)
 }

@@ -8,6 +8,6 @@ pub mod law;
 pub mod notes;
 pub mod objects;
 
-pub use dispatches::{add_dispatches, in_form};
+pub use dispatches::{add_dispatches, add_in_form, in_form};
 pub use forms::{MessageForm, form_by, form_for};
 pub use notes::{MessageNote, note};

@@ -1,8 +1,8 @@
 //! What has to be known of the record before an edit of roles or members.
 
-ghost use Rattle.std.specs.Prelude.{◌≡◌, IfOk};
+ghost use Rattle.std.specs.Prelude.{◌≡◌, true, IfOk};
 ghost use Rattle.collections.specs.ById.{find_id};
-ghost use Rattle.guild_model.specs.Record.{member_id};
+ghost use Rattle.guild_model.specs.Record.{Record, member_id};
 ghost use Rattle.event_views.specs.Threads.{threads_left};
 ghost use Rattle.role_member_events.specs.Ends.{end_of, before_end, before_rights, before_own_rights, role_member_note};
 
@@ -128,6 +128,19 @@ fn before_own_rights(
         before_rights(alloc, before, me)
     } else {
         Ok(RoleMemberNote::Nothing)
+    }
+}
+
+/// Whether an edit may change what a member sees: [`note`] then keeps the sights of its channels.
+pub fn asks_sights(edit: &RoleMemberEdit, me: &Member) -> bool
+    ensures { (before : Record) → result ≡ true → role_member_note before me.now edit.now ≡ before_rights before me.now }
+{
+    match edit {
+        RoleMemberEdit::RoleUpdate(_) => true,
+        RoleMemberEdit::RoleDelete { .. } => true,
+        RoleMemberEdit::MemberRoleAdd(edit) => edit.user == me.user.id,
+        RoleMemberEdit::MemberRoleRemove(edit) => edit.user == me.user.id,
+        _ => false,
     }
 }
 

@@ -9,4 +9,4 @@ pub mod members;
 pub mod roles;
 
 pub use dispatches::add_dispatches;
-pub use ends::{MemberEnd, RoleMemberNote, note};
+pub use ends::{MemberEnd, RoleMemberNote, asks_sights, note};

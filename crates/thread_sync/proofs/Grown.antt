@@ -1,5 +1,5 @@
 -- The sync that looks at those channels alone whose sight grew is the sync by the sights before.
-use Rattle.std.proofs.Common.{◌≡◌, ℕ, Bool, true, false, not, ◌&&◌, ◌||◌, List, [], ◌∷◌, map, length, Option, Some, None, if◌then◌else◌, refl, sym, ap, ◌∙◌, arith}
+use Rattle.std.proofs.Common.{◌≡◌, ℕ, Bool, true, false, not, ◌&&◌, ◌||◌, List, [], ◌∷◌, length, Option, Some, None, if◌then◌else◌, refl, sym, ap, ◌∙◌, arith}
 use Rattle.std.specs.Prelude.{◌==◌, filter, is_some}
 use Rattle.std.specs.Option.{option_map_or}
 use Rattle.std.proofs.lemmas.Bool.{eqb-true, and_parts}
@@ -7,28 +7,15 @@ use Rattle.std.proofs.lemmas.Bool.Decides.{nat_tests}
 use Rattle.collections.specs.ById.{find_id, IsById, keep_if}
 use Rattle.collections.proofs.Finds.{key-found, find-filter}
 use Rattle.guild_model.specs.declared.member.Member.{Member}
-use Rattle.guild_model.specs.declared.channel.Channel.{Channel}
 use Rattle.guild_model.specs.declared.thread.Thread.{Thread}
-use Rattle.guild_model.specs.Record.{Record, channel_id}
-use Rattle.guild_model.specs.Sight.{Standing, standing, is_private, is_in}
+use Rattle.guild_model.specs.Record.{Record}
+use Rattle.guild_model.specs.Sight.{standing, is_private, is_in}
 use Rattle.dispatch_types.specs.Projection.{is_active}
 use Rattle.thread_sync.specs.declared.channel_sight.ChannelSight.{ChannelSight}
-use Rattle.thread_sync.specs.ChannelSights.{sight_in, sight_id, is_seen, shows_under, seen_in, sights, is_in_sight, shows_among, covers, is_grown, by_sight, by_sights}
+use Rattle.thread_sync.specs.ChannelSights.{sight_id, shows_under, sights, is_in_sight, shows_among, covers, is_grown, by_sight, by_sights}
 use Rattle.thread_sync.specs.Sync.{is_new, list_sync, uncovered_to}
-use Rattle.thread_sync.proofs.Lists.{filter-both, filter-alike}
-use Rattle.thread_sync.proofs.ChannelSights.{sights-ascend}
 use Rattle.thread_sync.proofs.Part.{part-sync, none-gained}
 use Rattle.thread_sync.proofs.Steps.{sights-sync}
-
--- the sights of what is seen and grew, in one pass
-pub seen-grown : (before : List ChannelSight) (s : Standing) (user : ℕ) (channels : List Channel)
-    → filter (λ (l : ChannelSight). l.views && is_grown before l) (map (λ (c : Channel). sight_in s user c.id) channels) ≡ filter (is_grown before) (seen_in s user channels)
-seen-grown before s user channels =
-    filter-alike (λ (l : ChannelSight). l.views && is_grown before l) (λ (l : ChannelSight). is_grown before l && is_seen l) (λ l. swap l.views (is_grown before l)) (map (λ (c : Channel). sight_in s user c.id) channels)
-    ∙ sym (filter-both (is_grown before) is_seen (map (λ (c : Channel). sight_in s user c.id) channels))
-  where
-    swap : (a b : Bool) → (a && b) ≡ (b && a)
-    swap a b = grind arith
 
 -- what a sight shows, one that covers it shows
 pub covers-shown : (was l : ChannelSight) (t : Thread) → was.channel ≡ l.channel → covers was l ≡ true → shows_under l t ≡ true → shows_under was t ≡ true
@@ -142,12 +129,12 @@ module _ (before ls : List ChannelSight) (ascends : IsById sight_id ls) where
       s user
 
 -- by the sights of all channels that are seen
-module _ (before : List ChannelSight) (s : Record) (me : Member) (h : IsById channel_id s.channels) where
+module _ (before : List ChannelSight) (s : Record) (me : Member) (h : IsById sight_id (sights (standing s me))) where
   abbrev pub all : List ChannelSight
   all = sights (standing s me)
 
   pub sync-grown : list_sync (by_sights before) (by_sights (filter (is_grown before) all)) s me.user.id ≡ uncovered_to (by_sights before) s me
-  sync-grown = grown-sync before all (sights-ascend (standing s me) h) s me.user.id ∙ sights-sync (by_sights before) s me
+  sync-grown = grown-sync before all h s me.user.id ∙ sights-sync (by_sights before) s me
 
   -- where no sight grew, nothing is gained
   pub none-grown : (grown : List ChannelSight) → grown ≡ filter (is_grown before) all → (length grown == 0) ≡ true → None ≡ uncovered_to (by_sights before) s me

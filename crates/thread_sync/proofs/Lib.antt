@@ -8,3 +8,4 @@ pub mod Part
 pub mod Steps
 pub mod Grown
 pub mod Enough
+pub mod ByMasks

@@ -1,23 +1,24 @@
 //! What a change of owner, roles or members uncovers, by the sights of the channels before it.
 
-ghost use Rattle.std.specs.Prelude.{◌≡◌, ◌&&◌, IfOk, map, filter};
+ghost use Rattle.std.specs.Prelude.{◌≡◌, IfOk, filter};
 ghost use Rattle.collections.specs.ById.{IsById};
-ghost use Rattle.guild_model.specs.Record.{channel_id};
 ghost use Rattle.guild_model.specs.Sight.{standing};
-ghost use Rattle.thread_sync.specs.ChannelSights.{sight_in, seen_in, sights, by_sights, is_grown};
+ghost use Rattle.thread_sync.specs.ChannelSights.{sight_id, sights, by_sights, is_grown};
 ghost use Rattle.thread_sync.specs.Sync.{uncovered_to};
 
-use crate::channel_sight::{ChannelSight, sight_in, sights};
+use crate::channel_sight::{ChannelSight, sights};
 use crate::list_sync::list_sync;
 use collections::ById;
 use dispatch_types::Dispatch;
-use guild_model::{Channel, Guild, Member};
+use guild_model::{Guild, Member};
 use overwrite_eval::StandingRef;
-use snowflake_id::Snowflake;
 use std::alloc::{AllocError, Global};
 
 /// What a member is granted in those channels that it sees, as far as sight goes, ascending
 /// (Permissions, VIEW_CHANNEL, MANAGE_THREADS).
+///
+/// # Errors
+/// Out of memory.
 pub fn sights_of(
     alloc: Global,
     guild: &Guild,
@@ -42,37 +43,58 @@ fn is_grown(before: &ById<ChannelSight>, sight: &ChannelSight) -> bool
 fn grown_in(
     alloc: Global,
     before: &ById<ChannelSight>,
-    standing: &StandingRef,
-    user: Snowflake,
-    channels: &[Channel],
+    sights: &[ChannelSight],
 ) -> Result<Vec<ChannelSight>, AllocError>
-    ensures { IfOk result (λ grown. grown.items ≡ filter (λ sight. sight.views && is_grown before.now sight) (map (λ channel. sight_in standing.now user channel.id) channels.now)) }
+    ensures { IfOk result (λ grown. grown.items ≡ filter (is_grown before.now) sights.now) }
 {
-    channels
+    sights
         .iter()
-        .map(|channel| sight_in(standing, user, channel.id))
-        .filter(|sight| sight.views && is_grown(before, sight))
+        .filter(|sight| is_grown(before, sight))
+        .copied()
         .collect(alloc)
 }
 
-// The sights of a member, of those channels in which it may see what it did not see before.
+// Of sights, those of channels in which the member may see what it did not see before.
 fn grown(
     alloc: Global,
     before: &ById<ChannelSight>,
-    standing: &StandingRef,
-    user: Snowflake,
-    channels: &[Channel],
+    sights: &[ChannelSight],
 ) -> Result<ById<ChannelSight>, AllocError>
-    requires { IsById channel_id channels.now }
-    ensures { IfOk result (λ grown. grown ≡ filter (is_grown before.now) (seen_in standing.now user channels.now)) }
+    requires { IsById sight_id sights.now }
+    ensures { IfOk result (λ grown. grown ≡ filter (is_grown before.now) sights.now) }
 {
-    let grown = grown_in(alloc, before, standing, user, channels)?;
+    let grown = grown_in(alloc, before, sights)?;
     Ok(ById::from_ascending(grown))
 }
 
+/// The sync of what a member sees now and did not see before, by the sights of the channels before and now (Gateway
+/// Events, Thread List Sync; Threads, Syncing for Channel Gain). It looks at threads only if the sight of a channel
+/// grew.
+///
+/// # Errors
+/// Out of memory.
+pub fn uncovered_between(
+    alloc: Global,
+    before: &ById<ChannelSight>,
+    now: &ById<ChannelSight>,
+    guild: &Guild,
+    me: &Member,
+) -> Result<Option<Dispatch>, AllocError>
+    requires { now.now ≡ sights (standing guild.now me.now) }
+    ensures { IfOk result (λ told. told ≡ uncovered_to (by_sights before.now) guild.now me.now) }
+{
+    let grown = grown(alloc, before, now.as_slice())?;
+    if grown.len() == 0 {
+        return Ok(None);
+    }
+    list_sync(alloc, before, &grown, guild, me.user.id)
+}
+
 /// The sync of what a member sees now and did not see before, `before` being the sights of the channels
-/// then (Gateway Events, Thread List Sync; Threads, Syncing for Channel Gain). It looks at threads only
-/// if the sight of a channel grew.
+/// then (Gateway Events, Thread List Sync; Threads, Syncing for Channel Gain).
+///
+/// # Errors
+/// Out of memory.
 pub fn uncovered_by_sights(
     alloc: Global,
     before: &ById<ChannelSight>,
@@ -81,11 +103,6 @@ pub fn uncovered_by_sights(
 ) -> Result<Option<Dispatch>, AllocError>
     ensures { IfOk result (λ told. told ≡ uncovered_to (by_sights before.now) guild.now me.now) }
 {
-    let standing = StandingRef::in_guild(guild, me);
-    let channels = guild.channels.as_slice();
-    let grown = grown(alloc, before, &standing, me.user.id, channels)?;
-    if grown.len() == 0 {
-        return Ok(None);
-    }
-    list_sync(alloc, before, &grown, guild, me.user.id)
+    let now = sights_of(alloc, guild, me)?;
+    uncovered_between(alloc, before, &now, guild, me)
 }

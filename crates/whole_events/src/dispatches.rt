@@ -1,12 +1,15 @@
 //! What an accepted edit owes to a viewer that is served before and after it (Gateway Events, Receive Events).
 
-ghost use Rattle.std.specs.Prelude.{◌≡◌, ◌++◌, IfOk, OnOk};
-ghost use Rattle.thread_sync.specs.ChannelSights.{by_sights};
+ghost use Rattle.std.specs.Prelude.{◌≡◌, ◌++◌, Some, true, IfOk, OnOk};
+ghost use Rattle.collections.specs.ById.{find_id};
+ghost use Rattle.guild_model.specs.Record.{Record, member_id};
+ghost use Rattle.guild_model.specs.Sight.{standing};
+ghost use Rattle.thread_sync.specs.ChannelSights.{by_sights, sights};
 ghost use Rattle.thread_sync.specs.Sync.{uncovered_to};
 ghost use Rattle.event_views.specs.Asked.{told_if};
 ghost use Rattle.whole_events.specs.Dispatches.{guild_updated};
 ghost use Rattle.whole_events.specs.ByNote.{by_note};
-ghost use Rattle.whole_events.specs.Notes.{note_of};
+ghost use Rattle.whole_events.specs.Notes.{note_of, rights_note};
 
 use channel_events::ChannelNote;
 use collections::ById;
@@ -16,10 +19,11 @@ use event_views::{Recipient, add_list_sync};
 use guild_model::{Guild, Member};
 use intent_set::Kind;
 use message_events::MessageNote;
+use overwrite_eval::MaskSource;
 use role_member_events::RoleMemberNote;
 use std::alloc::{AllocError, Global};
 use thread_events::ThreadNote;
-use thread_sync::{ChannelSight, sights_of};
+use thread_sync::{ChannelSight, sights_by, sights_of};
 
 /// What is noted for a viewer that is served before an edit, by the kind of edit.
 pub enum Before {
@@ -65,6 +69,50 @@ pub fn note(alloc: Global, before: &Guild, me: &Member, edit: &Edit) -> Result<B
         Edit::Message(edit) => Ok(Before::Message(message_events::note(before, edit))),
         _ => Ok(Before::Nothing),
     }
+}
+
+// Whether an edit may change what a member sees.
+fn asks_sights(edit: &Edit, me: &Member) -> bool
+    ensures { (before : Record) → result ≡ true → note_of before me.now edit.now ≡ rights_note edit.now (sights (standing before me.now)) }
+{
+    match edit {
+        Edit::Guild(GuildEdit::GuildOwner { .. }) => true,
+        Edit::RoleMember(edit) => role_member_events::asks_sights(edit, me),
+        _ => false,
+    }
+}
+
+// What is noted before an edit that may change what a member sees.
+fn rights_note(edit: &Edit, sights: ById<ChannelSight>) -> Before
+    ensures { result ≡ rights_note edit.now sights }
+{
+    match edit {
+        Edit::RoleMember(_) => Before::RoleMember(RoleMemberNote::Sights(sights)),
+        _ => Before::Owner(sights),
+    }
+}
+
+/// The same as [`note`], by what answers the masks of the member's user on the record before the edit: where the
+/// edit may change what the member sees, no mask is worked out.
+///
+/// # Errors
+/// Out of memory.
+pub fn note_by<M: MaskSource>(
+    alloc: Global,
+    before: &Guild,
+    me: &Member,
+    edit: &Edit,
+    masks: &M,
+) -> Result<Before, AllocError>
+    requires stands { M.stands_for masks.now before.now me.now.user.id }
+    requires mine { find_id member_id me.now.user.id before.now.members ≡ Some me.now }
+    ensures { IfOk result (λ note. note ≡ note_of before.now me.now edit.now) }
+{
+    if asks_sights(edit, me) {
+        let sights = sights_by(alloc, before, me, masks)?;
+        return Ok(rights_note(edit, sights));
+    }
+    note(alloc, before, me, edit)
 }
 
 // GUILD_UPDATE, with the guild's name and owner.

@@ -5,4 +5,4 @@
 pub mod dispatches;
 pub mod law;
 
-pub use dispatches::{Before, add_dispatches, note};
+pub use dispatches::{Before, add_dispatches, note, note_by};
