@@ -9,7 +9,7 @@ ghost use Rattle.mask_cache.specs.Masks.{MasksOf};
 ghost use Rattle.mask_cache.specs.Law.{Follows};
 ghost use Rattle.guild_replica.specs.Replicas.{AreServed, EachServed, creates_role};
 
-use edit_apply::{Edit, RoleMemberEdit};
+use edit_apply::{Edit, GuildEdit, RoleMemberEdit};
 use guild_model::Guild;
 use mask_cache::Masks;
 use snowflake_id::Snowflake;
@@ -24,21 +24,13 @@ fn is_served(guild: &Guild, user: Snowflake) -> bool
     guild.opened && guild.member(user).is_some()
 }
 
-fn is_kept(masks: &Option<Masks>, guild: &Guild, user: Snowflake) -> bool {
-    match masks {
-        Some(masks) => masks.user() == user,
-        None => !is_served(guild, user),
-    }
-}
-
-/// Whether these masks are those of these users, one by one. What they then are is an invariant of who keeps
-/// them.
-pub(crate) fn are_masks_of(masks: &[Option<Masks>], guild: &Guild, users: &[Snowflake]) -> bool {
-    masks.len() == users.len()
-        && masks
+/// Whether two lists are of the same users, one by one.
+pub(crate) fn are_same(known: &[Snowflake], users: &[Snowflake]) -> bool {
+    known.len() == users.len()
+        && known
             .iter()
             .zip(users.iter())
-            .all(|(masks, user)| is_kept(masks, guild, *user))
+            .all(|(one, user)| one == user)
 }
 
 fn masks_for(alloc: Global, guild: &Guild, user: Snowflake) -> Result<Option<Masks>, AllocError>
@@ -82,6 +74,29 @@ fn creates_role(edit: &Edit) -> bool
     }
 }
 
+// Whether an edit may make a user a member, of a guild that is open.
+fn may_join(edit: &Edit) -> bool {
+    matches!(
+        edit,
+        Edit::RoleMember(RoleMemberEdit::MemberAdd(_)) | Edit::Guild(GuildEdit::GuildOpen { .. })
+    )
+}
+
+// The masks of a user who was not served before an edit, if it is served after it.
+fn first_masks(
+    alloc: Global,
+    user: Option<Snowflake>,
+    guild: &Guild,
+    edit: &Edit,
+) -> Result<Option<Masks>, AllocError>
+    ensures { IfOk result (λ masks. IfSome masks (AreServed guild.now)) }
+{
+    match user {
+        Some(user) if may_join(edit) => masks_for(alloc, guild, user),
+        _ => Ok(None),
+    }
+}
+
 // Mends masks from a blank ledger: what it takes is not asked.
 fn mended<L: Ledger>(
     mut masks: Masks,
@@ -101,10 +116,11 @@ fn mended<L: Ledger>(
     Ok(masks)
 }
 
-// The masks of a user after an edit, if the user is served before it and after it.
+// The masks of a user after an edit, if the user is served after it.
 fn masks_then(
     alloc: Global,
     masks: Option<Masks>,
+    user: Option<Snowflake>,
     guild: &Guild,
     edit: &Edit,
 ) -> Result<Option<Masks>, AllocError>
@@ -113,7 +129,7 @@ fn masks_then(
     ensures { IfOk result (λ masks. IfSome masks (AreServed guild.now)) }
 {
     let Some(masks) = masks else {
-        return Ok(None);
+        return first_masks(alloc, user, guild, edit);
     };
     let user = masks.user();
     // A role that is created changes no mask, which rests on what all members hold; so it is worked out anew.
@@ -124,9 +140,14 @@ fn masks_then(
     Ok(Some(masks))
 }
 
+fn user_at(users: &[Snowflake], index: usize) -> Option<Snowflake> {
+    users.get(index).copied()
+}
+
 fn mend_each(
     alloc: Global,
     masks: Vec<Option<Masks>>,
+    users: &[Snowflake],
     guild: &Guild,
     edit: &Edit,
 ) -> Result<Vec<Option<Masks>>, AllocError>
@@ -136,15 +157,17 @@ fn mend_each(
 {
     let mut then = Vec::with_capacity(alloc, masks.len())?;
     for one in masks {
-        then.push(masks_then(alloc, one, guild, edit)?)?;
+        let user = user_at(users, then.len());
+        then.push(masks_then(alloc, one, user, guild, edit)?)?;
     }
     Ok(then)
 }
 
-/// The masks after an accepted edit, by the record after it. An edit of messages changes none.
+/// The masks of these users after an accepted edit, by the record after it. An edit of messages changes none.
 pub(crate) fn masks_after(
     alloc: Global,
     masks: Vec<Option<Masks>>,
+    users: &[Snowflake],
     guild: &Guild,
     edit: &Edit,
 ) -> Result<Vec<Option<Masks>>, AllocError>
@@ -154,6 +177,6 @@ pub(crate) fn masks_after(
 {
     match edit {
         Edit::Message(_) => Ok(masks),
-        _ => mend_each(alloc, masks, guild, edit),
+        _ => mend_each(alloc, masks, users, guild, edit),
     }
 }

@@ -1,17 +1,20 @@
 //! A worker's copy of a guild.
 
-ghost use Rattle.std.specs.Prelude.{◌≡◌, true, OnOk, IfSome};
+ghost use Rattle.std.specs.Prelude.{◌≡◌, true, IfOk, OnOk, IfSome};
 ghost use Rattle.guild_model.specs.Record.{Record};
 ghost use Rattle.dispatch_types.specs.Serves.{served};
 ghost use Rattle.edit_apply.specs.Edits.{accepts, applied};
+ghost use Rattle.edit_events.specs.ByNote.{due_between};
+ghost use Rattle.edit_events.specs.Due.{due};
 ghost use Rattle.edit_events.specs.Forms.{form_between};
+ghost use Rattle.edit_events.specs.Was.{was_of};
 ghost use Rattle.mask_cache.specs.Masks.{MasksOf};
 
-use crate::masks::{are_masks_of, masks_after, masks_of_each, masks_under};
+use crate::masks::{are_same, masks_after, masks_of_each, masks_under};
 use collections::Keyed;
-use dispatch_types::Viewer;
+use dispatch_types::{Dispatch, Viewer};
 use edit_apply::{Edit, make};
-use edit_events::{Was, form_by, form_for};
+use edit_events::{Was, events, events_by, form_by, form_for, note, note_by};
 use guild_model::Guild;
 use mask_cache::Masks;
 use message_events::MessageForm;
@@ -24,15 +27,22 @@ use std::mem;
 /// served, from one entry to the next.
 pub struct Replica {
     guild: Guild,
-    /// For each of the users that [`Replica::keep_masks`] was given, by its index, its masks on this very
-    /// record, if the guild is open and the user is a member.
+    /// The users that [`Replica::keep_masks`] was given.
+    users: Vec<Snowflake>,
+    /// For each of them, by its index, its masks on this very record, if the guild is open and the user is a
+    /// member.
     masks: Vec<Option<Masks>>,
 }
 
 impl Drop for Replica {
     fn drop(self) {
-        let Replica { guild, masks } = self;
+        let Replica {
+            guild,
+            users,
+            masks,
+        } = self;
         drop(guild);
+        drop(users);
         drop(masks);
     }
 }
@@ -62,6 +72,7 @@ impl Replica {
     {
         Replica {
             guild,
+            users: Vec::new(alloc),
             masks: Vec::new(alloc),
         }
     }
@@ -81,10 +92,11 @@ impl Replica {
     pub fn keep_masks(&mut self, alloc: Global, users: &[Snowflake]) -> Result<(), AllocError>
         ensures { self.new ≡ self.old }
     {
-        if are_masks_of(self.masks.as_slice(), &self.guild, users) {
+        if are_same(self.users.as_slice(), users) {
             return Ok(());
         }
         self.masks = masks_of_each(alloc, &self.guild, users)?;
+        self.users = Vec::from_slice(alloc, users)?;
         Ok(())
     }
 
@@ -98,7 +110,7 @@ impl Replica {
     {
         let masks = mem::replace(&mut self.masks, Vec::new(alloc));
         make(alloc, &mut self.guild, edit.copy(alloc)?)?;
-        self.masks = masks_after(alloc, masks, &self.guild, edit)?;
+        self.masks = masks_after(alloc, masks, self.users.as_slice(), &self.guild, edit)?;
         Ok(())
     }
 
@@ -113,6 +125,51 @@ impl Replica {
             Some(masks)
         } else {
             None
+        }
+    }
+
+    /// What [`Replica::events`] has to know of the record before an edit. `index` is that of the viewer's user among
+    /// those of [`Replica::keep_masks`]; with another the answer is the same, and takes longer.
+    ///
+    /// # Errors
+    /// Out of memory.
+    pub fn note(
+        &self,
+        alloc: Global,
+        edit: &Edit,
+        viewer: &Viewer,
+        index: usize,
+    ) -> Result<Was, AllocError>
+        ensures { IfOk result (λ was. was ≡ was_of self.now.guild viewer.now edit.now) }
+    {
+        match self.masks_at(index, viewer.user) {
+            Some(masks) => note_by(alloc, &self.guild, edit, viewer, masks),
+            None => note(alloc, &self.guild, edit, viewer),
+        }
+    }
+
+    /// What an accepted edit owes to a viewer, by the record after it and what [`Replica::note`] kept of the record
+    /// before it. `index` is as there.
+    ///
+    /// # Errors
+    /// Out of memory.
+    pub fn events(
+        &self,
+        alloc: Global,
+        edit: &Edit,
+        was: &Was,
+        viewer: &Viewer,
+        index: usize,
+    ) -> Result<Vec<Dispatch>, AllocError>
+        ensures noted { IfOk result (λ list. list.items
+            ≡ due_between self.now.guild viewer.now was.now (served viewer.now self.now.guild) edit.now) }
+        ensures due { IfOk result (λ list. (before : Record) → was.now ≡ was_of before viewer.now edit.now
+            → self.now.guild ≡ applied before edit.now → accepts before edit.now ≡ true
+            → list.items ≡ due before edit.now viewer.now) }
+    {
+        match self.masks_at(index, viewer.user) {
+            Some(masks) => events_by(alloc, &self.guild, edit, was, viewer, masks),
+            None => events(alloc, &self.guild, edit, was, viewer),
         }
     }
 

@@ -61,11 +61,15 @@ module _ {A : Type 0} (items : List A) where
   pub as_many_picked : (indexes : List ℕ) (picked : List A) → Picks items indexes picked → length indexes ≡ length picked
   as_many_picked indexes picked e = sym (length-map indexes (slice_get items)) ∙ (ap length e ∙ length-map picked (λ x. Some x))
 
+-- the images of the first items of a list, and of one more
+pub map_next : {A B : Type 0} (f : B → A) (xs : List B) (i : ℕ) (here : Item xs i) → i < length xs → map f (take (i + 1) xs) ≡ map f (take i xs) ++ f here.item ∷ []
+map_next f xs i here lt = ap (map f) (last_taken xs i here.item lt here.read) ∙ map_join f (take i xs) (here.item ∷ [])
+
 -- of the first items of a list their images were picked, and the next one's is
 pub picks_next : {A B : Type 0} (f : B → A) (xs : List B) (i : ℕ) (here : Item xs i) (old new : List A) (indexes indexes' : List ℕ) (k : ℕ) → i < length xs
     → Picks old indexes (map f (take i xs)) → IsLonger old new → indexes' ≡ indexes ++ k ∷ [] → slice_get new k ≡ Some (f here.item)
     → Picks new indexes' (map f (take (i + 1) xs))
 picks_next f xs i here old new indexes indexes' k lt picks longer pushed at =
     let kept : Picks new indexes (map f (take i xs)) = subst (λ (items : List _). Picks items indexes (map f (take i xs))) (sym longer.1) (picks_longer old longer.0 indexes (map f (take i xs)) picks) in
-    let next : map f (take (i + 1) xs) ≡ map f (take i xs) ++ f here.item ∷ [] = ap (map f) (last_taken xs i here.item lt here.read) ∙ map_join f (take i xs) (here.item ∷ []) in
+    let next : map f (take (i + 1) xs) ≡ map f (take i xs) ++ f here.item ∷ [] = map_next f xs i here lt in
     ap (map (slice_get new)) pushed ∙ (picks_more new indexes (map f (take i xs)) k (f here.item) kept at ∙ ap (map (λ x. Some x)) (sym next))

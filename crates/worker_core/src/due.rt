@@ -18,7 +18,7 @@ use crate::tell::{envelopes_of, tell_written};
 use dispatch_equality::same_list;
 use dispatch_types::{Dispatch, Viewer};
 use edit_apply::Edit;
-use edit_events::{Was, events};
+use edit_events::Was;
 use guild_replica::Replica;
 use payload_text::Envelope;
 use session_core::Sessions;
@@ -147,7 +147,7 @@ impl DueLists {
         if let Some(index) = self.forms.index(form) {
             return Ok(index);
         }
-        let due = events(self.alloc, replica.guild(), entry, was, viewer)?;
+        let due = replica.events(self.alloc, entry, was, viewer, user)?;
         let index = index_of(self.alloc, &mut self.told, due)?;
         self.forms.keep(form, index);
         Ok(index)

@@ -16,9 +16,8 @@ ghost use Rattle.worker_core.specs.Telling.{TellsEach, FailsEach};
 use crate::due::DueDispatches;
 use crate::io::{Output, StepFault};
 use crate::recipients::Recipients;
-use dispatch_types::Viewer;
 use edit_apply::{Edit, judge, make};
-use edit_events::{Was, note};
+use edit_events::Was;
 use guild_model::Guild;
 use guild_replica::Replica;
 use session_core::Sessions;
@@ -27,15 +26,18 @@ use std::alloc::{AllocError, Global};
 /// What has to be known of the record before an entry, for each viewer by its index.
 fn notes(
     alloc: Global,
-    guild: &Guild,
+    replica: &Replica,
     entry: &Edit,
-    viewers: &[Viewer],
+    recipients: &Recipients,
 ) -> Result<Vec<Was>, AllocError>
-    ensures { IfOk result (λ notes. notes.items ≡ map (λ v. was_of guild.now v entry.now) viewers.now) }
+    ensures { IfOk result (λ notes. notes.items ≡ map (λ v. was_of replica.now.guild v entry.now) recipients.now.viewers.items) }
 {
+    let viewers = recipients.viewers.as_slice();
     let mut notes = Vec::with_capacity(alloc, viewers.len())?;
-    for viewer in viewers {
-        notes.push(note(alloc, guild, entry, viewer)?)?;
+    for index in 0..viewers.len() {
+        let user = recipients.user_of(index);
+        let noted = replica.note(alloc, entry, &viewers[index], user)?;
+        notes.push(noted)?;
     }
     Ok(notes)
 }
@@ -86,8 +88,7 @@ fn enter(
     if judge(replica.guild(), entry).is_err() {
         return Ok(());
     }
-    let viewers = recipients.viewers.as_slice();
-    let notes = notes(alloc, replica.guild(), entry, viewers)?;
+    let notes = notes(alloc, replica, entry, recipients)?;
     replica.make(alloc, entry)?;
     let lists = DueDispatches::of(alloc, replica, entry, notes.as_slice(), recipients)?;
     tell_each(&lists, recipients, sessions, out)

@@ -1,13 +1,11 @@
 -- A refused entry tells nothing.
-use Rattle.std.proofs.Common.{◌≡◌, map, true, false, Option, Some, None, refl, sym, ap, ◌∙◌}
+use Rattle.std.proofs.Common.{◌≡◌, true, false, Option, Some, None, refl, sym, ap, ◌∙◌}
 use Rattle.std.specs.Option.{is_none}
 use Rattle.std.specs.Result.{is_err}
 use Rattle.guild_model.specs.declared.verdict.Verdict.{Verdict}
 use Rattle.guild_model.specs.Record.{Record}
 use Rattle.guild_model.specs.Tests.{outcome}
-use Rattle.dispatch_types.specs.declared.viewer.Viewer.{Viewer}
 use Rattle.edit_apply.specs.Edits.{verdict, accepts}
-use Rattle.edit_events.specs.Was.{was_of}
 use Rattle.worker_core.proofs.Looking.{none_told}
 use Rattle.worker_core.proofs.look.enter.Goals as goal
 
@@ -30,8 +28,4 @@ returns-clause-told c =
     let g = c.args.replica.now.guild in
     let e = c.args.entry.now in
     let accepted : accepts g e ≡ true = accepted_by (verdict g e) (ap (λ (s : Record). is_err (outcome (verdict s e))) (sym c.guild.ensures) ∙ (ap is_err (sym c.judge.ensures) ∙ (sym c.is_err.ensures.value ∙ c.if-is_err.false))) in
-    let noted = c.as_slice.ensures.value
-    ∙ (c.in_ok-notes.ensures
-    ∙ (ap (λ (s : Record). map (λ (v : Viewer). was_of s v e) c.as_slice-viewers.result.now) c.guild-2.ensures
-    ∙ ap (map (λ (v : Viewer). was_of g v e)) c.as_slice-viewers.ensures.value)) in
-    c.tell_each.ensures g e (c.in_ok-lists.ensures g noted c.in_ok-make.ensures accepted)
+    c.tell_each.ensures g e (c.in_ok-lists.ensures g (c.as_slice.ensures.value ∙ c.in_ok-notes.ensures) c.in_ok-make.ensures accepted)

@@ -20,7 +20,7 @@ returns-clause-due c s noted is accepted are =
     let v = c.args.viewer.now in
     let told = c.index_of.new.told.items in
     let index = c.in_ok-index.index in
-    let is_due : c.in_ok-due.due.items ≡ due s e v = c.in_ok-due.ensures.due s noted (c.guild.ensures ∙ is) accepted in
+    let is_due : c.in_ok-due.due.items ≡ due s e v = c.in_ok-due.ensures.due s noted is accepted in
     let formed : c.form_for-form.result ≡ form_after s (applied s e) e v =
     c.form_for-form.ensures ∙ (ap (λ (w : Was). form_between g v w (served v g) e) noted
     ∙ ap (λ (h : Record). form_between h v (was_of s v e) (served v h) e) is) in
