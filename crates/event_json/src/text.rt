@@ -28,7 +28,8 @@ fn head_of(alloc: Global, of: &Dispatch) -> Result<String, AllocError>
     begun.push_str("{\"d\":")?;
     let mut out = Writer::new(begun.into_bytes());
     write_body(alloc, &mut out, of)?;
-    let mut head = String::from_utf8(out.into_inner()).unwrap();
+    // A second look at the bytes would cost a tenth of the text: that they are UTF-8 is proved.
+    let mut head = unsafe { String::from_utf8_unchecked(out.into_inner()) };
     head.push_str(",\"op\":0,\"s\":")?;
     Ok(head)
 }
