@@ -6,10 +6,10 @@ use Rattle.guild_model.specs.declared.member.Member.{Member}
 use Rattle.guild_model.specs.Record.{Record, member_id}
 use Rattle.dispatch_types.specs.declared.viewer.Viewer.{Viewer}
 use Rattle.dispatch_types.specs.Serves.{served}
-use Rattle.whole_events.proofs.Others.{served-found}
+use Rattle.message_gate.proofs.ByMember.{served-member}
 
-pub served-user : (v : Viewer) (s : Record) (me : Member) → served v s ≡ Some me → me.user.id ≡ v.user
-served-user v s me is = key-found member_id v.user s.members me (served-found v s me is)
+pub own-user : (v : Viewer) (s : Record) (me : Member) → served v s ≡ Some me → me.user.id ≡ v.user
+own-user v s me is = key-found member_id v.user s.members me (served-member v s me is)
 
-pub served-member : (v : Viewer) (s : Record) (me : Member) → served v s ≡ Some me → find_id member_id me.user.id s.members ≡ Some me
-served-member v s me is = subst (λ user. find_id member_id user s.members ≡ Some me) (sym (served-user v s me is)) (served-found v s me is)
+pub own-member : (v : Viewer) (s : Record) (me : Member) → served v s ≡ Some me → find_id member_id me.user.id s.members ≡ Some me
+own-member v s me is = subst (λ user. find_id member_id user s.members ≡ Some me) (sym (own-user v s me is)) (served-member v s me is)

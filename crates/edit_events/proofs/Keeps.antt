@@ -71,7 +71,8 @@ use Rattle.edit_apply.proofs.Well.{keeps}
 use Rattle.whole_events.specs.Dispatches.{guild_updated, whole_dispatches}
 use Rattle.whole_events.specs.Law.{Between}
 use Rattle.whole_events.proofs.Follows.{edit_follows}
-use Rattle.whole_events.proofs.Others.{served-found, id-kept, dispatches-of}
+use Rattle.message_gate.proofs.ByMember.{served-member}
+use Rattle.whole_events.proofs.Others.{id-kept, dispatches-of}
 use Rattle.channel_privacy.specs.Withheld.{Showing, withheld}
 use Rattle.channel_privacy.specs.Law.{showing}
 use Rattle.channel_privacy.proofs.Rows.{Fits}
@@ -104,7 +105,7 @@ blind-agrees t v h lacks blind = record { bot = blind.bot; view = blind.view ∙
 pub greets-shown : (t : Record) (v : Viewer) (h : Held) (me : Member) → IsAscending t → t.outage ≡ false → has_bit v.intents guilds ≡ true → h.bot ≡ v.user → served v t ≡ Some me
     → Agrees t v (folded v.intents t.id h (GuildCreate (greeting t v me)))
 greets-shown t v h me ascends here asks bot is =
-    let brings : Has (shown_part t me) v me (folded v.intents t.id h (GuildCreate (greeting t v me))) = greets (shown_part t me) v me (part-ascends t.private t me ascends) (served-found v t me is) h asks bot in
+    let brings : Has (shown_part t me) v me (folded v.intents t.id h (GuildCreate (greeting t v me))) = greets (shown_part t me) v me (part-ascends t.private t me ascends) (served-member v t me is) h asks bot in
     record { bot = brings.bot; view = brings.view ∙ sym (projection-open t v (folded v.intents t.id h (GuildCreate (greeting t v me))).known me asks is here) }
 
 comes : (t : Record) (v : Viewer) (h : Held) (me : Member) → IsAscending t → t.outage ≡ false → h.bot ≡ v.user → (has_bit v.intents guilds ≡ false → h.view ≡ None) → served v t ≡ Some me

@@ -8,12 +8,13 @@ use Rattle.dispatch_types.specs.Serves.{served}
 use Rattle.edit_apply.specs.declared.guild.GuildEdit.TheVariants.{GuildOutage, GuildBack}
 use Rattle.edit_apply.specs.declared.Edit.{Edit}
 use Rattle.edit_apply.specs.declared.Edit.TheVariants as edit
-use Rattle.edit_apply.specs.Edits.{applied}
+use Rattle.edit_apply.specs.Edits.{accepts, applied}
 use Rattle.whole_events.specs.Dispatches.{whole_dispatches}
 use Rattle.whole_events.proofs.Noted.{note_is_enough as whole_note_is_enough}
 use Rattle.whole_events.proofs.Others.{id-kept}
 use Rattle.channel_privacy.proofs.Enough.{note_is_enough as shown_note_is_enough}
 use Rattle.edit_events.specs.Due.{told_of, dispatches, due_to, due_of_accepted, due}
+use Rattle.edit_events.specs.declared.due.Was.{Was}
 use Rattle.edit_events.specs.Was.{will_withhold, shown_then, was_to, was_of}
 use Rattle.edit_events.specs.ByNote.{told_by, own_by, due_between}
 use Rattle.edit_events.specs.Law.{NoteIsEnough}
@@ -46,3 +47,9 @@ accepted-noted s e v = by_members (served v s) (served v (applied s e)) refl ref
 pub note_is_enough : NoteIsEnough
 unfolding due
 note_is_enough s e v accepted = accepted-noted s e v ∙ sym (ap (λ b. if b then due_of_accepted s e v else []) accepted)
+
+-- what is given by a note of the record before an accepted edit, and by the record after it, is what is due
+pub noted_due : (s t : Record) (v : Viewer) (was : Was) (e : Edit) → was ≡ was_of s v e → t ≡ applied s e → accepts s e ≡ true → due_between t v was (served v t) e ≡ due s e v
+noted_due s t v was e noted is accepted =
+    ap (λ (w : Was). due_between t v w (served v t) e) noted
+    ∙ (ap (λ (t : Record). due_between t v (was_of s v e) (served v t) e) is ∙ note_is_enough s e v accepted)

@@ -24,15 +24,6 @@ fn is_served(guild: &Guild, user: Snowflake) -> bool
     guild.opened && guild.member(user).is_some()
 }
 
-/// Whether two lists are of the same users, one by one.
-pub(crate) fn are_same(known: &[Snowflake], users: &[Snowflake]) -> bool {
-    known.len() == users.len()
-        && known
-            .iter()
-            .zip(users.iter())
-            .all(|(one, user)| one == user)
-}
-
 fn masks_for(alloc: Global, guild: &Guild, user: Snowflake) -> Result<Option<Masks>, AllocError>
     ensures { IfOk result (λ masks. IfSome masks (AreServed guild.now)) }
 {

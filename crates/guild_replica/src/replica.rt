@@ -10,7 +10,7 @@ ghost use Rattle.edit_events.specs.Forms.{form_between};
 ghost use Rattle.edit_events.specs.Was.{was_of};
 ghost use Rattle.mask_cache.specs.Masks.{MasksOf};
 
-use crate::masks::{are_same, masks_after, masks_of_each, masks_under};
+use crate::masks::{masks_after, masks_of_each, masks_under};
 use collections::Keyed;
 use dispatch_types::{Dispatch, Viewer};
 use edit_apply::{Edit, make};
@@ -84,15 +84,15 @@ impl Replica {
         &self.guild
     }
 
-    /// Keeps the masks of those of these users who are members of the guild, if it is open, until it is given
-    /// other users.
+    /// Keeps the masks of those of these users who are members of the guild, if it is open, and of each other
+    /// from the edit on by which it becomes one, until it is given other users.
     ///
     /// # Errors
     /// Out of memory.
     pub fn keep_masks(&mut self, alloc: Global, users: &[Snowflake]) -> Result<(), AllocError>
         ensures { self.new ≡ self.old }
     {
-        if are_same(self.users.as_slice(), users) {
+        if self.users.as_slice() == users {
             return Ok(());
         }
         self.masks = masks_of_each(alloc, &self.guild, users)?;

@@ -12,7 +12,8 @@ use Rattle.dispatch_types.specs.Serves.{in_shard, served}
 use Rattle.overwrite_eval.specs.Stands.{IsStandingOf}
 use Rattle.message_gate.specs.Shows.{sees_channel_or_thread, shows}
 
-served-member : (v : Viewer) (s : Record) (me : Member) → served v s ≡ Some me → find_id member_id v.user s.members ≡ Some me
+-- a served viewer's own member
+pub served-member : (v : Viewer) (s : Record) (me : Member) → served v s ≡ Some me → find_id member_id v.user s.members ≡ Some me
 served-member v s me is = by_test (s.opened && in_shard v.shard s.id) is
   where
     by_test : (b : Bool) → (if b then find_id member_id v.user s.members else None) ≡ Some me → find_id member_id v.user s.members ≡ Some me

@@ -27,7 +27,7 @@ bit_in None b = false
 bit_in (Some mask) b = has_bit mask b
 
 -- the bits of an answer are those that the user is granted
-granted_by : (s : Record) (user channel : ℕ) (answer : Option ℕ) (b : ℕ) → b < 53 → IsMaskIn s user channel answer → bit_in answer b ≡ grants s user channel b
+pub granted_by : (s : Record) (user channel : ℕ) (answer : Option ℕ) (b : ℕ) → b < 53 → IsMaskIn s user channel answer → bit_in answer b ≡ grants s user channel b
 granted_by s user channel None b below is = sym (no_channel s (find_id member_id user s.members) (find_id channel_id channel s.channels) b (sym is.there))
 granted_by s user channel (Some mask) b below is = is.bits mask refl b below
 

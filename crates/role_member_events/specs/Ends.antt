@@ -1,5 +1,5 @@
 -- What has to be known of the record before an edit of roles or members.
-use Rattle.std.specs.Prelude.{ℕ, ◌==◌, Option, Some, None, if◌then◌else◌}
+use Rattle.std.specs.Prelude.{ℕ, Bool, true, false, ◌==◌, Option, Some, None, if◌then◌else◌}
 use Rattle.collections.specs.ById.{find_id, has_id}
 use Rattle.guild_model.specs.declared.member.Member.{Member}
 use Rattle.guild_model.specs.Record.{Record, member_id, voice_id, presence_id}
@@ -43,3 +43,9 @@ role_member_note s me (RoleCreate edit) = Nothing
 role_member_note s me (MemberAdd edit) = Nothing
 role_member_note s me (MemberNick edit) = Nothing
 role_member_note s me (MemberTimeout edit) = Nothing
+
+-- whether a note keeps sights
+abbrev pub keeps_sights : RoleMemberNote → Bool
+keeps_sights Nothing = false
+keeps_sights (Sights ss) = true
+keeps_sights (Leaving end) = false

@@ -4,7 +4,7 @@ ghost use Rattle.std.specs.Prelude.{◌≡◌, true, IfOk};
 ghost use Rattle.collections.specs.ById.{find_id};
 ghost use Rattle.guild_model.specs.Record.{Record, member_id};
 ghost use Rattle.event_views.specs.Threads.{threads_left};
-ghost use Rattle.role_member_events.specs.Ends.{end_of, before_end, before_rights, before_own_rights, role_member_note};
+ghost use Rattle.role_member_events.specs.Ends.{end_of, before_end, before_rights, before_own_rights, role_member_note, keeps_sights};
 
 use collections::{ById, Duplicate, Seq};
 use guild_model::{Guild, Member, User, Voice};
@@ -133,7 +133,8 @@ fn before_own_rights(
 
 /// Whether an edit may change what a member sees: [`note`] then keeps the sights of its channels.
 pub fn asks_sights(edit: &RoleMemberEdit, me: &Member) -> bool
-    ensures { (before : Record) → result ≡ true → role_member_note before me.now edit.now ≡ before_rights before me.now }
+    ensures exactly { (before : Record) → result ≡ keeps_sights (role_member_note before me.now edit.now) }
+    ensures kept { (before : Record) → result ≡ true → role_member_note before me.now edit.now ≡ before_rights before me.now }
 {
     match edit {
         RoleMemberEdit::RoleUpdate(_) => true,

@@ -51,7 +51,7 @@ pub fn sights_by<M: MaskSource>(
     requires mine { find_id member_id me.now.user.id guild.now.members ≡ Some me.now }
     ensures { IfOk result (λ found. found ≡ sights (standing guild.now me.now)) }
 {
-    let mut seen = Vec::new(alloc);
+    let mut seen = Vec::with_capacity(alloc, guild.channels.len())?;
     for channel in guild.channels.as_slice() {
         let sight = sight_by(masks, me.user.id, channel.id);
         if sight.views {

@@ -56,7 +56,7 @@ use Rattle.edit_apply.specs.Edits.{verdict, applied, after_verdict}
 use Rattle.edit_apply.proofs.Well.{keeps}
 use Rattle.whole_events.specs.Dispatches.{guild_updated, whole_dispatches}
 use Rattle.whole_events.specs.Law.{EditFollows}
-use Rattle.whole_events.proofs.Others.{served-found}
+use Rattle.message_gate.proofs.ByMember.{served-member}
 
 -- ---- what the tests of an accepted edit say
 
@@ -139,19 +139,19 @@ follows-accepted s (edit.Guild (GuildPrivate private)) v h well after ok here he
     subst (λ (m : Member). Has (record s { private = private }) v m h) mine (record { bot = has.bot; view = has.view })
 follows-accepted s (edit.RoleMember e) v h well after ok here here' me me' is is' asks has =
     let tests = first_passes (out_of_service s) (role_member_verdict s e ∷ []) ok in
-    follows-role_member s v h me me' e well after (in_service s tests.0) (first_passes (role_member_verdict s e) [] tests.1).0 (served-found v s me is) (served-found v (role_member_applied s e) me' is') asks has
+    follows-role_member s v h me me' e well after (in_service s tests.0) (first_passes (role_member_verdict s e) [] tests.1).0 (served-member v s me is) (served-member v (role_member_applied s e) me' is') asks has
 follows-accepted s (edit.Channel e) v h well after ok here here' me me' is is' asks has =
     let tests = first_passes (out_of_service s) (channel_verdict s e ∷ []) ok in
     let same_me : Some me ≡ Some me' = sym is ∙ (sym (channel-served s e v) ∙ is') in
     let mine : me ≡ me' = cc in
     subst (λ (m : Member). Has (channel_applied s e) v m (fold_from v.intents s.id h (channel_dispatches s me (channel_applied s e) m v e))) mine
-    (follows-channel s v h me e well after (in_service s tests.0) (first_passes (channel_verdict s e) [] tests.1).0 (served-found v s me is) asks has)
+    (follows-channel s v h me e well after (in_service s tests.0) (first_passes (channel_verdict s e) [] tests.1).0 (served-member v s me is) asks has)
 follows-accepted s (edit.Thread e) v h well after ok here here' me me' is is' asks has =
     let tests = first_passes (out_of_service s) (thread_verdict s e ∷ []) ok in
     let same_me : Some me ≡ Some me' = sym is ∙ (sym (thread-served s e v) ∙ is') in
     let mine : me ≡ me' = cc in
     subst (λ (m : Member). Has (thread_applied s e) v m (fold_from v.intents s.id h (thread_dispatches s me (thread_applied s e) m v e))) mine
-    (follows-thread s v h me e well after (in_service s tests.0) (first_passes (thread_verdict s e) [] tests.1).0 (served-found v s me is) asks has)
+    (follows-thread s v h me e well after (in_service s tests.0) (first_passes (thread_verdict s e) [] tests.1).0 (served-member v s me is) asks has)
 follows-accepted s (edit.VoicePresence e) v h well after ok here here' me me' is is' asks has =
     let same_me : Some me ≡ Some me' = sym is ∙ (sym (voice_presence-served s e v) ∙ is') in
     let mine : me ≡ me' = cc in

@@ -21,7 +21,7 @@ use Rattle.whole_events.specs.Notes.{note_of}
 use Rattle.whole_events.specs.Dispatches.{guild_updated, whole_dispatches}
 use Rattle.whole_events.specs.ByNote.{by_note}
 use Rattle.whole_events.specs.Law.{NoteIsEnough}
-use Rattle.whole_events.proofs.Others.{served-found}
+use Rattle.message_gate.proofs.ByMember.{served-member}
 use Rattle.whole_events.proofs.Follows.{channel-served}
 
 module _ (s : Record) (v : Viewer) (me me' : Member) where
@@ -33,7 +33,7 @@ module _ (s : Record) (v : Viewer) (me me' : Member) where
   own-noted (edit.Guild GuildOutage) is is' = refl
   own-noted (edit.Guild GuildBack) is is' = refl
   own-noted (edit.Guild (GuildPrivate private)) is is' = refl
-  own-noted (edit.RoleMember e) is is' = role_member_note_is_enough s e v me me' (served-found v s me is) (served-found v (applied s (edit.RoleMember e)) me' is')
+  own-noted (edit.RoleMember e) is is' = role_member_note_is_enough s e v me me' (served-member v s me is) (served-member v (applied s (edit.RoleMember e)) me' is')
   own-noted (edit.Channel e) is is' =
       let same_me : Some me ≡ Some me' = sym is ∙ (sym (channel-served s e v) ∙ is') in
       let mine : me ≡ me' = cc in

@@ -1,15 +1,13 @@
 -- An edit leaves a guild its id, and each dispatch that it owes is of the guild.
-use Rattle.std.proofs.Common.{◌≡◌, ℕ, Bool, true, false, Option, Some, None, if◌then◌else◌, refl}
-use Rattle.std.specs.Prelude.{◌&&◌, All}
+use Rattle.std.proofs.Common.{◌≡◌, ℕ, false, Option, Some, None, refl}
+use Rattle.std.specs.Prelude.{All}
 use Rattle.std.proofs.lemmas.List.Elements.{All-nil}
 use Rattle.guild_model.specs.declared.member.Member.{Member}
 use Rattle.guild_model.specs.declared.presence.ShownStatus.{ShownStatus}
-use Rattle.collections.specs.ById.{find_id}
-use Rattle.guild_model.specs.Record.{Record, member_id}
+use Rattle.guild_model.specs.Record.{Record}
 use Rattle.guild_model.specs.Statuses.{status_shown}
 use Rattle.dispatch_types.specs.declared.viewer.Viewer.{Viewer}
 use Rattle.dispatch_types.specs.declared.dispatch.Dispatch.TheVariants.{GuildUpdate}
-use Rattle.dispatch_types.specs.Serves.{in_shard, served}
 use Rattle.channel_edit.specs.declared.ChannelEdit.TheVariants.{ChannelCreate, ChannelUpdate, ChannelDelete, OverwriteSet, OverwriteDelete}
 use Rattle.thread_edit.specs.declared.ThreadEdit.TheVariants.{ThreadCreate, ThreadRename, ThreadArchive, ThreadUnarchive, ThreadDelete, ThreadJoin, ThreadLeave}
 use Rattle.voice_presence.specs.declared.VoicePresenceEdit.TheVariants.{VoiceSet, PresenceSet}
@@ -32,14 +30,6 @@ use Rattle.voice_presence_events.proofs.Follows.{dispatches-of as voice_presence
 use Rattle.message_events.proofs.Of.{dispatches-of as message-of}
 use Rattle.message_events.proofs.Follows.{id-kept as message-id}
 use Rattle.whole_events.specs.Dispatches.{whole_dispatches}
-
--- a served viewer's own member
-pub served-found : (v : Viewer) (s : Record) (me : Member) → served v s ≡ Some me → find_id member_id v.user s.members ≡ Some me
-served-found v s me is = by_test (s.opened && in_shard v.shard s.id) is
-  where
-    by_test : (b : Bool) → (if b then find_id member_id v.user s.members else None) ≡ Some me → find_id member_id v.user s.members ≡ Some me
-    by_test true e = e
-    by_test false e = absurd (cc)
 
 -- an edit leaves a guild its id
 voice-id : (s : Record) (set : Setting) (channel : Option ℕ) → (with_voice s set channel).id ≡ s.id
