@@ -2,8 +2,8 @@
 
 use crate::handshake::{Handshake, Round, Socket};
 use crate::reading::next_of;
-use crate::sending::{Sent, flush, send, send_close};
-use crate::sizes::{HANDSHAKE_MS, MOST_WAITING_BYTES};
+use crate::sending::{Sent, flush, gather, send, send_close};
+use crate::sizes::{HANDSHAKE_MS, MOST_GATHERED_BYTES, MOST_WAITING_BYTES};
 use crate::streams::{drain, set_modes};
 use gate_outside::clocks::Clock;
 use gate_outside::faults::Fault;
@@ -37,11 +37,13 @@ pub struct Connection<R: MachineTime + RandomSource + Copy + Drop> {
     early: Vec<Message>,
     // How many bytes were sent since nothing waited.
     waiting: usize,
+    // How many of them are gathered before they go out together.
+    gathered: usize,
 }
 
 impl<R: MachineTime + RandomSource + Copy + Drop> Connection<R> {
-    // A connection that has come so far.
-    fn at(alloc: Global, runtime: R, stage: Stage<R>) -> Connection<R> {
+    // A connection that has come so far, and gathers so many bytes.
+    fn at(alloc: Global, runtime: R, stage: Stage<R>, gathered: usize) -> Connection<R> {
         let mut clock = MachineClock::new(runtime);
         let until_ms = clock.now_ms().saturating_add(HANDSHAKE_MS);
         Connection {
@@ -51,19 +53,21 @@ impl<R: MachineTime + RandomSource + Copy + Drop> Connection<R> {
             until_ms,
             early: Vec::new(alloc),
             waiting: 0,
+            gathered,
         }
     }
 
-    /// The server's end of a stream.
+    /// The server's end of a stream. Its short texts go out together when it is next asked what waits, so that
+    /// all that a turn of a worker sends costs one call of the system.
     pub fn of_server(alloc: Global, runtime: R, stream: TcpStream) -> Connection<R> {
         let stage = match set_modes(&stream) {
             Ok(()) => Stage::Shaking(Handshake::of_server(alloc, stream)),
             Err(_) => Stage::Gone,
         };
-        Connection::at(alloc, runtime, stage)
+        Connection::at(alloc, runtime, stage, MOST_GATHERED_BYTES)
     }
 
-    /// The client's end of a stream, for this request.
+    /// The client's end of a stream, for this request. Each text goes out at once.
     pub fn of_client(
         alloc: Global,
         runtime: R,
@@ -72,10 +76,11 @@ impl<R: MachineTime + RandomSource + Copy + Drop> Connection<R> {
     ) -> Result<Connection<R>, Error> {
         set_modes(&stream)?;
         let handshake = Handshake::of_client(alloc, runtime, request, stream)?;
-        Ok(Connection::at(alloc, runtime, Stage::Shaking(handshake)))
+        let stage = Stage::Shaking(handshake);
+        Ok(Connection::at(alloc, runtime, stage, 0))
     }
 
-    /// Gives the text or the close code that waits first.
+    /// Gives the text or the close code that waits first. What was gathered goes out.
     pub fn receive(&mut self) -> Result<Incoming, Fault> {
         self.go_on();
         let mut replies = 0;
@@ -91,7 +96,7 @@ impl<R: MachineTime + RandomSource + Copy + Drop> Connection<R> {
         answer
     }
 
-    /// Sends a text. What the peer does not take yet waits, up to `MOST_WAITING_BYTES`.
+    /// Sends a text, or gathers it. What the peer does not take yet waits, up to `MOST_WAITING_BYTES`.
     pub fn send(&mut self, text: &str) -> Result<(), Fault> {
         let message = Message::text(self.alloc, text)?;
         let waiting = self.waiting.saturating_add(text.len());
@@ -101,6 +106,7 @@ impl<R: MachineTime + RandomSource + Copy + Drop> Connection<R> {
                 Ok(()) => Sent::Waits,
                 Err(_) => Sent::Memory,
             },
+            Stage::Open(socket) if waiting <= self.gathered => gather(socket, message),
             Stage::Open(socket) => send(socket, message),
             Stage::Gone => Sent::Failed,
         };

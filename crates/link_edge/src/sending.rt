@@ -10,7 +10,7 @@ use tungstenite::{CloseCode, CloseFrame, Error, Message, Utf8Bytes};
 pub enum Sent {
     /// It and all before it went out.
     Whole,
-    /// The peer does not read, and an end of what was sent waits.
+    /// An end of what was sent waits: the peer does not read, or it is gathered.
     Waits,
     /// Out of memory. The socket is as before.
     Memory,
@@ -34,6 +34,14 @@ fn sent_by(answer: Result<(), Error>) -> Sent {
 /// Sends a message.
 pub fn send<R: RandomSource + Copy + Drop>(socket: &mut Socket<R>, message: Message) -> Sent {
     sent_by(socket.send(message))
+}
+
+/// Takes a message, which goes out with what is sent next, or by [`flush`].
+pub fn gather<R: RandomSource + Copy + Drop>(socket: &mut Socket<R>, message: Message) -> Sent {
+    match sent_by(socket.write(message)) {
+        Sent::Whole => Sent::Waits,
+        other => other,
+    }
 }
 
 /// Sends a close with that code.

@@ -9,6 +9,9 @@ pub const MOST_FRAME_BYTES: usize = 4096;
 /// The longest message that a client takes of a server, in bytes.
 pub const MOST_TEXT_BYTES: usize = 67108864;
 
+/// How many bytes of a server's texts are gathered before they go out.
+pub const MOST_GATHERED_BYTES: usize = 16384;
+
 /// How many bytes may wait for a peer that does not read.
 pub const MOST_WAITING_BYTES: usize = 67108864;
 
