@@ -38,6 +38,23 @@ fn show_texts(
     Ok(())
 }
 
+// Two short texts of the server, which go out together when it is next asked.
+fn show_gathered(
+    rt: &HostRuntime,
+    client: &mut SocketLink<HostRuntime>,
+    server: &mut SocketLink<HostRuntime>,
+) -> anyhow::Result<()> {
+    let one = done(server.send("one"));
+    let two = done(server.send("two"));
+    let before = heard(rt.alloc(), client.recv())?;
+    let asked = heard(rt.alloc(), server.recv())?;
+    let first = heard(rt.alloc(), next(rt, client))?;
+    let second = heard(rt.alloc(), next(rt, client))?;
+    println!(rt; "server sends twice: {one}, {two}, client hears: {before}")?;
+    println!(rt; "server is asked: {asked}, client hears: {first}, {second}")?;
+    Ok(())
+}
+
 // A close, after which the end that closed answers by its own code.
 fn show_close(
     rt: &HostRuntime,
@@ -64,6 +81,7 @@ fn show_ends(
     by_server: bool,
 ) -> anyhow::Result<()> {
     show_texts(rt, client, server)?;
+    show_gathered(rt, client, server)?;
     if by_server {
         show_close(rt, "server", server, client, 4004)
     } else {
