@@ -10,3 +10,4 @@ pub mod Wanting
 pub mod Numbering
 pub mod Moving
 pub mod Counting
+pub mod Noting

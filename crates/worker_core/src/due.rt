@@ -13,6 +13,7 @@ ghost use Rattle.worker_core.specs.Telling.{TellsAt, FailsAt};
 
 use crate::form_index::FormIndex;
 use crate::io::{Output, StepFault};
+use crate::notes::Notes;
 use crate::recipients::Recipients;
 use crate::tell::{envelopes_of, tell_written};
 use dispatch_equality::same_list;
@@ -178,18 +179,24 @@ impl DueDispatches {
         alloc: Global,
         replica: &Replica,
         entry: &Edit,
-        notes: &[Was],
+        notes: &Notes,
         recipients: &Recipients,
     ) -> Result<DueDispatches, AllocError>
-        requires { length notes.now ≡ length recipients.now.viewers.items }
-        ensures { IfOk result (λ o. (s : Record) → notes.now ≡ map (λ v. was_of s v entry.now) recipients.now.viewers.items → replica.now.guild ≡ applied s entry.now → accepts s entry.now ≡ true
+        ensures { IfOk result (λ o. (s : Record) → Picks notes.now.noted.items notes.now.whose.items (map (λ v. was_of s v entry.now) recipients.now.viewers.items) → replica.now.guild ≡ applied s entry.now → accepts s entry.now ≡ true
             → Picks o.told.items o.whose.items (map (due s entry.now) recipients.now.viewers.items)) }
     {
         let viewers = recipients.viewers.as_slice();
         let mut whose = Vec::with_capacity(alloc, viewers.len())?;
         let mut lists = DueLists::new(alloc);
         for index in 0..viewers.len() {
-            let (was, viewer) = (&notes[index], &viewers[index]);
+            let Some(was) = notes.at(index) else {
+                // Each viewer has a note.
+                return Ok(DueDispatches {
+                    told: lists.told,
+                    whose,
+                });
+            };
+            let viewer = &viewers[index];
             let user = recipients.user_of(index);
             let due = lists.index_for(replica, entry, was, viewer, user)?;
             whose.push(due)?;

@@ -7,6 +7,7 @@ mod form_index;
 pub mod io;
 mod look;
 mod made;
+mod notes;
 mod ready;
 mod recipients;
 pub mod tell;

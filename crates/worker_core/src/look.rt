@@ -1,11 +1,10 @@
 //! The entries of a log, one after another, for each session.
 
-ghost use Rattle.std.specs.Prelude.{◌≡◌, ◌++◌, false, map, IfOk, OnOk, MatchResult};
+ghost use Rattle.std.specs.Prelude.{◌≡◌, ◌++◌, false, map, OnOk, MatchResult};
 ghost use Rattle.guild_model.specs.Record.{Record};
 ghost use Rattle.edit_apply.specs.declared.Edit.{Edit};
 ghost use Rattle.edit_apply.specs.Edits.{after, state_from};
 ghost use Rattle.edit_events.specs.Due.{due};
-ghost use Rattle.edit_events.specs.Was.{was_of};
 ghost use Rattle.worker_core.specs.Recipients.{Picks, viewer_of};
 ghost use Rattle.world_law.specs.Keeping.{with_sessions};
 ghost use Rattle.worker_core.specs.Looked.{kept_looked, kept_sends, kept_spends};
@@ -15,32 +14,13 @@ ghost use Rattle.worker_core.specs.Telling.{TellsEach, FailsEach};
 
 use crate::due::DueDispatches;
 use crate::io::{Output, StepFault};
+use crate::notes::Notes;
 use crate::recipients::Recipients;
 use edit_apply::{Edit, judge, make};
-use edit_events::Was;
 use guild_model::Guild;
 use guild_replica::Replica;
 use session_core::Sessions;
 use std::alloc::{AllocError, Global};
-
-/// What has to be known of the record before an entry, for each viewer by its index.
-fn notes(
-    alloc: Global,
-    replica: &Replica,
-    entry: &Edit,
-    recipients: &Recipients,
-) -> Result<Vec<Was>, AllocError>
-    ensures { IfOk result (λ notes. notes.items ≡ map (λ v. was_of replica.now.guild v entry.now) recipients.now.viewers.items) }
-{
-    let viewers = recipients.viewers.as_slice();
-    let mut notes = Vec::with_capacity(alloc, viewers.len())?;
-    for index in 0..viewers.len() {
-        let user = recipients.user_of(index);
-        let noted = replica.note(alloc, entry, &viewers[index], user)?;
-        notes.push(noted)?;
-    }
-    Ok(notes)
-}
 
 /// What an accepted entry owes, sent to each session.
 fn tell_each(
@@ -88,9 +68,9 @@ fn enter(
     if judge(replica.guild(), entry).is_err() {
         return Ok(());
     }
-    let notes = notes(alloc, replica, entry, recipients)?;
+    let notes = Notes::of(alloc, replica, entry, recipients)?;
     replica.make(alloc, entry)?;
-    let lists = DueDispatches::of(alloc, replica, entry, notes.as_slice(), recipients)?;
+    let lists = DueDispatches::of(alloc, replica, entry, &notes, recipients)?;
     tell_each(&lists, recipients, sessions, out)
 }
 

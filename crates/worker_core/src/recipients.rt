@@ -2,7 +2,7 @@
 
 ghost use Rattle.std.specs.Prelude.{◌≡◌, Some, map, slice_get, IfOk, OnOk, IsTrue};
 ghost use Rattle.std.specs.Option.{option_copied};
-ghost use Rattle.worker_core.specs.Recipients.{Picks, IsLonger, picked_by, viewer_of};
+ghost use Rattle.worker_core.specs.Recipients.{AreOfOneSeat, Picks, IsLonger, picked_by, viewer_of};
 
 use dispatch_types::Viewer;
 use session_core::Sessions;
@@ -19,6 +19,8 @@ pub struct Recipients {
     pub users: Vec<Snowflake>,
     /// For each viewer, by its index, the index of its user.
     users_of: Vec<usize>,
+    /// For each viewer, by its index, the index of the first of one seat with it.
+    twins: Vec<usize>,
 }
 
 impl Drop for Recipients {
@@ -28,11 +30,13 @@ impl Drop for Recipients {
             whose,
             users,
             users_of,
+            twins,
         } = self;
         drop(viewers);
         drop(whose);
         drop(users);
         drop(users_of);
+        drop(twins);
     }
 }
 
@@ -59,6 +63,23 @@ fn index_of_user(users: &mut Vec<Snowflake>, user: Snowflake) -> Result<usize, A
     Ok(index)
 }
 
+/// Whether two viewers are of one user in one shard: then what is noted for one is noted for the other.
+pub fn are_of_one_seat(one: &Viewer, other: &Viewer) -> bool
+    ensures { IsTrue result → AreOfOneSeat one.now other.now }
+{
+    one.user == other.user && one.shard == other.shard
+}
+
+// For each viewer the index of the first of one seat with it.
+fn twins_of(alloc: Global, viewers: &[Viewer]) -> Result<Vec<usize>, AllocError> {
+    let mut twins = Vec::with_capacity(alloc, viewers.len())?;
+    for viewer in viewers {
+        let first = viewers.iter().position(|one| are_of_one_seat(one, viewer));
+        twins.push(first.unwrap_or(0))?;
+    }
+    Ok(twins)
+}
+
 // The viewers of these sessions, each once, and for each session the index of its viewer.
 fn viewers_of(alloc: Global, sessions: &Sessions) -> Result<(Vec<Viewer>, Vec<usize>), AllocError>
     ensures { IfOk result (λ lists. Picks lists.0.items lists.1.items (map viewer_of sessions.now.sessions)) }
@@ -82,6 +103,7 @@ impl Recipients {
             whose: Vec::new(alloc),
             users: Vec::new(alloc),
             users_of: Vec::new(alloc),
+            twins: Vec::new(alloc),
         }
     }
 
@@ -127,6 +149,11 @@ impl Recipients {
         self.users_of.get(viewer).copied().unwrap_or(0)
     }
 
+    /// The index of the first viewer of one seat with the viewer at an index.
+    pub fn twin_of(&self, viewer: usize) -> usize {
+        self.twins.get(viewer).copied().unwrap_or(0)
+    }
+
     /// The viewers of these sessions, and their users.
     fn of(alloc: Global, sessions: &Sessions) -> Result<Recipients, AllocError>
         ensures { IfOk result (λ recipients. Picks recipients.viewers.items recipients.whose.items (map viewer_of sessions.now.sessions)) }
@@ -137,11 +164,13 @@ impl Recipients {
         for viewer in viewers.as_slice() {
             users_of.push(index_of_user(&mut users, viewer.user)?)?;
         }
+        let twins = twins_of(alloc, viewers.as_slice())?;
         Ok(Recipients {
             viewers,
             whose,
             users,
             users_of,
+            twins,
         })
     }
 }

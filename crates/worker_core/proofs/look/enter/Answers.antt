@@ -28,4 +28,4 @@ returns-clause-told c =
     let g = c.args.replica.now.guild in
     let e = c.args.entry.now in
     let accepted : accepts g e ≡ true = accepted_by (verdict g e) (ap (λ (s : Record). is_err (outcome (verdict s e))) (sym c.guild.ensures) ∙ (ap is_err (sym c.judge.ensures) ∙ (sym c.is_err.ensures.value ∙ c.if-is_err.false))) in
-    c.tell_each.ensures g e (c.in_ok-lists.ensures g (c.as_slice.ensures.value ∙ c.in_ok-notes.ensures) c.in_ok-make.ensures accepted)
+    c.tell_each.ensures g e (c.in_ok-lists.ensures g c.in_ok-notes.ensures c.in_ok-make.ensures accepted)

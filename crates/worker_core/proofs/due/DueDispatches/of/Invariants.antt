@@ -10,5 +10,5 @@ use Rattle.worker_core.specs.Forms.{AreDue}
 use Rattle.worker_core.specs.Recipients.{Picks}
 
 abbrev pub invariant-loop-index : goal.invariant-loop-index
-invariant-loop-index l = (s : Record) → l.notes ≡ map (λ (v : Viewer). was_of s v l.entry) l.recipients.viewers.items → l.replica.guild ≡ applied s l.entry → accepts s l.entry ≡ true
+invariant-loop-index l = (s : Record) → Picks l.notes.noted.items l.notes.whose.items (map (λ (v : Viewer). was_of s v l.entry) l.recipients.viewers.items) → l.replica.guild ≡ applied s l.entry → accepts s l.entry ≡ true
     → Picks l.lists.told.items l.whose.items (map (due s l.entry) (take l.index l.recipients.viewers.items)) × AreDue s l.entry l.lists.told.items l.lists.forms
