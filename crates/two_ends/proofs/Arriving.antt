@@ -10,33 +10,23 @@ use Rattle.gateway_frames.specs.declared.frame.Frame.TheVariants as frame
 use Rattle.gateway_frames.specs.declared.fault.FrameFault.{FrameFault}
 use Rattle.gateway_frames.specs.declared.out.Out.TheVariants.{Ack}
 use Rattle.gateway_frames.specs.Read.{frame_of}
-use Rattle.session_core.specs.State.{Session, Detached, is_on, released, has_connection, number_on}
+use Rattle.session_core.specs.State.{Session, Detached, released, has_connection, number_on}
 use Rattle.session_core.specs.Rate.{is_rated}
 use Rattle.session_core.specs.Frames.{Move, Nothing, Answers, ClosesWith, fault_code, read_move, move_in_session, move_before_session}
 use Rattle.world_law.specs.Folds.{last_cursors}
 use Rattle.world_law.specs.Frames.{framed, frame_sends, move_at}
 use Rattle.world_law.specs.Model.{Worker, in_model, replay, cursors}
 use Rattle.world_law.specs.Outputs.{Output, Says, Closes}
-use Rattle.world_law.specs.Sends.{IsOff, AreOff}
 use Rattle.world_law.specs.Sent.{Sent, dispatches}
 use Rattle.world_law.proofs.Folds.{same_id}
 use Rattle.world_law.proofs.Logs.{state_id, state_is_well}
 use Rattle.world_law.proofs.Workers.{Follows, SessionMeets}
+use Rattle.world_law.proofs.Connections.{released_off}
 use Rattle.two_ends.specs.Flights.{Text, Close, said, flights, ReadsBack}
 use Rattle.two_ends.proofs.Among.{IsAmong, all_among}
 use Rattle.two_ends.proofs.Minds.{Item, Said, Shut, all_flown, Mind, all_minded, AtEnds, Good}
 use Rattle.two_ends.proofs.Steps.{minded_join}
 use Rattle.two_ends.proofs.Stages.{AreStill, still_join, later_join, still_later, all_still_minded, IsBeat, Prompts, Asks, Has, Stage, off_ends}
-
--- ---- lists
-
-pub released_off : (conn now : ℕ) (xs : List (Session Sent)) → AreOff conn (map (released conn (Detached now)) xs)
-released_off conn now [] = tt
-released_off conn now (x ∷ xs) = (by_test (is_on conn x.condition) refl, released_off conn now xs)
-  where
-    by_test : (b : Bool) → is_on conn x.condition ≡ b → IsOff conn (if b then record x { condition = Detached now } else x)
-    by_test true here = refl
-    by_test false off = off
 
 -- ---- a session that is held whole leaves no thread over
 

@@ -26,7 +26,7 @@ use Rattle.world_law.specs.Frames.{older_sends, framed, frame_sends, move_at}
 use Rattle.world_law.specs.Inputs.{Input, Look, Rebase, Open, Frame, Lost, Closed, Tick, taken, outputs, open_sends}
 use Rattle.world_law.specs.Model.{Worker, in_model, cursors, seen_with}
 use Rattle.world_law.specs.Sends.{AreOff, IsAlone}
-use Rattle.world_law.proofs.Alone.{IsSound, map_off, entry_keeps}
+use Rattle.world_law.proofs.Alone.{IsSound, alone_off, map_off, entry_keeps}
 use Rattle.world_law.proofs.Folds.{dispatches_told}
 use Rattle.world_law.proofs.Lists.{append_none, map_join}
 use Rattle.world_law.proofs.Sends.{chunk_dispatches}
@@ -34,7 +34,7 @@ use Rattle.two_ends.specs.Flights.{Flight, Text, Close, said, flights, flight}
 use Rattle.two_ends.proofs.Among.{IsAmong, off_among, among_here}
 use Rattle.two_ends.proofs.Minds.{Mind, all_minded, Grows, SessionKeeps, WorkerKeeps, AtEnds}
 use Rattle.two_ends.proofs.Growing.{entered_keeps, looked_grows, framed_goes}
-use Rattle.two_ends.proofs.ElsewhereStays.{off_alone, alone_split, IsOne, one_or_off, IsFound, found_split, none_changed, differs, on_is, Stays, same_stays, stays_on, off_stays, each_stays, map_stays, more_stays, other_stays, released_own, ending_own, gone_stays, resumed_stays, IsPlain, plainly, none_if, closes_flights, older_flights, texts_off, wishes_off, voice_off}
+use Rattle.two_ends.proofs.ElsewhereStays.{alone_split, IsOne, one_or_off, IsFound, found_split, none_changed, differs, on_is, Stays, same_stays, stays_on, off_stays, each_stays, map_stays, more_stays, other_stays, released_own, ending_own, gone_stays, resumed_stays, IsPlain, plainly, none_if, closes_flights, older_flights, texts_off, wishes_off, voice_off}
 use Rattle.two_ends.proofs.ElsewhereTurns.{sends_off, sends_on, Turn, plain_off, turn_off, plain_reaches, turn_reaches, reaches_join}
 pub use Rattle.two_ends.proofs.ElsewhereTurns.{IsShut, Reaches}
 
@@ -304,7 +304,7 @@ off_elsewhere text (Look g es) w conn other off = by_found (record_at (in_model 
 off_elsewhere text (Rebase g log) w conn other off = plain_off text conn w.core.sessions _ _ (rebase_plain text conn (record_at (in_model text) w.logs g) w g log) off
 off_elsewhere text (Open c) w conn other off = plain_off text conn w.core.sessions _ _ (open_plain text conn w c (differs c conn other)) off
 off_elsewhere text (Frame c received) w conn other off =
-    turn_off text conn w.core.sessions _ _ (frame_turn text conn w c (move_at (in_model text) w c received) (differs c conn other) (off_alone conn w.core.sessions off)) off
+    turn_off text conn w.core.sessions _ _ (frame_turn text conn w c (move_at (in_model text) w c received) (differs c conn other) (alone_off conn w.core.sessions off)) off
 off_elsewhere text (Lost c) w conn other off = record { off = off_stays conn w.core.sessions (lost c w.now w.core).sessions off (lost_stays text conn w c); codes = []; shut = refl }
 off_elsewhere text (Closed c code) w conn other off =
     record { off = off_stays conn w.core.sessions (taken (in_model text) w (Closed c code)).core.sessions off (closed_stays text conn w c code); codes = []; shut = refl }

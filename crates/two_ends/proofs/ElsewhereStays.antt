@@ -30,10 +30,6 @@ off_each : (conn : ℕ) (xs : List (Session Sent)) → ((x : Session Sent) → I
 off_each conn [] each = tt
 off_each conn (x ∷ xs) each = (each x (inl refl), off_each conn xs (λ y among. each y (inr among)))
 
-pub off_alone : (conn : ℕ) (xs : List (Session Sent)) → AreOff conn xs → IsAlone conn xs
-off_alone conn [] off = tt
-off_alone conn (x ∷ xs) off = (λ on. off.1, off_alone conn xs off.1)
-
 -- beside the session of a connection no other is on it
 pub alone_split : (conn : ℕ) (front : List (Session Sent)) (x : Session Sent) (back : List (Session Sent)) → IsAlone conn (front ++ x ∷ back) → is_on conn x.condition ≡ true → AreOff conn front × AreOff conn back
 alone_split conn [] x back alone on = (tt, alone.0 on)

@@ -28,13 +28,14 @@ use Rattle.world_law.proofs.Alone.{IsSound}
 use Rattle.world_law.proofs.Folds.{dispatches_told, same_id}
 use Rattle.world_law.proofs.Lists.{append_none, map_join}
 use Rattle.world_law.proofs.Workers.{Follows}
+use Rattle.world_law.proofs.Connections.{released_off}
 use Rattle.two_ends.specs.Flights.{Text, Close, said, flights, flight}
 use Rattle.two_ends.proofs.Among.{IsAmong, all_among, off_among, found_among, among_here, among_part, one_on}
 use Rattle.two_ends.proofs.Minds.{Item, Said, Shut, flown, all_flown, told_items, Mind, with_dispatch, minded, all_minded, SessionKeeps, WorkerKeeps, At, Known, Knows, IsGreeting, Comes, GoesOn, Good}
 use Rattle.two_ends.proofs.Steps.{flown_told, minded_join, good_join, told_good, at_first, at_resumed}
 use Rattle.two_ends.proofs.Stages.{AreStill, still_join, later_join, still_later, all_still_minded, AreBeats, Stage, off_ends, still_good, told_later}
 use Rattle.two_ends.proofs.Places.{same_number, among_below}
-use Rattle.two_ends.proofs.Arriving.{released_off, session_still, made_by, gives_by, closed_flies, Leaves}
+use Rattle.two_ends.proofs.Arriving.{session_still, made_by, gives_by, closed_flies, Leaves}
 
 module _ (text : ℕ → Dispatch → List ℕ) (intents conn : ℕ) where
   -- ---- the first frame

@@ -1,27 +1,21 @@
 -- The worker of a number in a world, and the sessions of an id.
-use Rattle.std.proofs.Common.{◌≡◌, ℕ, ◌<◌, ◌≤◌, ◌^◌, List, [], ◌∷◌, ◌++◌, inl, inr, Bool, true, false, Option, Some, None, if◌then◌else◌, length, map, drop, refl, sym, ap, subst, ◌∙◌, append_assoc, arith}
+use Rattle.std.proofs.Common.{◌≡◌, ℕ, ◌<◌, ◌≤◌, ◌^◌, List, [], ◌∷◌, ◌++◌, inl, inr, Bool, true, false, Option, Some, None, if◌then◌else◌, length, map, refl, sym, ap, subst, ◌∙◌, arith}
 use Rattle.std.specs.Prelude.{All, ◌==◌, option_map, decimal, codes}
 use Rattle.std.specs.List.{find}
 use Rattle.std.proofs.lemmas.Bool.{eqb-true}
 use Rattle.std.proofs.lemmas.Fmt.{decimal_injective}
 use Rattle.std.proofs.lemmas.List.{append_cancel_left}
-use Rattle.std.proofs.lemmas.List.Elements.{All-head, All-tail, All-map, All-weaker, All-nil}
-use Rattle.std.proofs.Math.Seq.{drop-append_seam}
+use Rattle.std.proofs.lemmas.List.Elements.{All-head, All-tail, All-map}
 use Rattle.dispatch_types.specs.declared.dispatch.Dispatch.{Dispatch}
-use Rattle.edit_apply.specs.declared.Edit.{Edit}
 use Rattle.session_core.specs.declared.bot.Bot.{Bot}
 use Rattle.session_core.specs.State.{Session}
 use Rattle.session_core.specs.Resume.{session_id}
-use Rattle.world_law.specs.TheLaw.{IsOf}
-use Rattle.world_law.specs.Inputs.{Input, Look, Rebase, Open, Frame, Lost, Closed, Tick, taken}
-use Rattle.world_law.specs.World.{World, Step, Edits, Looks, Opens, Frames, Loses, Leaves, Ticks, at_worker, first_of, first_world, lags, look_at, stepped}
-use Rattle.world_law.specs.Model.{Seen, Worker, in_model, first_worker, seen_with}
+use Rattle.world_law.specs.Inputs.{Input, Open, Frame, Lost, Closed, Tick, taken}
+use Rattle.world_law.specs.World.{World, Step, Edits, Looks, Opens, Frames, Loses, Leaves, Ticks, first_of, first_world, look_at, stepped}
+use Rattle.world_law.specs.Model.{Worker, in_model}
 use Rattle.world_law.specs.Sent.{Sent}
-use Rattle.world_law.proofs.Lists.{append_none}
 use Rattle.world_law.proofs.Alone.{Ascend}
 use Rattle.world_law.proofs.Resumes.{found_meets}
-use Rattle.world_law.proofs.Workers.{SessionMeets}
-use Rattle.world_law.proofs.Worlds.{IsFront, Stays, taken_stays}
 use Rattle.two_ends.specs.Ends.{is_worker, worker_at, input_if, input_of}
 use Rattle.two_ends.proofs.Among.{IsAmong}
 
@@ -142,53 +136,3 @@ module _ (text : ℕ → Dispatch → List ℕ) where
   worker_stepped keeps n m (Loses k conn) = moved_at keeps n k (λ (w : Worker). Lost conn) m.workers
   worker_stepped keeps n m (Leaves k conn code) = moved_at keeps n k (λ (w : Worker). Closed conn code) m.workers
   worker_stepped keeps n m (Ticks k now) = moved_at keeps n k (λ (w : Worker). Tick now) m.workers
-
--- ---- what each worker of a world stays
-
-logged : (logs : Seen) (g : ℕ) (e : Edit) (w : Worker) → Stays logs w → Stays (seen_with logs g e) w
-logged logs g e w old = record { follows = old.follows; sound = old.sound; front = λ h. by_id h (g == h) (old.front h) }
-  where
-    by_id : (h : ℕ) (b : Bool) → (rest : List Edit) × (logs h ≡ w.logs.seen h ++ rest) → (rest : List Edit) × ((if b then logs h ++ e ∷ [] else logs h) ≡ w.logs.seen h ++ rest)
-    by_id h true (rest, is) = (rest ++ e ∷ [], ap (λ es. es ++ e ∷ []) is ∙ append_assoc (w.logs.seen h) rest (e ∷ []))
-    by_id h false old = old
-
--- a look at a log takes what follows the cursor, or the whole log
-look_is_of : (logs : Seen) (g : ℕ) (w : Worker) → IsFront w.logs.seen logs → IsOf logs w (look_at g (logs g) (length (w.logs.seen g)))
-look_is_of logs g w front = by_lag (lags (logs g) (length (w.logs.seen g)))
-  where
-    by_lag : (b : Bool) → IsOf logs w (if b then Rebase g (logs g) else Look g (drop (length (w.logs.seen g)) (logs g)))
-    by_lag true = ((front g).0, ([], ((front g).1, sym (append_none (logs g)))))
-    by_lag false =
-        let next : List Edit = drop (length (w.logs.seen g)) (logs g) in
-        let dropped : next ≡ (front g).0 = ap (drop (length (w.logs.seen g))) (front g).1 ∙ drop-append_seam (w.logs.seen g) (front g).0 in
-        ([], (front g).1 ∙ ap (λ es. w.logs.seen g ++ es) (sym (append_none next ∙ dropped)))
-
-moved_stays : (n : ℕ) (f : Worker → Worker) (m : World) → ((w : Worker) → Stays m.logs w → Stays m.logs (f w)) → All (Stays m.logs) m.workers → All (Stays m.logs) (at_worker n f m).workers
-moved_stays n f m keeps old = All-map (Stays m.logs) (λ (w : Worker). if w.core.worker == n then f w else w) m.workers
-    (All-weaker (Stays m.logs) (λ w. Stays m.logs (if w.core.worker == n then f w else w)) (λ w h. by_number w h (w.core.worker == n)) m.workers old)
-  where
-    by_number : (w : Worker) → Stays m.logs w → (b : Bool) → Stays m.logs (if b then f w else w)
-    by_number w h true = keeps w h
-    by_number w h false = h
-
-pub stays_stepped : (text : ℕ → Dispatch → List ℕ) (step : Step) (m : World) → All (Stays m.logs) m.workers → All (Stays (stepped text m step).logs) (stepped text m step).workers
-stays_stepped text (Edits g e) m old = All-weaker (Stays m.logs) (Stays (seen_with m.logs g e)) (logged m.logs g e) m.workers old
-stays_stepped text (Looks n g) m old =
-    moved_stays n (λ w. taken (in_model text) w (look_at g (m.logs g) (length (w.logs.seen g)))) m
-    (λ w h. taken_stays text m.logs (look_at g (m.logs g) (length (w.logs.seen g))) w (look_is_of m.logs g w h.front) h) old
-stays_stepped text (Opens n conn) m old = moved_stays n (λ w. taken (in_model text) w (Open conn)) m (λ w h. taken_stays text m.logs (Open conn) w tt h) old
-stays_stepped text (Frames n conn received) m old = moved_stays n (λ w. taken (in_model text) w (Frame conn received)) m (λ w h. taken_stays text m.logs (Frame conn received) w tt h) old
-stays_stepped text (Loses n conn) m old = moved_stays n (λ w. taken (in_model text) w (Lost conn)) m (λ w h. taken_stays text m.logs (Lost conn) w tt h) old
-stays_stepped text (Leaves n conn code) m old = moved_stays n (λ w. taken (in_model text) w (Closed conn code)) m (λ w h. taken_stays text m.logs (Closed conn code) w tt h) old
-stays_stepped text (Ticks n now) m old = moved_stays n (λ w. taken (in_model text) w (Tick now)) m (λ w h. taken_stays text m.logs (Tick now) w tt h) old
-
--- before the first input nothing was looked at
-worker_stays : (logs : Seen) (bots : List Bot) (guilds : List ℕ) (number : ℕ) (url : List ℕ) → Stays logs (first_worker bots guilds number url)
-worker_stays logs bots guilds number url = record {
-  follows = record { sessions = All-nil (SessionMeets (λ g. [])); strangers = λ g none. refl };
-  sound = record { numbers = omega arith; alone = λ conn. tt };
-  front = λ g. (logs g, refl);
-}
-
-pub stays_first : (bots : List Bot) (guilds : List ℕ) (places : List (ℕ × List ℕ)) → All (Stays (first_world bots guilds places).logs) (first_world bots guilds places).workers
-stays_first bots guilds places = All-map (Stays (λ g. [])) (first_of bots guilds) places (λ k d h. worker_stays (λ g. []) bots guilds _ _)

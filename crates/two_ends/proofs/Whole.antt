@@ -20,7 +20,7 @@ use Rattle.world_law.specs.Inputs.{Input, Look, Rebase, Open, Frame, Lost, Close
 use Rattle.world_law.specs.Model.{Worker, cursors}
 use Rattle.world_law.specs.Sent.{Sent, dispatches}
 use Rattle.world_law.specs.World.{World, Step, Edits, Looks, Opens, Frames, Loses, Leaves, Ticks, stepped, first_world, look_at, lags}
-use Rattle.world_law.proofs.Worlds.{Stays, worker_holds}
+use Rattle.world_law.proofs.Worlds.{Stays, worker_holds, stepped_stays, first_stays}
 use Rattle.two_ends.specs.Flights.{Flight, Text, Close, flights, ReadsBack, Fits}
 use Rattle.two_ends.specs.Ends.{Ends, first_ends, worker_at, input_if, input_of, outputs_of, given_by, flights_of, moved}
 use Rattle.two_ends.specs.Events.{Event, Hears, Arrives, Cuts, Learns, Dials, Beats, Happens, IsHeard, IsElsewhere, IsUnused, WorkerFits, MayHappen, MayAllHappen, heard, arrived, after, after_all}
@@ -34,7 +34,7 @@ use Rattle.two_ends.proofs.Stages.{IsOwn}
 use Rattle.two_ends.proofs.Hearing.{mind, asks_mind, loses_mind}
 use Rattle.two_ends.proofs.Elsewhere.{IsElse}
 use Rattle.two_ends.proofs.Lasting.{Holds, flown_to, any_lasts, text_lasts, open_lasts, hear_lasts, hear_advances, beat_lasts, learn_lasts, cut_lasts}
-use Rattle.two_ends.proofs.Places.{after_input, worker_stepped, worker_number, found_stays, first_worker_at, stays_first, stays_stepped}
+use Rattle.two_ends.proofs.Places.{after_input, worker_stepped, worker_number, found_stays, first_worker_at}
 
 -- ---- which inputs a step gives
 
@@ -121,7 +121,7 @@ module _ (text : ℕ → Dispatch → List ℕ) (back : ReadsBack text) where
         → Holds text e.client e.worker e.conn e.is_whole (e.to_client ++ (if e.is_whole then flown_to e.conn (outputs_of text w (input_of e.world w step)) else [])) e.to_worker (after_input text w (input_of e.world w step)))
         → Stand (moved text e step)
     moved_stands stays alone holds = record {
-      stays = stays_stepped text step e.world stays;
+      stays = stepped_stays text step e.world stays;
       ends = λ new found.
           let old = from new found in
           subst (λ (w : Worker). Holds text e.client e.worker e.conn e.is_whole (e.to_client ++ (if e.is_whole then flights_of text e step e.conn else [])) e.to_worker w) (sym old.1.1)
@@ -260,7 +260,7 @@ module _ (text : ℕ → Dispatch → List ℕ) (back : ReadsBack text) where
 
   first_stands : (bots : List Bot) (guilds : List ℕ) (places : List (ℕ × List ℕ)) (worker : ℕ) (token : List ℕ) (intents : ℕ) → Stand (first_ends bots guilds places worker token intents)
   first_stands bots guilds places worker token intents = record {
-    stays = stays_first bots guilds places;
+    stays = first_stays bots guilds places;
     ends = λ w found.
         let fresh = first_worker_at bots guilds places worker w found in
         record {

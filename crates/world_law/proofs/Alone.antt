@@ -49,7 +49,7 @@ off_join : (conn : ℕ) (xs ys : List (Session Sent)) → AreOff conn xs → Are
 off_join conn [] ys off rest = rest
 off_join conn (x ∷ xs) ys off rest = (off.0, off_join conn xs ys off.1 rest)
 
-alone_off : (conn : ℕ) (xs : List (Session Sent)) → AreOff conn xs → IsAlone conn xs
+pub alone_off : (conn : ℕ) (xs : List (Session Sent)) → AreOff conn xs → IsAlone conn xs
 alone_off conn [] off = tt
 alone_off conn (x ∷ xs) off = (λ on. off.1, alone_off conn xs off.1)
 

@@ -244,7 +244,7 @@ ends_holds on s conn xs own keeps holds = record {
     by_id c true same lacks = subst (λ n. AreOff n xs) (sym (eqb-true c conn same)) own
     by_id c false differ lacks = keeps c (holds.off c (sym (ap (λ b. not b && has_connection c s) differ) ∙ lacks))
 
-released_off : (conn now : ℕ) (xs : List (Session Sent)) → AreOff conn (map (released conn (Detached now)) xs)
+pub released_off : (conn now : ℕ) (xs : List (Session Sent)) → AreOff conn (map (released conn (Detached now)) xs)
 released_off conn now [] = tt
 released_off conn now (x ∷ xs) = (by_test (is_on conn x.condition) refl, released_off conn now xs)
   where

@@ -135,7 +135,7 @@ abbrev pub WorldStays : World → Type 0
 WorldStays m = All (Stays m.logs) m.workers
 
 module _ (text : ℕ → Dispatch → List ℕ) where
-  stepped_stays : (s : Step) (m : World) → WorldStays m → WorldStays (stepped text m s)
+  pub stepped_stays : (s : Step) (m : World) → WorldStays m → WorldStays (stepped text m s)
   stepped_stays (Edits g e) m old = All-weaker (Stays m.logs) (Stays (seen_with m.logs g e)) (logged m.logs g e) m.workers old
   stepped_stays (Looks n g) m old =
       moved_stays n (λ w. taken (in_model text) w (look_at g (m.logs g) (length (w.logs.seen g)))) m
@@ -162,7 +162,7 @@ worker_stays logs bots guilds number url = record {
   front = λ g. (logs g, refl);
 }
 
-first_stays : (bots : List Bot) (guilds : List ℕ) (places : List (ℕ × List ℕ)) → WorldStays (first_world bots guilds places)
+pub first_stays : (bots : List Bot) (guilds : List ℕ) (places : List (ℕ × List ℕ)) → WorldStays (first_world bots guilds places)
 first_stays bots guilds places = All-map (Stays (λ g. [])) (first_of bots guilds) places (λ k d h. worker_stays (λ g. []) bots guilds _ _)
 
 -- ---- in the words of the law
