@@ -18,7 +18,7 @@ use Rattle.file_lift.specs.declared.fault.LiftFault.TheVariants.{Read, Write, Li
 use Rattle.file_lift.specs.declared.lifter.Lifter.{Lifter}
 use Rattle.file_lift.specs.Lifted.{line_written, line_refused, unless_refused, first_refused, written_from, refused_from, lifted_file}
 use Rattle.file_lift.specs.Lifting.{Lifts, KeepsSaying, KeepsSayings, IsRead, LiftsLine, HasLifted}
-use Rattle.file_lift.proofs.Lists.{whole_fed, lines_fed, begun_line, whole_none, lone_line}
+use Rattle.file_lines.proofs.Fed.{whole_fed, lines_fed, begun_line, whole_none, lone_line}
 use Rattle.file_lift.proofs.Counting.{long_same, long_refused}
 use Rattle.file_lift.proofs.Laws.{reader-more, refused-more, written-more, sayings-more, one_written, one_refused, not_refused, same_written, same_refused}
 use Rattle.file_lift.proofs.Sayings.{file_says}

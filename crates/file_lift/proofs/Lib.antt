@@ -1,5 +1,4 @@
 pub mod NoFeeds
-pub mod Lists
 pub mod Counting
 pub mod Laws
 pub mod Sayings

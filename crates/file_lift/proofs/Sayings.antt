@@ -11,7 +11,7 @@ use Rattle.file_lines.specs.Lines.{lines_of}
 use Rattle.file_lift.specs.Lifted.{newest_said, written, unless_refused, written_from, lifted_file, said_from, SaysTheSame}
 use Rattle.file_lift.specs.Lifting.{KeepsSaying, KeepsSayings}
 use Rattle.file_lift.proofs.NoFeeds.{newest_piece}
-use Rattle.file_lift.proofs.Lists.{lines_fed}
+use Rattle.file_lines.proofs.Fed.{lines_fed}
 use Rattle.file_lift.proofs.Laws.{not_refused}
 
 -- a reader keeps the same of both

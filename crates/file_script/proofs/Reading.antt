@@ -8,7 +8,8 @@ use Rattle.gate_outside.specs.declared.faults.Fault.{Fault}
 use Rattle.gate_outside.specs.declared.faults.Fault.TheVariants as outside
 use Rattle.file_lines.specs.Lines.{whole_lines, tail, last_line, lines_of, IsPiece}
 use Rattle.file_lines.specs.Reads.{BeginsWithLine, LineIsRead}
-use Rattle.file_lines.proofs.Lists.{whole_line, tail_line, whole_part, tail_part, lines_from, lines-more, Begins, begun, last_some}
+use Rattle.file_lines.proofs.Lists.{tail_line, whole_part, lines_from, lines-more, Begins}
+use Rattle.file_lines.proofs.Fed.{lines_fed, begun_line, lone_line}
 use Rattle.edit_text.specs.declared.line.FileKind.TheVariants.{Script}
 use Rattle.edit_text.specs.declared.line.Line.{Line}
 use Rattle.edit_text.specs.declared.reader_state.ReaderState.{ReaderState}
@@ -30,25 +31,6 @@ lines_at_feed done none = ap (λ t. whole_lines done ++ last_line t) none ∙ ap
 
 after_feed : (done rest : List ℕ) → tail done ≡ [] → lines_of (done ++ rest) ≡ lines_of done ++ lines_of rest
 after_feed done rest none = lines-more done rest ∙ (ap (λ t. whole_lines done ++ lines_from t rest) none ∙ ap (λ ls. ls ++ lines_of rest) (sym (lines_at_feed done none)))
-
--- a line and its line feed come first
-fed_line : (line rest : List ℕ) → IsPiece line → lines_of (line ++ 10 ∷ rest) ≡ line ∷ lines_of rest
-fed_line line rest piece =
-    let none : tail (line ++ 10 ∷ []) ≡ [] = tail_line [] line piece in
-    let one : lines_of (line ++ 10 ∷ []) ≡ line ∷ [] = lines_at_feed (line ++ 10 ∷ []) none ∙ whole_line [] line piece in
-    ap lines_of (sym (append_assoc line (10 ∷ []) rest)) ∙ (after_feed (line ++ 10 ∷ []) rest none ∙ ap (λ ls. ls ++ lines_of rest) one)
-
--- a line that has begun comes first
-begun_line : (line rest : List ℕ) → IsPiece line → 0 < length line → Begins line (lines_of (line ++ rest))
-begun_line line rest piece some =
-    let is : lines_of (line ++ rest) ≡ lines_from line rest =
-    lines-more line rest ∙ (ap (λ ls. ls ++ lines_from (tail line) rest) (whole_part [] line piece) ∙ ap (λ t. lines_from t rest) (tail_part [] line piece)) in
-    subst (λ ls. Begins line ls) (sym is) (begun rest line some)
-
--- a last line alone
-lone_line : (line : List ℕ) → IsPiece line → 0 < length line → lines_of line ≡ line ∷ []
-lone_line line piece some =
-    ap (λ ls. ls ++ last_line (tail line)) (whole_part [] line piece) ∙ (ap last_line (tail_part [] line piece) ∙ last_some line some)
 
 pub end_rest : (left : Known (List ℕ)) (rest : List ℕ) → IsAtEnd left → left ≡ known.Some rest → rest ≡ []
 end_rest known.None rest at is = absurd (cc)
@@ -152,7 +134,7 @@ module _ (left : Known (List ℕ)) (k : ScriptLines) (bytes : List ℕ) (given :
         [],
         lines_of (k.lines.ahead ++ rest),
         all (k.lines.line ++ 10 ∷ k.lines.ahead) fed.1
-            ∙ ap (λ ls. lines_of has.done ++ ls) (ap lines_of (append_assoc k.lines.line (10 ∷ k.lines.ahead) rest) ∙ (fed_line k.lines.line (k.lines.ahead ++ rest) has.piece
+            ∙ ap (λ ls. lines_of has.done ++ ls) (ap lines_of (append_assoc k.lines.line (10 ∷ k.lines.ahead) rest) ∙ (lines_fed k.lines.line (k.lines.ahead ++ rest) has.piece
             ∙ ap (λ l. l ∷ lines_of (k.lines.ahead ++ rest)) (sym (append-nil k.lines.line)))),
         λ r. ap (line_of r) (append-nil k.lines.line),
       )
@@ -195,7 +177,7 @@ module _ (left : Known (List ℕ)) (k : ScriptLines) (bytes : List ℕ) (given :
         by_next : IsNextLine left k bytes has.done → HasGiven left new bytes (given ++ said_by said)
         by_next (inl fed) =
             with_it (has.done ++ (k.lines.line ++ 10 ∷ []))
-            (after_feed has.done (k.lines.line ++ 10 ∷ []) has.at_feed ∙ ap (λ ls. lines_of has.done ++ ls) (fed_line k.lines.line [] has.piece))
+            (after_feed has.done (k.lines.line ++ 10 ∷ []) has.at_feed ∙ ap (λ ls. lines_of has.done ++ ls) (lines_fed k.lines.line [] has.piece))
             (fed.1 ∙ (ap (λ l. has.done ++ l) (sym (append_assoc k.lines.line (10 ∷ []) k.lines.ahead)) ∙ sym (append_assoc has.done (k.lines.line ++ 10 ∷ []) k.lines.ahead)))
             (λ e. tail_line has.done k.lines.line has.piece)
             (λ e. absurd (true≢false (sym e ∙ fed.0)))

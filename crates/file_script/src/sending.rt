@@ -1,9 +1,9 @@
 //! Sends the edits of a script's file.
-ghost use Rattle.std.specs.Prelude.{◌≡◌, ◌<◌, ◌∷◌, ◌++◌, [], ℕ, List, length, map, MatchResult};
+ghost use Rattle.std.specs.Prelude.{◌≡◌, ◌<◌, ◌++◌, ℕ, List, length, map};
 ghost use Rattle.std.specs.Io.KnownBytes.{Consumes};
 ghost use Rattle.edit_post.specs.Post.{Sender, after_end};
 ghost use Rattle.edit_text.specs.declared.line.Line.{Line as ALine};
-ghost use Rattle.guild_posts.specs.Posts.{ArePasses, AreSent, IsRefusedBySome};
+ghost use Rattle.guild_posts.specs.Posts.{ArePasses, AreSent};
 ghost use Rattle.script_run.specs.Scripts.{edits_in};
 ghost use Rattle.file_script.specs.Reads.{HasGiven, ReadCause};
 ghost use Rattle.file_script.specs.Sends.{HeadIsRead, SendsFile, SendCause};
@@ -11,32 +11,12 @@ ghost use Rattle.file_script.specs.Sends.{HeadIsRead, SendsFile, SendCause};
 use crate::fault::ScriptFault;
 use crate::script::FileScript;
 use crate::script_lines::ScriptLines;
-use edit_post::{Post, SendPass, SendRefused};
-use edit_text::Line;
+use edit_post::{Post, SendPass};
 use gate_outside::streams::Source;
-use guild_posts::{end_all, send};
+use guild_posts::end_all;
 use indexmap::IndexSet;
+use script_run::send_line;
 use std::sync::Wait;
-
-// Sends the edit of a line. No other line sends anything.
-fn send_line<R: Wait + Drop>(
-    posts: &[Post<R>],
-    passes: &mut Vec<SendPass>,
-    index: &IndexSet<u64>,
-    line: Line,
-) -> Result<(), SendRefused>
-    requires some { 0 < length posts.now }
-    requires passes { ArePasses posts.now passes.old.items }
-    ensures { MatchResult result (λ _. AreSent index.now.keys (edits_in (line ∷ [])) passes.old.items passes.new.items) (λ refused. (passes.new.items ≡ passes.old.items) × IsRefusedBySome passes.new.items refused) }
-{
-    match line {
-        Line::Edit { guild, edit } => send(posts, passes, index, guild, edit),
-        other => {
-            drop(other);
-            Ok(())
-        }
-    }
-}
 
 // Sends the edits of the lines that follow, each once its line is read.
 fn send_rest<S: Source, R: Wait + Drop>(
@@ -74,7 +54,7 @@ fn send_edits<S: Source, R: Wait + Drop>(
         → (more : List ℕ) × Consumes (S.left source.old) (S.left source.new) more × SendsFile index.now.keys (S.left source.new) (bytes ++ more) passes.old.items passes.new.items result }
     ensures cause { SendCause script.first (S.faults source.old) (S.faults source.new) result }
 {
-    let FileScript { first, mut lines } = script;
+    let (mut lines, first) = script.into_parts();
     let Some(line) = first? else {
         return Ok(());
     };

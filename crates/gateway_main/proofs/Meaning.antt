@@ -1,6 +1,6 @@
 -- A file that says what another does, each line in its newest version, plays the same.
-use Rattle.std.proofs.Common.{◌≡◌, ℕ, List, [], ◌∷◌, ◌++◌, map, Bool, true, false, Option, Some, None, Result, Ok, Err, refl, sym, ap, ap₂, ◌∙◌}
-use Rattle.std.specs.Prelude.{◌==◌, if◌then◌else◌}
+use Rattle.std.proofs.Common.{◌≡◌, ℕ, List, [], ◌∷◌, ◌++◌, map, Option, Some, None, Result, Ok, Err, refl, sym, ap, ◌∙◌}
+use Rattle.std.specs.Prelude.{if◌then◌else◌}
 use Rattle.edit_fields.specs.declared.fault.LineFault.{LineFault}
 use Rattle.edit_text.specs.declared.line.FileKind.TheVariants.{Run}
 use Rattle.edit_text.specs.declared.line.Line.{Line}
@@ -9,10 +9,9 @@ use Rattle.edit_text.specs.declared.reader_state.ReaderState.{ReaderState}
 use Rattle.edit_text.specs.Lines.{line_of, after_line, reader_after}
 use Rattle.edit_text.specs.Reader.{first_reader}
 use Rattle.edit_text.specs.Lifted.{lifted}
-use Rattle.file_lines.specs.Lines as file
+use Rattle.file_lines.specs.Lines.{lines_of}
 use Rattle.file_lift.specs.Lifted.{newest_said, said_from, SaysTheSame}
 use Rattle.file_lift.proofs.Sayings.{newest_after}
-use Rattle.scenario.specs.Lines.{whole_from, tail_from, last_line, lines_of}
 use Rattle.scenario.specs.Server.{Server, first_server, played}
 use Rattle.scenario.specs.Transcript.{line_text, line_ending, Ending, read_text, after_read, read_ending, is_read, text_from, ending_from, then_ending, transcript, ending}
 use Rattle.gateway_main.specs.Lifting.{MeansTheSame}
@@ -130,33 +129,7 @@ endings_same (x ∷ xs) (y ∷ ys) r p e =
     ∙ ap (λ l. then_ending (read_ending p (reader_after r y).lines (line_of r y)) l)
     (endings_same xs ys (reader_after r y) (after_read p (line_of r y)) (tail_same x y xs ys r e)))
 
--- ---- the lines of a file, by either definition
-
-whole_same : (bytes part : List ℕ) → whole_from part bytes ≡ file.whole_from part bytes
-whole_same [] part = refl
-whole_same (b ∷ bs) part = by_feed (b == 10) (λ p. whole_same bs p)
-  where
-    by_feed : (t : Bool) → ((p : List ℕ) → whole_from p bs ≡ file.whole_from p bs) → (if t then part ∷ whole_from [] bs else whole_from (part ++ b ∷ []) bs) ≡ (if t then part ∷ file.whole_from [] bs else file.whole_from (part ++ b ∷ []) bs)
-    by_feed true same = ap (λ ls. part ∷ ls) (same [])
-    by_feed false same = same (part ++ b ∷ [])
-
-tail_same_as : (bytes part : List ℕ) → tail_from part bytes ≡ file.tail_from part bytes
-tail_same_as [] part = refl
-tail_same_as (b ∷ bs) part = by_feed (b == 10) (λ p. tail_same_as bs p)
-  where
-    by_feed : (t : Bool) → ((p : List ℕ) → tail_from p bs ≡ file.tail_from p bs) → (if t then tail_from [] bs else tail_from (part ++ b ∷ []) bs) ≡ (if t then file.tail_from [] bs else file.tail_from (part ++ b ∷ []) bs)
-    by_feed true same = same []
-    by_feed false same = same (part ++ b ∷ [])
-
-last_same : (part : List ℕ) → last_line part ≡ file.last_line part
-last_same [] = refl
-last_same (b ∷ bs) = refl
-
-lines_same : (bytes : List ℕ) → lines_of bytes ≡ file.lines_of bytes
-lines_same bytes = ap₂ (λ ls ms. ls ++ ms) (whole_same bytes []) (ap last_line (tail_same_as bytes []) ∙ last_same (file.tail bytes))
-
 pub means_the_same : MeansTheSame
 unfolding MeansTheSame SaysTheSame transcript ending
 means_the_same new old says =
-    let is : said_from (first_reader Run) (lines_of new) ≡ map newest_said (said_from (first_reader Run) (lines_of old)) = rw (lines_same new, lines_same old) says in
-    (texts_same (lines_of new) (lines_of old) (first_reader Run) first_server is, endings_same (lines_of new) (lines_of old) (first_reader Run) first_server is)
+    (texts_same (lines_of new) (lines_of old) (first_reader Run) first_server says, endings_same (lines_of new) (lines_of old) (first_reader Run) first_server says)

@@ -8,13 +8,13 @@ use Rattle.edit_text.specs.Reader.{first_reader}
 use Rattle.scenario.specs.declared.fault.PlayFault.{PlayFault}
 use Rattle.scenario.specs.declared.fault.PlayFault.TheVariants.{Memory}
 use Rattle.scenario.specs.declared.file_runner.FileRunner.{FileRunner}
-use Rattle.scenario.specs.Lines.{whole_lines, tail, lines_of, last_line, IsPiece}
+use Rattle.file_lines.specs.Lines.{whole_lines, tail, lines_of, last_line, IsPiece}
 use Rattle.scenario.specs.Server.{Server, first_server}
 use Rattle.scenario.specs.Transcript.{Whole, text_from, run_text, run_ending, text_of, reader_of, server_of, transcript, ending}
 use Rattle.gate_outside.specs.Streams.{Carries, CarriesFront}
 use Rattle.scenario.specs.Played.{Leaves, RunsLine, Playing, LeavesAt, Anything, Nothing}
 use Rattle.gate_outside.proofs.Fronts.{front_before, carries_front}
-use Rattle.scenario.proofs.Lists.{whole_line, tail_line, whole_part, tail_part, lines_from, lines-more, Begins, begun}
+use Rattle.file_lines.proofs.Lists.{whole_line, tail_line, whole_part, tail_part, lines_from, lines-more, Begins, begun}
 use Rattle.scenario.proofs.Stops.{reader-more, text-more, ends_among, line_is_run, long_text, long_ending, long_stops}
 
 last_is : (part : List ℕ) (b : ℕ) (bs : List ℕ) → part ≡ b ∷ bs → last_line part ≡ part ∷ []

@@ -1,4 +1,3 @@
-pub mod Lists
 pub mod Follows
 pub mod Stops
 pub mod Bytes

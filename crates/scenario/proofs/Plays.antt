@@ -11,7 +11,7 @@ use Rattle.gate_outside.specs.declared.faults.Fault.TheVariants as outside
 use Rattle.scenario.specs.declared.fault.PlayFault.{PlayFault}
 use Rattle.scenario.specs.declared.fault.PlayFault.TheVariants.{Read, Write, Line, Spent, Memory}
 use Rattle.scenario.specs.declared.file_runner.FileRunner.{FileRunner}
-use Rattle.scenario.specs.Lines.{whole_lines}
+use Rattle.file_lines.specs.Lines.{whole_lines}
 use Rattle.scenario.specs.Transcript.{Ending, Whole, text_of, transcript, ending}
 use Rattle.scenario.specs.Played.{fault_of, Ends, Written, StopsAt, Anything, Nothing, PlaysAll, PlaysLines, PlaysPart, PlaysTo, PlayCause}
 use Rattle.gate_outside.proofs.Fronts.{all_written}

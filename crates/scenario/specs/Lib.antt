@@ -1,4 +1,3 @@
-pub mod Lines
 pub mod Server
 pub mod Texts
 pub mod Transcript

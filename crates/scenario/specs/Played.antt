@@ -15,7 +15,7 @@ use Rattle.scenario.specs.declared.fault.PlayFault.TheVariants.{Read, Write, Lin
 use Rattle.scenario.specs.declared.server.Server.{Server as KeptServer}
 use Rattle.scenario.specs.declared.server.Answer.{Answer}
 use Rattle.scenario.specs.declared.file_runner.FileRunner.{FileRunner}
-use Rattle.scenario.specs.Lines.{whole_lines, tail}
+use Rattle.file_lines.specs.Lines.{whole_lines, tail}
 use Rattle.scenario.specs.Server.{Server}
 use Rattle.scenario.specs.Transcript.{head_text, outputs_text, Ending, Whole, Stops, Spends, after_run, run_text, run_ending, text_of, ending_of, reader_of, server_of, transcript, ending}
 use Rattle.scenario.specs.Represents.{Represents}

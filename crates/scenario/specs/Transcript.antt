@@ -13,7 +13,7 @@ use Rattle.edit_text.specs.Reader.{first_reader, reader_from, number_of}
 use Rattle.worker_core.specs.declared.io.Output.{Output}
 use Rattle.worker_core.specs.declared.io.Output.TheVariants.{Send, Close, Wish}
 use Rattle.scenario.specs.declared.lagged.Lagged.{Lagged}
-use Rattle.scenario.specs.Lines.{lines_of}
+use Rattle.file_lines.specs.Lines.{lines_of}
 use Rattle.scenario.specs.Server.{Server, first_server, world, log, worker_id, lag_of, refusal, step_of, with_line, line_sends, follow, played, step_spends}
 use Rattle.scenario.specs.Texts.{written_line, refused_text, lagged_text, stop_line}
 

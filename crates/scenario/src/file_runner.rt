@@ -4,7 +4,7 @@ ghost use Rattle.std.specs.declared.option.Option.{Option};
 ghost use Rattle.std.specs.Io.KnownBytes.{Appends};
 ghost use Rattle.gate_outside.specs.Streams.{Carries, CarriesFront};
 ghost use Rattle.edit_text.specs.Lines.{reader_after};
-ghost use Rattle.scenario.specs.Lines.{IsPiece};
+ghost use Rattle.file_lines.specs.Lines.{IsPiece};
 ghost use Rattle.scenario.specs.Server.{Server as ModelServer, played};
 ghost use Rattle.scenario.specs.Transcript.{Ending, Whole, line_text, line_spends, line_ending, run_text, run_ending, transcript, ending};
 ghost use Rattle.scenario.specs.Represents.{Represents};

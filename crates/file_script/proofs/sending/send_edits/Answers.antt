@@ -17,7 +17,7 @@ returns-in_err-line-clause-sends g c bytes read =
     let left = g.S.Source.left c.args.source.now in
     let guilds : List ℕ = c.args.index.now.keys in
     let passes : List Sender = c.args.passes.now.items in
-    let gives = subst (λ r. Gives left c.args.script.lines bytes read.0 r) c.in_err-line.was read.2 in
+    let gives = subst (λ r. Gives left c.args.script.lines bytes read.0 r) (sym c.into_parts-lines.ensures.first ∙ c.in_err-line.was) read.2 in
     let e = err_from_is_err_and c.from_residual.result c.from_residual.ensures.1 in (
       [],
       Consumes-nil left,
@@ -31,7 +31,7 @@ returns-in_default-clause-sends g c bytes read =
     let left = g.S.Source.left c.args.source.now in
     let guilds : List ℕ = c.args.index.now.keys in
     let passes : List Sender = c.args.passes.now.items in
-    let gives = subst (λ r. Gives left c.args.script.lines bytes read.0 r) (c.in_ok-line.was ∙ ap Ok c.in_default.is) read.2 in (
+    let gives = subst (λ r. Gives left c.args.script.lines bytes read.0 r) (sym c.into_parts-lines.ensures.first ∙ c.in_ok-line.was ∙ ap Ok c.in_default.is) read.2 in (
       [],
       Consumes-nil left,
       subst (λ l. SendsFile guilds left l passes passes (Ok tt)) (sym (append-nil bytes))
@@ -43,7 +43,7 @@ returns-in_err-send_line-clause-sends g c bytes read =
     let left = g.S.Source.left c.args.source.now in
     let guilds : List ℕ = c.args.index.now.keys in
     let passes : List Sender = c.args.passes.now.items in
-    let has : HasGiven left c.args.script.lines bytes (read.0 ++ c.in-Some.line ∷ []) = subst (λ r. Gives left c.args.script.lines bytes read.0 r) (c.in_ok-line.was ∙ ap Ok c.in-Some.is) read.2 in
+    let has : HasGiven left c.args.script.lines bytes (read.0 ++ c.in-Some.line ∷ []) = subst (λ r. Gives left c.args.script.lines bytes read.0 r) (sym c.into_parts-lines.ensures.first ∙ c.in_ok-line.was ∙ ap Ok c.in-Some.is) read.2 in
     let still : AreSent guilds (edits_in read.0) passes c.send_line.new.passes.items =
     subst (λ (xs : List Sender). AreSent guilds (edits_in read.0) passes xs) (sym c.in_err-send_line.ensures.0) (none_sent guilds read.0 read.1 passes) in
     let e = err_from_is_err_and c.from_residual-in_err-send_line.result c.from_residual-in_err-send_line.ensures.1 in (
@@ -64,6 +64,7 @@ returns-clause-sends g c bytes read =
     let left = g.S.Source.left c.args.source.now in
     let guilds : List ℕ = c.args.index.now.keys in
     let passes : List Sender = c.args.passes.now.items in
-    let has : HasGiven left c.args.script.lines bytes (read.0 ++ c.in-Some.line ∷ []) = subst (λ r. Gives left c.args.script.lines bytes read.0 r) (c.in_ok-line.was ∙ ap Ok c.in-Some.is) read.2 in
-    c.send_rest.ensures.sends bytes (read.0 ++ c.in-Some.line ∷ []) passes has
+    let has : HasGiven left c.args.script.lines bytes (read.0 ++ c.in-Some.line ∷ []) = subst (λ r. Gives left c.args.script.lines bytes read.0 r) (sym c.into_parts-lines.ensures.first ∙ c.in_ok-line.was ∙ ap Ok c.in-Some.is) read.2 in
+    let given = subst (λ lines. HasGiven left lines bytes (read.0 ++ c.in-Some.line ∷ [])) (sym c.into_parts-lines.ensures.lines) has in
+    c.send_rest.ensures.sends bytes (read.0 ++ c.in-Some.line ∷ []) passes given
     (line_sent guilds left c.args.script.lines bytes read.0 passes passes (none_sent guilds read.0 read.1 passes) c.in-Some.line c.send_line.new.passes.items c.in_ok-send_line.ensures)

@@ -1,7 +1,7 @@
 use Rattle.std.proofs.Common.{◌≡◌, ◌<◌, ◌++◌, length, refl, arith}
 use Rattle.std.proofs.lemmas.Grind.{common_steps}
 use Rattle.std.proofs.lemmas.Result.{err_from_is_err_and}
-use Rattle.scenario.specs.Lines.{whole_lines}
+use Rattle.file_lines.specs.Lines.{whole_lines}
 use Rattle.scenario.specs.Transcript.{server_of}
 use Rattle.scenario.proofs.Bytes.{part_played, long_plays, memory_stops}
 use Rattle.scenario.proofs.file_runner.FileRunner.begin_line.Goals as goal

@@ -1,6 +1,6 @@
 use Rattle.std.proofs.Common.{◌≡◌, [], length, sym, ap, ◌∙◌, arith}
 use Rattle.std.proofs.lemmas.Grind.{common_steps}
-use Rattle.scenario.specs.Lines.{whole_lines}
+use Rattle.file_lines.specs.Lines.{whole_lines}
 use Rattle.scenario.specs.Transcript.{server_of}
 use Rattle.scenario.proofs.Bytes.{nothing_left, end_plays}
 use Rattle.scenario.proofs.file_runner.FileRunner.play_last.Goals as goal
