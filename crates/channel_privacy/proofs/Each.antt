@@ -2,7 +2,6 @@
 use Rattle.std.proofs.Common.{ℕ, Bool, true, false, List, [], ◌∷◌, Option, Some, None, if◌then◌else◌}
 use Rattle.std.specs.Prelude.{◌&&◌, All, filter, flat_map}
 use Rattle.std.proofs.lemmas.List.Elements.{All-nil, All-cons, All-head, All-tail, All-append, All-filter}
-use Rattle.intent_set.specs.Asks.{asks}
 use Rattle.guild_model.specs.declared.channel.Channel.{Channel}
 use Rattle.guild_model.specs.declared.voice.Voice.{Voice}
 use Rattle.guild_model.specs.Record.{Record, speaks_in}
@@ -10,36 +9,24 @@ use Rattle.dispatch_types.specs.declared.presences.VoiceStateUpdate.{VoiceStateU
 use Rattle.dispatch_types.specs.declared.viewer.Viewer.{Viewer}
 use Rattle.dispatch_types.specs.declared.dispatch.Dispatch.{Dispatch}
 use Rattle.dispatch_types.specs.declared.dispatch.Dispatch.TheVariants as dispatch
-use Rattle.dispatch_types.specs.Kinds.{kind_of}
 use Rattle.dispatch_types.specs.Objects.{channel_object, voice_object}
-use Rattle.event_views.specs.Asked.{asked}
+use Rattle.channel_privacy.proofs.Asked.{if-all, asked-all, each-all}
 use Rattle.channel_privacy.specs.Withheld.{Showing, left_voice, told_voice, told_shown, lost, voice_there, gained, is_lost, is_gained, is_sync, is_no_sync, withheld}
 
 module _ (P : Dispatch → Type 0) (left : (u : VoiceUpdate) → P (dispatch.VoiceStateUpdate u) → P (left_voice u)) where
-  one-if : (b : Bool) (d : Dispatch) → P d → All P (if b then d ∷ [] else [])
-  one-if true d fits = All-cons P d [] fits (All-nil P)
-  one-if false d fits = All-nil P
-
-  asked-each : (v : Viewer) (own : Bool) (d : Dispatch) → P d → All P (asked v own d)
-  asked-each v own d fits = one-if (asks v.intents (kind_of d) own) d fits
-
-  each : {T : Type 0} (f : T → List Dispatch) → ((x : T) → All P (f x)) → (xs : List T) → All P (flat_map f xs)
-  each f fits [] = All-nil P
-  each f fits (x ∷ xs) = All-append P (f x) (flat_map f xs) (fits x) (each f fits xs)
-
   module _ (x : Showing) where
     voice-told : (u : VoiceUpdate) → P (dispatch.VoiceStateUpdate u) → (c : Option ℕ) → All P (told_voice x u c)
-    voice-told u fits None = one-if (x.in_voice u.voice.user) (dispatch.VoiceStateUpdate u) fits
+    voice-told u fits None = if-all P (x.in_voice u.voice.user) (dispatch.VoiceStateUpdate u) fits
     voice-told u fits (Some c) = by_test (x.after c)
       where
         by_test : (b : Bool) → All P (if b then dispatch.VoiceStateUpdate u ∷ [] else (if x.in_voice u.voice.user then left_voice u ∷ [] else []))
         by_test true = All-cons P (dispatch.VoiceStateUpdate u) [] fits (All-nil P)
-        by_test false = one-if (x.in_voice u.voice.user) (left_voice u) (left u fits)
+        by_test false = if-all P (x.in_voice u.voice.user) (left_voice u) (left u fits)
 
     told : (d : Dispatch) → P d → All P (told_shown x d)
-    told (dispatch.ChannelCreate o) fits = one-if (x.after o.id) (dispatch.ChannelCreate o) fits
-    told (dispatch.ChannelUpdate o) fits = one-if (x.before o.id && x.after o.id) (dispatch.ChannelUpdate o) fits
-    told (dispatch.ChannelDelete o) fits = one-if (x.before o.id) (dispatch.ChannelDelete o) fits
+    told (dispatch.ChannelCreate o) fits = if-all P (x.after o.id) (dispatch.ChannelCreate o) fits
+    told (dispatch.ChannelUpdate o) fits = if-all P (x.before o.id && x.after o.id) (dispatch.ChannelUpdate o) fits
+    told (dispatch.ChannelDelete o) fits = if-all P (x.before o.id) (dispatch.ChannelDelete o) fits
     told (dispatch.VoiceStateUpdate u) fits = voice-told u fits u.voice.channel
     told d fits = All-cons P d [] fits (All-nil P)
 
@@ -52,10 +39,10 @@ module _ (P : Dispatch → Type 0) (left : (u : VoiceUpdate) → P (dispatch.Voi
         → ((z : Voice) → P (dispatch.VoiceStateUpdate (record { guild = t.id; voice = voice_object z }))) → (ds : List Dispatch) → All P ds → All P (withheld s t x v ds)
     withheld-each s t v goes comes speaks ds fit =
         All-append P _ _ (all-told (filter is_no_sync ds) (All-filter is_no_sync P ds fit))
-        (All-append P _ _ (each (lost s.id v) (λ c. asked-each v false (dispatch.ChannelDelete (channel_object s.id c)) (goes c)) (filter (λ (c : Channel). is_lost s t x c.id) s.channels))
-        (All-append P _ _ (each (gained t v) found (filter (λ (c : Channel). is_gained s t x c.id) t.channels)) (All-filter is_sync P ds fit)))
+        (All-append P _ _ (each-all P (lost s.id v) (λ c. asked-all P v false (dispatch.ChannelDelete (channel_object s.id c)) (goes c)) (filter (λ (c : Channel). is_lost s t x c.id) s.channels))
+        (All-append P _ _ (each-all P (gained t v) found (filter (λ (c : Channel). is_gained s t x c.id) t.channels)) (All-filter is_sync P ds fit)))
       where
         found : (c : Channel) → All P (gained t v c)
         found c =
-            All-append P _ _ (asked-each v false (dispatch.ChannelCreate (channel_object t.id c)) (comes c))
-            (each (voice_there t v) (λ z. asked-each v false (dispatch.VoiceStateUpdate (record { guild = t.id; voice = voice_object z })) (speaks z)) (filter (speaks_in c.id) t.voices))
+            All-append P _ _ (asked-all P v false (dispatch.ChannelCreate (channel_object t.id c)) (comes c))
+            (each-all P (voice_there t v) (λ z. asked-all P v false (dispatch.VoiceStateUpdate (record { guild = t.id; voice = voice_object z })) (speaks z)) (filter (speaks_in c.id) t.voices))

@@ -27,7 +27,7 @@ use Rattle.dispatch_types.specs.GuildOf.{guild_of}
 use Rattle.dispatch_types.specs.Fold.{Held, thread_view_id, on_open, open_after, view_standing, view_sees, purged, folded, fold_from}
 use Rattle.event_views.proofs.Steps.{IsOf, fold-append}
 use Rattle.channel_privacy.proofs.Only.{shows_channel, shows_voice, shows_thread, only, held_only}
-use Rattle.channel_privacy.specs.Withheld.{Showing, told_shown, stands, is_gained, gained, losses, gains, is_sync, is_no_sync, withheld}
+use Rattle.channel_privacy.specs.Withheld.{Showing, told_shown, is_gained, gained, losses, gains, is_sync, is_no_sync, withheld}
 use Rattle.channel_privacy.proofs.Filters.{filter-alike_in, each-there}
 use Rattle.channel_privacy.proofs.Part.{IsOrdered, purged-only, purged-order}
 use Rattle.channel_privacy.proofs.Tells.{ordered-after}

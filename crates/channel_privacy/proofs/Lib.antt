@@ -9,4 +9,5 @@ pub mod Rows
 pub mod Follows
 pub mod Alone
 pub mod Enough
+pub mod Asked
 pub mod Each

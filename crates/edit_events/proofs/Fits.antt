@@ -33,11 +33,12 @@ use Rattle.thread_events.specs.Dispatches as thread_events
 use Rattle.message_events.specs.Messages.{is_message}
 use Rattle.message_events.proofs.Of.{IsMessageOf}
 use Rattle.channel_privacy.specs.Withheld.{Showing}
+use Rattle.channel_privacy.proofs.Asked.{asked-all}
 use Rattle.channel_privacy.proofs.Rows.{Fits}
 use Rattle.channel_privacy.proofs.Follows.{IsSync, All-passes}
 use Rattle.channel_privacy.proofs.Alone.{OfThreads}
 use Rattle.edit_events.proofs.Shown.{sees-shown}
-use Rattle.edit_events.proofs.Walk.{asked-all, is_plain, member_updated-all, removed-all, updated-all, created-all, all_left, deleted-all}
+use Rattle.edit_events.proofs.Walk.{is_plain, member_updated-all, removed-all, updated-all, created-all, all_left, deleted-all}
 
 first : (a b : Bool) → (a && b) ≡ true → a ≡ true
 first a b e = (and_parts a b e).0

@@ -75,6 +75,7 @@ use Rattle.message_gate.proofs.ByMember.{served-member}
 use Rattle.whole_events.proofs.Others.{id-kept, dispatches-of}
 use Rattle.channel_privacy.specs.Withheld.{Showing, withheld}
 use Rattle.channel_privacy.specs.Law.{showing}
+use Rattle.channel_privacy.proofs.Asked.{asked-all}
 use Rattle.channel_privacy.proofs.Rows.{Fits}
 use Rattle.edit_events.specs.Greeting.{greeting}
 use Rattle.edit_events.specs.Due.{guild_gone, guild_comes, withholds, told_of, dispatches, due_to, due_of_accepted, due}
@@ -82,7 +83,6 @@ use Rattle.edit_events.specs.Law.{Agrees, EditKeeps, GreetingHolds}
 use Rattle.edit_events.proofs.Flags.{thread-flag, voice_presence-flag, message-flag, message-standing}
 use Rattle.edit_events.proofs.Greets.{greets, greeting-id}
 use Rattle.edit_events.proofs.Shown.{sees-shown}
-use Rattle.edit_events.proofs.Walk.{asked-all}
 use Rattle.edit_events.proofs.Fits.{ended-fits, member_updated-fits, updated-fits, created-fits, deleted-fits, messages-fit, sync-fits, threads-fit}
 use Rattle.edit_events.proofs.Has.{HasShown, whole, rows-keep, plain-keep, threads-keep, voice-keep, messages-keep, to-all, from-all, HoldsShown}
 use Rattle.edit_events.proofs.Part.{part-ascends, shown-open}

@@ -31,12 +31,12 @@ use Rattle.whole_events.specs.Dispatches.{whole_dispatches}
 use Rattle.guild_model.specs.Shown.{is_shown, channel_shown, voice_shown, shown_channels}
 use Rattle.channel_privacy.specs.Withheld.{Showing, left_voice, told_voice, told_shown, is_lost, is_gained, lost, voice_there, gained, is_sync, is_no_sync, withheld}
 use Rattle.channel_privacy.specs.Law.{showing}
+use Rattle.channel_privacy.proofs.Asked.{asked-all}
 use Rattle.channel_privacy.proofs.Follows.{All-passes}
 use Rattle.channel_privacy.proofs.Lost.{has-kept}
 use Rattle.edit_events.specs.Greeting.{whole_greeting, greeting}
 use Rattle.edit_events.specs.Due.{guild_gone, guild_comes, told_of, dispatches, due_to, due_of_accepted, due}
 use Rattle.edit_events.specs.Privacy.{IsInOne, TellsOnly, shown_to, EditTellsOnly, GreetingTellsOnly}
-use Rattle.edit_events.proofs.Walk.{asked-all}
 use Rattle.edit_events.proofs.Owed.{IsOwed, owed}
 
 -- ---- GUILD_CREATE

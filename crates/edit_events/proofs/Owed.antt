@@ -26,9 +26,10 @@ use Rattle.edit_apply.specs.declared.Edit.TheVariants as edit
 use Rattle.edit_apply.specs.declared.guild.GuildEdit.TheVariants.{GuildOpen, GuildRename, GuildOwner, GuildOutage, GuildBack, GuildPrivate}
 use Rattle.whole_events.specs.Dispatches.{whole_dispatches}
 use Rattle.channel_privacy.specs.Law.{showing}
+use Rattle.channel_privacy.proofs.Asked.{asked-all}
 use Rattle.channel_privacy.proofs.Each.{withheld-each}
 use Rattle.edit_events.specs.Due.{told_of}
-use Rattle.edit_events.proofs.Walk.{asked-all, is_plain, member_updated-all, removed-all, updated-all, created-all, all_left, deleted-all, threads-all}
+use Rattle.edit_events.proofs.Walk.{is_plain, member_updated-all, removed-all, updated-all, created-all, all_left, deleted-all, threads-all}
 
 -- a dispatch that an edit of no messages may owe to a viewer that is served before and after it
 abbrev pub is_owed : Dispatch → Bool

@@ -1,9 +1,8 @@
 -- What holds of each dispatch of an edit, if it holds of each kind that the edit has.
-use Rattle.std.proofs.Common.{◌≡◌, ℕ, Bool, true, false, List, [], ◌∷◌, Option, Some, None, if◌then◌else◌, refl}
+use Rattle.std.proofs.Common.{◌≡◌, ℕ, Bool, true, false, List, [], ◌∷◌, Option, Some, None, refl}
 use Rattle.std.specs.Prelude.{◌==◌, All, flat_map}
-use Rattle.std.proofs.lemmas.List.Elements.{All-nil, All-cons, All-head, All-tail, All-append, All-filter}
+use Rattle.std.proofs.lemmas.List.Elements.{All-nil, All-head, All-tail, All-append, All-filter}
 use Rattle.collections.specs.ById.{find_id, has_id, IsById}
-use Rattle.intent_set.specs.Asks.{asks}
 use Rattle.guild_model.specs.declared.channel.Channel.{Channel}
 use Rattle.guild_model.specs.declared.member.Member.{Member}
 use Rattle.guild_model.specs.declared.thread.Thread.{Thread}
@@ -16,9 +15,7 @@ use Rattle.dispatch_types.specs.declared.threads.ThreadObject.{ThreadObject}
 use Rattle.dispatch_types.specs.declared.viewer.Viewer.{Viewer}
 use Rattle.dispatch_types.specs.declared.dispatch.Dispatch.{Dispatch}
 use Rattle.dispatch_types.specs.declared.dispatch.Dispatch.TheVariants as dispatch
-use Rattle.dispatch_types.specs.Kinds.{kind_of}
 use Rattle.dispatch_types.specs.Objects.{channel_object, thread_object, thread_member_object}
-use Rattle.event_views.specs.Asked.{asked}
 use Rattle.event_views.specs.Ended.{voice_end, voice_ends}
 use Rattle.event_views.specs.Threads.{members_update, seen_thread, membership, thread_creates, thread_updates, member_comes, thread_joins, thread_leaves, threads_left, user_leaves}
 use Rattle.thread_sync.specs.Sync.{own_membership}
@@ -28,19 +25,8 @@ use Rattle.thread_events.specs.Dispatches as thread_events
 use Rattle.role_member_events.specs.Dispatches.{guild_member, member_told, member_updated, presence_ended, voice_ended, member_ends, member_ended}
 use Rattle.channel_events.specs.Dispatches.{voices_in, children_of, told_of, updated, deleted}
 use Rattle.voice_presence_events.specs.Dispatches.{presence_told}
+use Rattle.channel_privacy.proofs.Asked.{asked-all, each-all}
 use Rattle.channel_privacy.proofs.Filters.{each-there}
-
--- a dispatch where it is asked for
-pub asked-all : (P : Dispatch → Type 0) (v : Viewer) (own : Bool) (d : Dispatch) → P d → All P (asked v own d)
-asked-all P v own d fits = by_test (asks v.intents (kind_of d) own)
-  where
-    by_test : (b : Bool) → All P (if b then d ∷ [] else [])
-    by_test true = All-cons P d [] fits (All-nil P)
-    by_test false = All-nil P
-
-each-all : {T : Type 0} (P : Dispatch → Type 0) (f : T → List Dispatch) → ((x : T) → All P (f x)) → (xs : List T) → All P (flat_map f xs)
-each-all P f fits [] = All-nil P
-each-all P f fits (x ∷ xs) = All-append P (f x) (flat_map f xs) (fits x) (each-all P f fits xs)
 
 -- the dispatches that tell of no channel, message, voice state or thread that comes, and neither bring nor take a guild
 abbrev pub is_plain : Dispatch → Bool
