@@ -3,14 +3,13 @@ use Rattle.std.proofs.Common.{◌≡◌, ℕ, Bool, true, false, Some, None, if�
 use Rattle.std.specs.Prelude.{◌&&◌}
 use Rattle.collections.specs.ById.{find_id}
 use Rattle.intent_set.specs.declared.kind.Kind.{Kind}
-use Rattle.intent_set.specs.Asks.{asks}
 use Rattle.guild_model.specs.declared.member.Member.{Member}
 use Rattle.guild_model.specs.Record.{Record, member_id}
 use Rattle.guild_model.specs.Sight.{Standing, standing}
 use Rattle.dispatch_types.specs.declared.viewer.Viewer.{Viewer}
 use Rattle.dispatch_types.specs.Serves.{in_shard, served}
 use Rattle.overwrite_eval.specs.Stands.{IsStandingOf}
-use Rattle.message_gate.specs.Shows.{sees_channel_or_thread, shows}
+use Rattle.message_gate.specs.Shows.{shows}
 
 -- a served viewer's own member
 pub served-member : (v : Viewer) (s : Record) (me : Member) → served v s ≡ Some me → find_id member_id v.user s.members ≡ Some me
@@ -24,11 +23,7 @@ served-member v s me is = by_test (s.opened && in_shard v.shard s.id) is
 pub stands_served : (s : Record) (v : Viewer) (me : Member) (st : Standing) → served v s ≡ Some me → st ≡ standing s me → IsStandingOf s v.user st
 stands_served s v me st is same = record { me = me; found = served-member v s me is; is = same }
 
-pub shown_to : (s : Record) (v : Viewer) (channel : ℕ) (kind : Kind) (me : Member) → served v s ≡ Some me
-    → shows s v channel kind ≡ (asks v.intents kind false && sees_channel_or_thread s v.user channel)
-unfolding shows
-shown_to s v channel kind me is = rw is refl
-
+-- a viewer that is not served is shown nothing
 pub unshown : (s : Record) (v : Viewer) (channel : ℕ) (kind : Kind) → served v s ≡ None → shows s v channel kind ≡ false
 unfolding shows
 unshown s v channel kind is = rw is refl
