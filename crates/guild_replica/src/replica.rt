@@ -84,8 +84,8 @@ impl Replica {
         &self.guild
     }
 
-    /// Keeps the masks of those of these users who are members of the guild, if it is open, and of each other
-    /// from the edit on by which it becomes one, until it is given other users.
+    /// Keeps the masks of those of these users who are members of the guild, if it is open, until it is given
+    /// other users. An edit that makes another of them a member has its masks kept from then on.
     ///
     /// # Errors
     /// Out of memory.

@@ -20,10 +20,10 @@ abbrev pub picked_by : {A : Type 0} → List A → Option ℕ → Option A
 picked_by items None = None
 picked_by items (Some index) = slice_get items index
 
--- two viewers of one user in one shard: both are served, or neither is, with the same member
-abbrev pub AreOfOneSeat : Viewer → Viewer → Type 0
-AreOfOneSeat v w = (v.user ≡ w.user) × (v.shard ≡ w.shard)
+-- two viewers of one user in one shard: both are served, with the same member, or neither is (Gateway, Sharding)
+abbrev pub AreServedAlike : Viewer → Viewer → Type 0
+AreServedAlike v w = (v.user ≡ w.user) × (v.shard ≡ w.shard)
 
--- an index that stands in a list at the place of a viewer of one seat with this one
-abbrev pub IsTwin : List Viewer → List ℕ → Viewer → ℕ → Type 0
-IsTwin viewers indexes v index = (place : ℕ) × (w : Viewer) × (slice_get indexes place ≡ Some index) × (slice_get viewers place ≡ Some w) × AreOfOneSeat w v
+-- an index that stands in a list at the place of a viewer that is served alike
+abbrev pub IsOfAlike : List Viewer → List ℕ → Viewer → ℕ → Type 0
+IsOfAlike viewers indexes v index = (place : ℕ) × (w : Viewer) × (slice_get indexes place ≡ Some index) × (slice_get viewers place ≡ Some w) × AreServedAlike w v

@@ -1,8 +1,8 @@
 //! The viewers of sessions: sessions of one viewer are due the same.
 
-ghost use Rattle.std.specs.Prelude.{◌≡◌, Some, map, slice_get, IfOk, OnOk, IsTrue};
+ghost use Rattle.std.specs.Prelude.{◌≡◌, ◌↔◌, Some, map, slice_get, IfOk, OnOk, IsTrue};
 ghost use Rattle.std.specs.Option.{option_copied};
-ghost use Rattle.worker_core.specs.Recipients.{AreOfOneSeat, Picks, IsLonger, picked_by, viewer_of};
+ghost use Rattle.worker_core.specs.Recipients.{AreServedAlike, Picks, IsLonger, picked_by, viewer_of};
 
 use dispatch_types::Viewer;
 use session_core::Sessions;
@@ -19,8 +19,8 @@ pub struct Recipients {
     pub users: Vec<Snowflake>,
     /// For each viewer, by its index, the index of its user.
     users_of: Vec<usize>,
-    /// For each viewer, by its index, the index of the first of one seat with it.
-    twins: Vec<usize>,
+    /// For each viewer, by its index, the index of the first that is served alike.
+    firsts: Vec<usize>,
 }
 
 impl Drop for Recipients {
@@ -30,13 +30,13 @@ impl Drop for Recipients {
             whose,
             users,
             users_of,
-            twins,
+            firsts,
         } = self;
         drop(viewers);
         drop(whose);
         drop(users);
         drop(users_of);
-        drop(twins);
+        drop(firsts);
     }
 }
 
@@ -63,21 +63,21 @@ fn index_of_user(users: &mut Vec<Snowflake>, user: Snowflake) -> Result<usize, A
     Ok(index)
 }
 
-/// Whether two viewers are of one user in one shard: then what is noted for one is noted for the other.
-pub fn are_of_one_seat(one: &Viewer, other: &Viewer) -> bool
-    ensures { IsTrue result → AreOfOneSeat one.now other.now }
+/// Whether two viewers are of one user in one shard, so that both are served or neither is (Gateway, Sharding).
+pub fn are_served_alike(one: &Viewer, other: &Viewer) -> bool
+    ensures { IsTrue result ↔ AreServedAlike one.now other.now }
 {
     one.user == other.user && one.shard == other.shard
 }
 
-// For each viewer the index of the first of one seat with it.
-fn twins_of(alloc: Global, viewers: &[Viewer]) -> Result<Vec<usize>, AllocError> {
-    let mut twins = Vec::with_capacity(alloc, viewers.len())?;
+// For each viewer the index of the first that is served alike.
+fn firsts_alike(alloc: Global, viewers: &[Viewer]) -> Result<Vec<usize>, AllocError> {
+    let mut firsts = Vec::with_capacity(alloc, viewers.len())?;
     for viewer in viewers {
-        let first = viewers.iter().position(|one| are_of_one_seat(one, viewer));
-        twins.push(first.unwrap_or(0))?;
+        let first = viewers.iter().position(|one| are_served_alike(one, viewer));
+        firsts.push(first.unwrap_or(0))?;
     }
-    Ok(twins)
+    Ok(firsts)
 }
 
 // The viewers of these sessions, each once, and for each session the index of its viewer.
@@ -103,7 +103,7 @@ impl Recipients {
             whose: Vec::new(alloc),
             users: Vec::new(alloc),
             users_of: Vec::new(alloc),
-            twins: Vec::new(alloc),
+            firsts: Vec::new(alloc),
         }
     }
 
@@ -149,9 +149,9 @@ impl Recipients {
         self.users_of.get(viewer).copied().unwrap_or(0)
     }
 
-    /// The index of the first viewer of one seat with the viewer at an index.
-    pub fn twin_of(&self, viewer: usize) -> usize {
-        self.twins.get(viewer).copied().unwrap_or(0)
+    /// The index of the first viewer that is served alike the viewer at an index.
+    pub fn first_alike(&self, viewer: usize) -> usize {
+        self.firsts.get(viewer).copied().unwrap_or(0)
     }
 
     /// The viewers of these sessions, and their users.
@@ -164,13 +164,13 @@ impl Recipients {
         for viewer in viewers.as_slice() {
             users_of.push(index_of_user(&mut users, viewer.user)?)?;
         }
-        let twins = twins_of(alloc, viewers.as_slice())?;
+        let firsts = firsts_alike(alloc, viewers.as_slice())?;
         Ok(Recipients {
             viewers,
             whose,
             users,
             users_of,
-            twins,
+            firsts,
         })
     }
 }

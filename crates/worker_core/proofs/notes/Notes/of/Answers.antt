@@ -1,9 +1,8 @@
 -- One viewer more.
-use Rattle.std.proofs.Common.{◌≡◌, ◌<◌, List, length, map, take, sym, ap, subst, ◌∙◌, arith}
+use Rattle.std.proofs.Common.{◌<◌, List, [], ◌∷◌, ◌++◌, ℕ, length, ap, ◌∙◌, arith}
 use Rattle.std.specs.Prelude.{option_map}
 use Rattle.dispatch_types.specs.declared.viewer.Viewer.{Viewer}
 use Rattle.edit_events.specs.Was.{was_of}
-use Rattle.worker_core.specs.Recipients.{Picks}
 use Rattle.worker_core.proofs.Picking.{item_at, picks_next}
 use Rattle.worker_core.proofs.notes.Notes.of.Goals as goal
 
@@ -14,6 +13,6 @@ loop-index-preserved c =
     let note_of = λ (v : Viewer). was_of c.args.replica.now.guild v c.args.entry.now in
     let lt : i < length vs = omega arith in
     let here = item_at vs i lt in
-    let picks : Picks c.loop-index.noted.items c.as_slice.result.now (map note_of (take i vs)) = subst (λ ks. Picks c.loop-index.noted.items ks (map note_of (take i vs))) (sym c.as_slice.ensures.value) c.loop-index.invariant in
-    picks_next note_of vs i here c.loop-index.noted.items c.index_of.new.noted.items c.loop-index.whose.items c.push.new.self.items c.in_ok-at.at lt
-    c.loop-index.invariant c.in_ok-at.ensures.longer c.in_ok-push.ensures.items (c.in_ok-at.ensures.found picks ∙ ap (option_map note_of) here.found)
+    let pushed = c.in_ok-push.ensures.items ∙ ap (λ (ks : List ℕ). ks ++ c.in_ok-at.at ∷ []) c.index_for.ensures.whose in
+    picks_next note_of vs i here c.loop-index.notes.noted.items c.index_for.new.self.noted.items c.loop-index.notes.whose.items c.push.new.self.items c.in_ok-at.at lt
+    c.loop-index.invariant c.in_ok-at.ensures.longer pushed (c.in_ok-at.ensures.found c.loop-index.invariant ∙ ap (option_map note_of) here.found)

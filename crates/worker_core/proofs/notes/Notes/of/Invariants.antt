@@ -6,4 +6,4 @@ use Rattle.worker_core.specs.Recipients.{Picks}
 use Rattle.worker_core.proofs.notes.Notes.of.Given as goal
 
 abbrev pub invariant-loop-index : goal.invariant-loop-index
-invariant-loop-index l = Picks l.noted.items l.whose.items (map (λ (v : Viewer). was_of l.replica.guild v l.entry) (take l.index l.recipients.viewers.items))
+invariant-loop-index l = Picks l.notes.noted.items l.notes.whose.items (map (λ (v : Viewer). was_of l.replica.guild v l.entry) (take l.index l.recipients.viewers.items))
