@@ -7,7 +7,6 @@ mod function;
 mod laws;
 mod load_part;
 mod part_threads;
-mod start_count;
 mod task_team;
 mod team_work;
 

@@ -7,11 +7,11 @@ ghost use Rattle.thread_outside.specs.Teams.{finished};
 ghost use Rattle.load_parts.specs.TaskTeams.{StartsTasks, EndsTasks, after_asked};
 
 use crate::function::Function;
-use crate::start_count::StartCount;
 use gate_outside::fault_plan::FaultPlan;
 use gate_outside::spawners::{Spawner, Task};
 use std::marker::{Model, PhantomData};
 use thread_outside::running::Running;
+use thread_outside::start_count::StartCount;
 
 /// What stands for a task that was started.
 pub trait Started<T> {

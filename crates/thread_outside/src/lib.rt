@@ -31,7 +31,7 @@ pub mod quiet_notes;
 pub mod running;
 pub mod script;
 pub mod serial_spawner;
-mod start_count;
+pub mod start_count;
 pub mod sure_door;
 pub mod sure_link;
 pub mod sure_spawner;

@@ -53,11 +53,4 @@ impl StartCount {
     {
         self.finished = self.finished.saturating_add(1);
     }
-
-    /// How many starts it was asked for after a finish.
-    pub fn late(&self) -> u64
-        ensures { result ≡ self.now.late }
-    {
-        self.late
-    }
 }
