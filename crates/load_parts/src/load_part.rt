@@ -6,6 +6,7 @@ use gate_outside::spawners::Task;
 use gate_parts::{ActorDone, ActorPart, ScriptDone, ScriptPart, WorkerDone, WorkerPart};
 use std::sync::Wait;
 use std::time;
+use team_run::PartOf;
 use thread_outside::dialled_door::DialledDoor;
 use thread_outside::kept_notes::KeptNotes;
 use worker_core::Input;
@@ -56,5 +57,45 @@ impl<C: Clock, R: Wait + time::Clock + Copy + Drop> Task for LoadPart<C, R> {
             LoadPart::Worker(part) => LoadDone::Worker(part.run()),
             LoadPart::Client(part) => LoadDone::Client(part.run()),
         }
+    }
+}
+
+impl<C: Drop, R: Wait + Copy + Drop> PartOf<LoadPart<C, R>> for ActorPart<R> {
+    ghost use Rattle.load_parts.specs.declared.load_part.LoadPart.TheVariants.{Actor};
+
+    ghost among = { Actor };
+
+    fn into_part(self) -> LoadPart<C, R> {
+        LoadPart::Actor(self)
+    }
+}
+
+impl<C: Drop, R: Wait + Copy + Drop> PartOf<LoadPart<C, R>> for ScriptPart<R> {
+    ghost use Rattle.load_parts.specs.declared.load_part.LoadPart.TheVariants.{Script};
+
+    ghost among = { Script };
+
+    fn into_part(self) -> LoadPart<C, R> {
+        LoadPart::Script(self)
+    }
+}
+
+impl<C: Drop, R: Wait + Copy + Drop> PartOf<LoadPart<C, R>> for DoorWorker<C, R> {
+    ghost use Rattle.load_parts.specs.declared.load_part.LoadPart.TheVariants.{Worker};
+
+    ghost among = { Worker };
+
+    fn into_part(self) -> LoadPart<C, R> {
+        LoadPart::Worker(self)
+    }
+}
+
+impl<C: Drop, R: Wait + Copy + Drop> PartOf<LoadPart<C, R>> for ClientPart<C, R> {
+    ghost use Rattle.load_parts.specs.declared.load_part.LoadPart.TheVariants.{Client};
+
+    ghost among = { Client };
+
+    fn into_part(self) -> LoadPart<C, R> {
+        LoadPart::Client(self)
     }
 }

@@ -8,6 +8,7 @@ use gate_outside::streams::Source;
 use gate_parts::{ActorDone, ActorPart, WorkerDone, WorkerPart};
 use std::sync::Wait;
 use std::time;
+use team_run::PartOf;
 use thread_outside::quiet_notes::QuietNotes;
 
 /// A worker's part of a server, whose inputs nobody keeps.
@@ -54,5 +55,38 @@ where
             ServePart::Script(part) => ServeDone::Script(part.run()),
             ServePart::Worker(part) => ServeDone::Worker(part.run()),
         }
+    }
+}
+
+impl<S: Drop, D: Drop, C: Drop, R: Wait + Copy + Drop> PartOf<ServePart<S, D, C, R>>
+    for ActorPart<R> {
+    ghost use Rattle.serve_parts.specs.declared.serve_part.ServePart.TheVariants.{Actor};
+
+    ghost among = { Actor };
+
+    fn into_part(self) -> ServePart<S, D, C, R> {
+        ServePart::Actor(self)
+    }
+}
+
+impl<S: Drop, D: Drop, C: Drop, R: Wait + Copy + Drop> PartOf<ServePart<S, D, C, R>>
+    for FilePart<S, R> {
+    ghost use Rattle.serve_parts.specs.declared.serve_part.ServePart.TheVariants.{Script};
+
+    ghost among = { Script };
+
+    fn into_part(self) -> ServePart<S, D, C, R> {
+        ServePart::Script(self)
+    }
+}
+
+impl<S: Drop, D: Drop, C: Drop, R: Wait + Copy + Drop> PartOf<ServePart<S, D, C, R>>
+    for DoorPart<D, C, R> {
+    ghost use Rattle.serve_parts.specs.declared.serve_part.ServePart.TheVariants.{Worker};
+
+    ghost among = { Worker };
+
+    fn into_part(self) -> ServePart<S, D, C, R> {
+        ServePart::Worker(self)
     }
 }

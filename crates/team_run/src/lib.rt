@@ -6,6 +6,6 @@ mod adding;
 mod finishing;
 mod starting;
 
-pub use adding::add;
+pub use adding::{PartOf, add, add_each};
 pub use finishing::finish_all;
 pub use starting::start_all;

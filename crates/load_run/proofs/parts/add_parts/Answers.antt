@@ -9,8 +9,8 @@ returns g c =
     let ss = map Script c.args.scripts.items in
     let ws = map Worker c.args.workers.items in
     let cs = map Client c.args.clients.items in
-    c.add_clients.ensures.items
-    ∙ ap (λ l. l ++ cs) (c.add_workers.ensures.items ∙ ap (λ l. l ++ ws) (c.add_scripts.ensures.items ∙ ap (λ l. l ++ ss) c.add_actors.ensures.items))
+    c.add_each-4.ensures.items
+    ∙ ap (λ l. l ++ cs) (c.add_each-3.ensures.items ∙ ap (λ l. l ++ ws) (c.add_each-2.ensures.items ∙ ap (λ l. l ++ ss) c.add_each.ensures.items))
     ∙ append_assoc ((old ++ az) ++ ss) ws cs
     ∙ append_assoc (old ++ az) ss (ws ++ cs)
     ∙ append_assoc old az (ss ++ (ws ++ cs))

@@ -8,7 +8,7 @@ returns g c =
     let az = map Actor c.args.actors.items in
     let ss = map Script c.args.scripts.items in
     let ws = map Worker c.args.workers.items in
-    c.add_workers.ensures.items
-    ∙ ap (λ l. l ++ ws) (c.add_scripts.ensures.items ∙ ap (λ l. l ++ ss) c.add_actors.ensures.items)
+    c.add_each-3.ensures.items
+    ∙ ap (λ l. l ++ ws) (c.add_each-2.ensures.items ∙ ap (λ l. l ++ ss) c.add_each.ensures.items)
     ∙ append_assoc (old ++ az) ss ws
     ∙ append_assoc old az (ss ++ ws)
