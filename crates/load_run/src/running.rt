@@ -9,21 +9,14 @@ ghost use Rattle.load_run.specs.Runs.{RanParts};
 
 use gate_outside::spawners::{Spawner, Task};
 use gate_parts::StartWord;
+use run_stage::{Begun, begin_all};
 use stop_flag::StopSeat;
-use team_run::{finish_all, start_all};
+use team_run::finish_all;
 
 /// What the parts of a run gave that were started, and those that were not started.
 pub struct Ran<T, D> {
     pub dones: Vec<D>,
     pub back: Vec<T>,
-}
-
-// Gives the word by which the parts begin. If some did not start, the flag is set before.
-fn give_word(word: &StartWord, mut seat: StopSeat, stops: bool) {
-    if stops {
-        seat.set();
-    }
-    word.give();
 }
 
 /// Starts the tasks in order, gives the word, and finishes those that were started, in order. If one comes
@@ -32,21 +25,17 @@ fn give_word(word: &StartWord, mut seat: StopSeat, stops: bool) {
 pub fn run_parts<T: Task + Drop, S: Spawner<T>>(
     team: &mut S,
     tasks: Vec<T>,
-    mut started: Vec<S::Held>,
+    started: Vec<S::Held>,
     dones: Vec<T::Done>,
     word: &StartWord,
-    seat: StopSeat,
+    mut seat: StopSeat,
     empty: Vec<T>,
 ) -> Ran<T, T::Done>
     requires none { (started.items ≡ []) × (dones.items ≡ []) × (empty.items ≡ []) }
     requires room { (vec_len tasks ≤ vec_capacity started) × (vec_len tasks ≤ vec_capacity dones) }
     ensures { RanParts T.gives tasks.items (S.starts team.old) (S.starts team.new) (S.faults team.old) (S.faults team.new) result.dones.items result.back.items }
 {
-    let back = match start_all(team, tasks, &mut started) {
-        Ok(()) => empty,
-        Err(back) => back,
-    };
-    give_word(word, seat, !back.is_empty());
+    let Begun { started, back } = begin_all(team, tasks, started, word, &mut seat, empty);
     let dones = finish_all(team, started, dones);
     Ran { dones, back }
 }

@@ -7,11 +7,10 @@ ghost use Rattle.load_stage.specs.Clients.{client_with, intents_of};
 ghost use Rattle.load_stage.specs.Drafts.{HasNotFailed, IsClientDraft, IsClientOf, IsClockedClient};
 
 use crate::bots::{bot_name, worker_url};
-use crate::ground::Ground;
 use intent_set::Intents;
 use load_client::{LoadClient, NameGoal};
 use load_parts::ClientPart;
-use run_stage::{Seats, take_next};
+use run_stage::{Ground, Seats, take_next};
 use std::alloc::{AllocError, Global};
 use std::collections::VecDeque;
 use std::sync::Wait;
@@ -116,12 +115,7 @@ fn client_part<C: Drop, R: Wait + Copy + Drop>(draft: ClientDraft<R>, clock: C) 
         client,
         dial,
     } = draft;
-    let Ground {
-        rt,
-        alloc,
-        posts: _,
-        word,
-    } = ground;
+    let (rt, alloc, _, word) = ground.into_parts();
     ClientPart {
         rt,
         alloc,

@@ -6,12 +6,11 @@ ghost use Rattle.load_stage.specs.Drafts.{AreParts, IsDraft, IsSupply};
 
 use crate::actors::add_actors;
 use crate::clients::{ClientDraft, add_clients};
-use crate::ground::Ground;
 use crate::scripts::add_scripts;
 use crate::supply::{Supply, open_all};
 use crate::workers::{WorkerDraft, add_workers};
 use gate_parts::{ActorPart, ScriptPart};
-use run_stage::Seats;
+use run_stage::{Ground, Seats};
 use std::alloc::{AllocError, Global};
 use std::collections::VecDeque;
 use std::sync::Wait;

@@ -6,7 +6,6 @@ mod bots;
 mod clients;
 mod doors;
 mod drafting;
-mod ground;
 mod scripts;
 mod stage;
 mod supply;

@@ -10,7 +10,6 @@ ghost use Rattle.run_stage.specs.Seats.{HasSeats};
 ghost use Rattle.load_stage.specs.Guilds.{guild_ids};
 ghost use Rattle.load_stage.specs.Parts.{IsScript};
 
-use crate::ground::Ground;
 use edit_post::SendPass;
 use edit_text::Line;
 use gate_parts::ScriptPart;
@@ -18,7 +17,7 @@ use guild_hub::HubReader;
 use guild_places::index_of;
 use indexmap::IndexSet;
 use load_maker::script as lines_of;
-use run_stage::{Seats, take_next};
+use run_stage::{Ground, Seats, take_next};
 use snowflake_id::Snowflake;
 use std::alloc::AllocError;
 use std::collections::VecDeque;
@@ -40,12 +39,7 @@ fn script_part<R: Wait + Copy + Drop>(
     ensures posts { result.posts ≡ ground.posts }
     ensures own { (result.passes ≡ passes) × (result.index ≡ index) × (result.lines ≡ lines) × (result.seat ≡ seat) }
 {
-    let Ground {
-        rt,
-        alloc,
-        posts,
-        word,
-    } = ground;
+    let (rt, alloc, posts, word) = ground.into_parts();
     ScriptPart {
         rt,
         alloc,

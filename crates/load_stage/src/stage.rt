@@ -101,7 +101,7 @@ fn begin<C: Drop, R: Wait + Copy + Drop>(
     } = parts;
     room.add_clocked(workers, clients, clocks);
     let Room { workers, clients } = room;
-    let (posts, word) = ground.into_shared();
+    let (_, _, posts, word) = ground.into_parts();
     let seat = seats.take_next();
     let keeper = seats.into_keeper();
     Stage {

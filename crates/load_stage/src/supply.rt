@@ -6,12 +6,11 @@ ghost use Rattle.load_stage.specs.Drafts.{IsSupply};
 ghost use Rattle.load_stage.specs.Guilds.{guild_ids};
 
 use crate::doors::{Doors, open_doors};
-use crate::ground::Ground;
 use crate::workers::Served;
 use edit_post::{SendPass, TakePass};
 use guild_hub::HubWriter;
 use load_client::NameGoal;
-use run_stage::{Hubs, open_hubs, open_posts};
+use run_stage::{Ground, Hubs, open_hubs, open_posts};
 use snowflake_id::Snowflake;
 use std::alloc::{AllocError, Global};
 use std::collections::VecDeque;

@@ -11,13 +11,12 @@ ghost use Rattle.load_stage.specs.Drafts.{CanBegin, IsWorkerDraft, IsWorkerOf, I
 ghost use Rattle.load_stage.specs.Guilds.{guild_ids};
 
 use crate::bots::{bots, worker_url};
-use crate::ground::Ground;
 use edit_post::SendPass;
 use gate_parts::WorkerPart;
 use guild_hub::HubReader;
 use load_client::NameGoal;
 use load_parts::DoorWorker;
-use run_stage::{Seats, take_next};
+use run_stage::{Ground, Seats, take_next};
 use snowflake_id::Snowflake;
 use std::alloc::{AllocError, Global};
 use std::collections::VecDeque;
@@ -126,12 +125,7 @@ fn worker_part<C: Drop, R: Wait + Copy + Drop>(draft: WorkerDraft<R>, clock: C) 
         passes,
         seat,
     } = draft;
-    let Ground {
-        rt,
-        alloc,
-        posts,
-        word,
-    } = ground;
+    let (rt, alloc, posts, word) = ground.into_parts();
     WorkerPart {
         rt,
         alloc,

@@ -2,3 +2,4 @@ pub mod Dealing
 pub mod Posts
 pub mod Hubs
 pub mod Seats
+pub mod Begins

@@ -3,4 +3,4 @@
 
 mod sending;
 
-pub use sending::send_script;
+pub use sending::{send_line, send_script};

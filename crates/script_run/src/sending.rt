@@ -11,8 +11,12 @@ use guild_posts::{end_all, send};
 use indexmap::IndexSet;
 use std::sync::Wait;
 
-// Sends the edit of a line. No other line sends anything.
-fn send_line<R: Wait + Drop>(
+/// Sends the edit of a line to the post of its guild's actor. No other line sends anything. An edit of a guild that
+/// does not stand in the index goes to the first post.
+///
+/// # Errors
+/// Those of [`guild_posts::send`]; then nothing was sent.
+pub fn send_line<R: Wait + Drop>(
     posts: &[Post<R>],
     passes: &mut Vec<SendPass>,
     index: &IndexSet<u64>,

@@ -1,5 +1,5 @@
 pub mod Rooms
-pub mod Begins
+pub mod StartsAll
 pub mod Writes
 pub mod Serves
 pub mod Ended

@@ -3,7 +3,6 @@
 #![tactic(auto)]
 
 mod answering;
-mod beginning;
 mod parts;
 mod playing;
 mod rooms;

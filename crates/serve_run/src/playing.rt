@@ -6,14 +6,13 @@ ghost use Rattle.session_core.specs.declared.bot.Bot.{Bot};
 ghost use Rattle.serve_stage.specs.Stages.{AreLent, IsStage};
 ghost use Rattle.serve_stage.specs.declared.lent.Lent.{Lent};
 ghost use Rattle.serve_ends.specs.Services.{Service};
-ghost use Rattle.serve_run.specs.Begins.{StartsAll};
+ghost use Rattle.serve_run.specs.StartsAll.{StartsAll};
 ghost use Rattle.serve_run.specs.Causes.{ShowsFault};
 ghost use Rattle.serve_run.specs.Ended.{EndsSo, MayHave};
 ghost use Rattle.serve_run.specs.Lent.{IsStageOf, ReturnsAll};
 ghost use Rattle.serve_run.specs.Rooms.{AreRoomy};
 ghost use Rattle.serve_run.specs.Writes.{Tells};
 
-use crate::beginning::{Begun, begin_all};
 use crate::parts::add_parts;
 use crate::rooms::Rooms;
 use crate::setting::Ready;
@@ -23,6 +22,7 @@ use gate_outside::doors::Door;
 use gate_outside::spawners::Spawner;
 use gate_outside::streams::{Sink, Source};
 use gate_parts::Posts;
+use run_stage::{Begun, begin_all};
 use serve_ends::{Ends, ServeFault, first_fault};
 use serve_parts::ServePart;
 use serve_stage::Stage;
@@ -78,7 +78,7 @@ where
         posts,
         word,
         keeper,
-        seat,
+        mut seat,
         actors,
         scripts,
         workers,
@@ -91,7 +91,7 @@ where
     } = rooms;
     drop(keeper);
     add_parts(&mut parts, actors, scripts, workers);
-    let Begun { started, back } = begin_all(team, parts, started, &word, seat, back);
+    let Begun { started, back } = begin_all(team, parts, started, &word, &mut seat, back);
     let all = back.is_empty();
     let told = tell_workers(all, lines.as_str(), sink);
     let dones = finish_all(team, started, dones);

@@ -1,70 +1,18 @@
 //! The parts of the two actors.
 
-ghost use Rattle.std.specs.Prelude.{◌≡◌, ◌≤◌, ◌-◌, ℕ, List, [], length, IfOk, OnOk};
+ghost use Rattle.std.specs.Prelude.{◌≡◌, ◌≤◌, ◌-◌, ℕ, List, [], length, OnOk};
 ghost use Rattle.std.specs.List.{AllZip};
-ghost use Rattle.gate_parts.specs.Ready.{CanAct};
 ghost use Rattle.guild_places.specs.Places.{AreDistinct};
 ghost use Rattle.run_stage.specs.Dealing.{AreFrom};
 ghost use Rattle.run_stage.specs.Hubs.{IsNewWriter};
 ghost use Rattle.serve_stage.specs.Drafts.{AreTakers};
 ghost use Rattle.serve_stage.specs.Parts.{IsActor};
 
-use crate::ground::Ground;
 use crate::supply::ActorSupply;
-use edit_post::TakePass;
 use gate_parts::ActorPart;
-use guild_hub::HubWriter;
-use run_stage::{Seats, deal_in_two};
-use snowflake_id::Snowflake;
+use run_stage::{Ground, Seats, actor, deal_in_two};
 use std::alloc::AllocError;
 use std::sync::Wait;
-use stop_flag::StopSeat;
-
-// The part of an actor.
-fn actor_part<R: Wait + Copy + Drop>(
-    ground: Ground<R>,
-    place: usize,
-    pass: TakePass,
-    writers: Vec<(Snowflake, HubWriter<R>)>,
-    seat: StopSeat,
-) -> ActorPart<R>
-    requires { CanAct ground.posts place pass writers.items }
-    ensures posts { result.posts ≡ ground.posts }
-    ensures own { (result.place ≡ place) × (result.pass ≡ pass) × (result.writers ≡ writers) }
-{
-    let Ground {
-        rt,
-        alloc,
-        posts,
-        word,
-    } = ground;
-    ActorPart {
-        rt,
-        alloc,
-        posts,
-        place,
-        pass,
-        writers,
-        word,
-        seat,
-    }
-}
-
-// The part of an actor, with a share of what all parts share.
-fn actor<R: Wait + Copy + Drop>(
-    ground: &Ground<R>,
-    place: usize,
-    pass: TakePass,
-    writers: Vec<(Snowflake, HubWriter<R>)>,
-    seat: StopSeat,
-) -> Result<ActorPart<R>, AllocError>
-    requires { CanAct ground.now.posts place pass writers.items }
-    ensures posts { IfOk result (λ part. part.posts ≡ ground.now.posts) }
-    ensures own { IfOk result (λ part. (part.place ≡ place) × (part.pass ≡ pass) × (part.writers ≡ writers)) }
-{
-    let ground = ground.share()?;
-    Ok(actor_part(ground, place, pass, writers, seat))
-}
 
 /// Adds the parts of both actors, to which the writers are dealt in turn.
 ///

@@ -5,12 +5,12 @@ ghost use Rattle.guild_places.specs.Places.{AreDistinct};
 ghost use Rattle.serve_stage.specs.Drafts.{AreParts, IsDraft, IsSupply};
 
 use crate::actors::add_actors;
-use crate::ground::Ground;
 use crate::scripts::{ScriptDraft, add_scripts};
 use crate::supply::{ActorSupply, Counts, Opened, Supply, open_all};
 use crate::workers::{WorkerDraft, add_workers};
 use file_script::Declared;
 use gate_parts::ActorPart;
+use run_stage::Ground;
 use std::alloc::{AllocError, Global};
 use std::collections::VecDeque;
 use std::sync::Wait;

@@ -4,7 +4,6 @@
 
 mod actors;
 mod drafting;
-mod ground;
 mod lent;
 mod scripts;
 mod stage;

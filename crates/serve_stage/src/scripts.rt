@@ -6,13 +6,12 @@ ghost use Rattle.run_stage.specs.Dealing.{AreFrom};
 ghost use Rattle.serve_stage.specs.Drafts.{IsScriptDraft, IsScriptOf, IsFiledScript, MaySend};
 ghost use Rattle.serve_stage.specs.Parts.{file_of};
 
-use crate::ground::Ground;
 use crate::supply::Supply;
 use edit_post::SendPass;
 use guild_hub::HubWriter;
 use guild_places::index_of;
 use indexmap::IndexSet;
-use run_stage::take_next;
+use run_stage::{Ground, take_next};
 use serve_heads::ScriptFile;
 use serve_parts::FilePart;
 use snowflake_id::Snowflake;
@@ -96,12 +95,7 @@ fn script_part<S: Drop, R: Wait + Copy + Drop>(
         index,
         seat,
     } = draft;
-    let Ground {
-        rt,
-        alloc,
-        posts,
-        word,
-    } = ground;
+    let (rt, alloc, posts, word) = ground.into_parts();
     FilePart {
         rt,
         alloc,

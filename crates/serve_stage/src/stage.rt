@@ -75,7 +75,7 @@ fn begin<S: Drop, D: Drop, C: Drop, R: Wait + Copy + Drop>(
         supply,
         parts,
     } = draft;
-    let (posts, word) = ground.into_shared();
+    let (_, _, posts, word) = ground.into_parts();
     let (keeper, seat) = supply.into_flag();
     let Parts {
         actors,

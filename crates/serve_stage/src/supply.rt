@@ -3,10 +3,9 @@
 ghost use Rattle.std.specs.Prelude.{◌≤◌, ◌<◌, ◌+◌, length, IfOk};
 ghost use Rattle.serve_stage.specs.Drafts.{IsSupply};
 
-use crate::ground::Ground;
 use edit_post::{SendPass, TakePass};
 use guild_hub::{HubReader, HubWriter};
-use run_stage::{Seats, open_hubs, open_posts};
+use run_stage::{Ground, Seats, open_hubs, open_posts};
 use snowflake_id::Snowflake;
 use std::alloc::{AllocError, Global};
 use std::collections::VecDeque;

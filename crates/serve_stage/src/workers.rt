@@ -7,14 +7,13 @@ ghost use Rattle.run_stage.specs.Dealing.{AreFrom};
 ghost use Rattle.serve_stage.specs.Drafts.{IsWorkerDraft, IsWorkerOf, IsHousedWorker, MayWork};
 ghost use Rattle.serve_stage.specs.Urls.{worker_url};
 
-use crate::ground::Ground;
 use crate::supply::Supply;
 use crate::urls::worker_url;
 use edit_post::SendPass;
 use file_script::Declared;
 use gate_parts::WorkerPart;
 use guild_hub::HubReader;
-use run_stage::take_next;
+use run_stage::{Ground, take_next};
 use serve_parts::DoorPart;
 use session_core::copies_of;
 use snowflake_id::Snowflake;
@@ -119,12 +118,7 @@ fn worker_part<D: Drop, C: Drop, R: Wait + Copy + Drop>(
         passes,
         seat,
     } = draft;
-    let Ground {
-        rt,
-        alloc,
-        posts,
-        word,
-    } = ground;
+    let (rt, alloc, posts, word) = ground.into_parts();
     WorkerPart {
         rt,
         alloc,

@@ -1,5 +1,5 @@
-use Rattle.std.proofs.Common.{◌≡◌, ◌<◌, length, refl, sym, ap, subst, ◌∙◌, arith}
-use Rattle.run_stage.proofs.Seated.{next_seat, seat_left}
+use Rattle.std.proofs.Common.{◌≡◌, ◌<◌, length, refl, ◌∙◌, arith}
+use Rattle.run_stage.proofs.Seated.{next_seat}
 use Rattle.load_stage.proofs.Drafted.{all_can_begin, none_has_failed, three_workers, twelve_clients}
 use Rattle.load_stage.proofs.Staged.{staged}
 use Rattle.load_stage.proofs.stage.begin.Goals as goal
@@ -30,6 +30,6 @@ returns g c seed is =
     let clocks = c.args.clocks.items in
     let left = c.take_next-seat.new.self in
     let seat = next_seat 22 21 1 22 0 draft.seats left c.take_next-seat.result is.seats_are c.take_next-seat.ensures.left c.take_next-seat.ensures.keeper refl refl in
-    rw (c.into_shared-posts.ensures.0, c.into_shared-posts.ensures.1)
+    rw (c.into_parts-posts.ensures.1, c.into_parts-posts.ensures.2)
     (staged seed clocks draft c.into_keeper-keeper.result c.take_next-seat.result c.add_clocked.new.self.workers c.add_clocked.new.self.clients
     is (c.into_keeper-keeper.ensures ∙ c.take_next-seat.ensures.keeper) seat.0 c.add_clocked.ensures.workers c.add_clocked.ensures.clients)

@@ -1,4 +1,4 @@
-use Rattle.std.proofs.Common.{◌≡◌, ◌+◌, ◌∙◌, true, length, map, string_bytes, None, Ok, ap, ap₂, sym, subst}
+use Rattle.std.proofs.Common.{◌≡◌, ◌+◌, ◌∙◌, length, map, string_bytes, Ok, ap, ap₂, sym, subst}
 use Rattle.serve_stage.specs.Stages.{IsStage}
 use Rattle.serve_ends.specs.Lines.{worker_lines}
 use Rattle.serve_ends.specs.Services.{Service, ascending}

@@ -35,5 +35,5 @@ add_housed_workers-requires-clause-drafts g c =
 
 pub returns : goal.returns
 returns g c port bots guilds is =
-    rw (c.into_shared-posts.ensures.0, c.into_shared-posts.ensures.1)
+    rw (c.into_parts-posts.ensures.1, c.into_parts-posts.ensures.2)
     (staged port bots guilds c.args.lent c.args.draft _ _ c.add_filed_scripts.new.parts c.add_housed_workers.new.parts is c.add_filed_scripts.ensures c.add_housed_workers.ensures)

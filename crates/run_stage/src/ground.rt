@@ -8,12 +8,26 @@ use std::alloc::{AllocError, Global};
 use std::sync::Wait;
 
 /// What all parts of a run share: the handle, the posts, and the word by which they begin.
-#[derive(Drop)]
-pub(crate) struct Ground<R: Drop> {
+pub struct Ground<R: Drop> {
     pub rt: R,
     pub alloc: Global,
     pub posts: Posts<R>,
     pub word: StartWord,
+}
+
+// One call drops it, so that no crate above proves the drop of what it holds again.
+impl<R: Drop> Drop for Ground<R> {
+    fn drop(self) {
+        let Ground {
+            rt,
+            alloc: _,
+            posts,
+            word,
+        } = self;
+        drop(rt);
+        drop(posts);
+        drop(word);
+    }
 }
 
 impl<R: Wait + Copy + Drop> Ground<R> {
@@ -21,7 +35,7 @@ impl<R: Wait + Copy + Drop> Ground<R> {
     ///
     /// # Errors
     /// Out of memory.
-    pub(crate) fn new(rt: R, alloc: Global, posts: Vec<Post<R>>) -> Result<Ground<R>, AllocError>
+    pub fn new(rt: R, alloc: Global, posts: Vec<Post<R>>) -> Result<Ground<R>, AllocError>
         ensures { IfOk result (λ ground. ground.posts ≡ posts.items) }
     {
         let word = StartWord::new(alloc)?;
@@ -38,7 +52,7 @@ impl<R: Wait + Copy + Drop> Ground<R> {
     ///
     /// # Errors
     /// Out of memory.
-    pub(crate) fn share(&self) -> Result<Ground<R>, AllocError>
+    pub fn share(&self) -> Result<Ground<R>, AllocError>
         ensures { IfOk result (λ ground. ground.posts ≡ self.now.posts) }
     {
         let posts = self.posts.share()?;
@@ -51,16 +65,16 @@ impl<R: Wait + Copy + Drop> Ground<R> {
         })
     }
 
-    /// The posts and the word. It does not allocate.
-    pub(crate) fn into_shared(self) -> (Posts<R>, StartWord)
-        ensures { (result.0 ≡ self.posts) × (result.1 ≡ self.word) }
+    /// The handles, the posts and the word. It does not allocate.
+    pub fn into_parts(self) -> (R, Global, Posts<R>, StartWord)
+        ensures { (result.0 ≡ self.rt) × (result.2 ≡ self.posts) × (result.3 ≡ self.word) }
     {
         let Ground {
-            rt: _,
-            alloc: _,
+            rt,
+            alloc,
             posts,
             word,
         } = self;
-        (posts, word)
+        (rt, alloc, posts, word)
     }
 }
