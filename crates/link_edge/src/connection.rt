@@ -37,13 +37,13 @@ pub struct Connection<R: MachineTime + RandomSource + Copy + Drop> {
     early: Vec<Message>,
     // How many bytes were sent since nothing waited.
     waiting: usize,
-    // How many of them are gathered before they go out together.
-    gathered: usize,
+    // How many of them are gathered at most before they go out together.
+    most_gathered: usize,
 }
 
 impl<R: MachineTime + RandomSource + Copy + Drop> Connection<R> {
     // A connection that has come so far, and gathers so many bytes.
-    fn at(alloc: Global, runtime: R, stage: Stage<R>, gathered: usize) -> Connection<R> {
+    fn at(alloc: Global, runtime: R, stage: Stage<R>, most_gathered: usize) -> Connection<R> {
         let mut clock = MachineClock::new(runtime);
         let until_ms = clock.now_ms().saturating_add(HANDSHAKE_MS);
         Connection {
@@ -53,12 +53,12 @@ impl<R: MachineTime + RandomSource + Copy + Drop> Connection<R> {
             until_ms,
             early: Vec::new(alloc),
             waiting: 0,
-            gathered,
+            most_gathered,
         }
     }
 
-    /// The server's end of a stream. Its short texts go out together when it is next asked what waits, so that
-    /// all that a turn of a worker sends costs one call of the system.
+    /// The server's end of a stream. Up to `MOST_GATHERED_BYTES` of its texts go out together when it is next
+    /// asked what waits, so what a turn of a worker sends costs few calls of the system.
     pub fn of_server(alloc: Global, runtime: R, stream: TcpStream) -> Connection<R> {
         let stage = match set_modes(&stream) {
             Ok(()) => Stage::Shaking(Handshake::of_server(alloc, stream)),
@@ -106,7 +106,7 @@ impl<R: MachineTime + RandomSource + Copy + Drop> Connection<R> {
                 Ok(()) => Sent::Waits,
                 Err(_) => Sent::Memory,
             },
-            Stage::Open(socket) if waiting <= self.gathered => gather(socket, message),
+            Stage::Open(socket) if waiting <= self.most_gathered => gather(socket, message),
             Stage::Open(socket) => send(socket, message),
             Stage::Gone => Sent::Failed,
         };

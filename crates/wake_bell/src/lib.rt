@@ -3,7 +3,7 @@
 
 use std::hint::spin_loop;
 use std::sync::Wait;
-use std::sync::atomic::{AtomicU64, Ordering};
+use std::sync::atomic::{AtomicBool, AtomicU64, Ordering};
 use std::time::Duration;
 
 /// How often a thread that begins to rest looks for a ring before it sleeps: for some five microseconds, which
@@ -15,8 +15,8 @@ const LOOKS: u64 = 100;
 #[derive(Drop)]
 pub struct Bell {
     rings: AtomicU64,
-    /// 1 if a thread may sleep that no ring has woken.
-    resting: AtomicU64,
+    /// Whether a thread may sleep that no ring has woken.
+    resting: AtomicBool,
     /// How often it was rung when a thread last slept its whole time.
     slept: AtomicU64,
 }
@@ -26,7 +26,7 @@ impl Bell {
     pub fn new() -> Bell {
         Bell {
             rings: AtomicU64::new(0),
-            resting: AtomicU64::new(0),
+            resting: AtomicBool::new(false),
             slept: AtomicU64::new(0),
         }
     }
@@ -40,7 +40,7 @@ impl Bell {
     /// has woken. It does not wait.
     pub fn ring(&self) {
         self.rings.fetch_add(1, Ordering::SeqCst);
-        if self.resting.load(Ordering::SeqCst) > 0 && self.resting.swap(0, Ordering::SeqCst) > 0 {
+        if self.resting.load(Ordering::SeqCst) && self.resting.swap(false, Ordering::SeqCst) {
             self.rings.wake_all();
         }
     }
@@ -67,7 +67,7 @@ impl Bell {
         if self.is_rung_soon(heard) {
             return;
         }
-        self.resting.store(1, Ordering::SeqCst);
+        self.resting.store(true, Ordering::SeqCst);
         self.rings.park_timeout(rt, low_half(heard), most);
         if self.heard() == heard {
             self.slept.store(heard, Ordering::SeqCst);
