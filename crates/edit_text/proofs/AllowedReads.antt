@@ -1,5 +1,5 @@
 -- A line that is read is one that the reader allows, as it is and in its newest version.
-use Rattle.std.proofs.Common.{◌≡◌, ℕ, suc, ◌^◌, List, [], ◌∷◌, length, Bool, true, false, not, ◌&&◌, ◌||◌, Option, Some, None, Result, Ok, Err, IfOk, codes, refl, sym, ap, ◌∙◌, eqb-true, true≢false}
+use Rattle.std.proofs.Common.{◌≡◌, ℕ, suc, ◌^◌, List, length, Bool, true, false, not, ◌&&◌, ◌||◌, Option, Some, None, Result, Ok, Err, IfOk, codes, refl, sym, ap, ◌∙◌, eqb-true, true≢false}
 use Rattle.std.specs.Prelude.{nat_lt, if◌then◌else◌, IfSome, option_and_then, ◌==◌}
 use Rattle.std.specs.Option.{ok_or}
 use Rattle.std.proofs.lemmas.Result.{IfOk-weaker, IfOk-at_ok}
@@ -26,7 +26,7 @@ use Rattle.edit_fields.specs.declared.names.ChannelEditName.TheVariants as chann
 use Rattle.edit_fields.specs.declared.names.MessageEditName.{MessageEditName}
 use Rattle.edit_fields.specs.declared.names.MessageEditName.TheVariants as message
 use Rattle.edit_fields.specs.Fault.{faulted}
-use Rattle.edit_fields.specs.Fields.{within, number_below, position_at, parts_at, ids_from, few_ids_from, ids_at, text_at, id_at, flag_at, mask_at, kind_at, nullable_id_at}
+use Rattle.edit_fields.specs.Fields.{within, number_below, position_at, parts_at, ids_from, ids_at, text_at, id_at, flag_at, mask_at, kind_at, nullable_id_at}
 use Rattle.edit_fields.specs.Edits.{edit_from}
 use Rattle.edit_fields.specs.GuildEdits.{guild_edit_from}
 use Rattle.edit_fields.specs.ThreadEdits.{thread_edit_from}
@@ -42,7 +42,7 @@ use Rattle.edit_text.specs.declared.step_name.StepName.{StepName}
 use Rattle.edit_text.specs.declared.step_name.StepName.TheVariants as step
 use Rattle.edit_text.specs.declared.reader_state.ReaderState.{ReaderState}
 use Rattle.edit_text.specs.declared.ring_size.RingSize.{RingSize}
-use Rattle.edit_text.specs.RingSizes.{is_version, is_between, number_between, version_from, given_version, version_at, dispatches_at, bytes_at, sizes_from, ring_size_from, is_size}
+use Rattle.edit_text.specs.RingSizes.{is_version, is_between, number_between, given_version, version_at, dispatches_at, bytes_at, sizes_from, ring_size_from, is_size}
 use Rattle.edit_text.specs.StepNames.{step_named}
 use Rattle.edit_text.specs.Intents.{intents_at}
 use Rattle.edit_text.specs.Lines.{short_token, has_room, bot_from, guild_from, worker_at, connection_at, fields_from, is_allowed, step_of, line_from, object_line_from, is_blank, is_too_long, some_line, line_of, noted}

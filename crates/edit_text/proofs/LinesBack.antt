@@ -14,7 +14,6 @@ use Rattle.snowflake_id.proofs.Texts.{id_of_decimal}
 use Rattle.edit_apply.specs.declared.Edit.{Edit}
 use Rattle.edit_text.specs.declared.line.Line.{Line}
 use Rattle.edit_text.specs.declared.line.Line.TheVariants.{Bot, Guild, Edit as EditLine, Look, Open, Frame, Lost, Closed, Tick}
-use Rattle.edit_text.specs.declared.ring_size.RingSize.{RingSize}
 use Rattle.edit_text.specs.declared.step_name.StepName.{StepName}
 use Rattle.edit_text.specs.declared.step_name.StepName.TheVariants as step
 use Rattle.edit_text.specs.declared.reader_state.ReaderState.{ReaderState}

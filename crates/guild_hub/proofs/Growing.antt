@@ -1,17 +1,12 @@
 -- What an entry more makes of a log.
-use Rattle.std.proofs.Common.{◌≡◌, ◌≤◌, ◌<◌, ◌+◌, ◌-◌, ℕ, Bool, true, false, List, [], ◌∷◌, ◌++◌, length, take, drop, cond, sym, refl, ap, ◌∙◌, zero-le, subst, append-nil, arith}
+use Rattle.std.proofs.Common.{◌≡◌, ◌≤◌, ◌<◌, ◌+◌, ◌-◌, ℕ, List, [], ◌∷◌, ◌++◌, length, take, drop, sym, refl, ap, ◌∙◌, subst, append-nil, arith}
 use Rattle.std.proofs.lemmas.List.{length-append, length-drop, length-take-le, take_all, take-append-le, take-append-drop, drop-drop, drop-append-le}
 use mathlib.Core.Path.{ap₂}
-use Rattle.guild_model.specs.Record.{Record}
 use Rattle.edit_apply.specs.declared.Edit.{Edit}
-use Rattle.edit_apply.specs.Edits.{accepts, after, state_from, state}
-use Rattle.guild_hub.specs.Logs.{Published, with_entry, whole_record, accepted, accepted_from, GoesOn, base_of, record_after}
+use Rattle.edit_apply.specs.Edits.{after}
+use Rattle.guild_hub.specs.Logs.{Published, GoesOn, base_of, record_after}
 use Rattle.guild_hub.specs.Marks.{has_store, EndsWithLoad}
 use Rattle.guild_hub.specs.Sights.{Segment, segment, Fits, part_of, end_of, with_more}
-use Rattle.std.specs.Option.{is_none}
-use Rattle.std.specs.Prelude.{Option, Some, None, is_ok}
-use Rattle.guild_model.specs.declared.verdict.Verdict.{Verdict}
-use Rattle.guild_model.specs.Tests.{outcome}
 use Rattle.guild_hub.specs.Rules.{FindsEntries}
 use Rattle.guild_hub.specs.Sights.{Watching, seeing}
 use Rattle.guild_hub.specs.Looks.{Looks, Lags, MayEnter, Rebases}

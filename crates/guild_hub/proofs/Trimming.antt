@@ -4,7 +4,7 @@ use Rattle.std.proofs.lemmas.List.{length-append, length-drop, take-append-le, t
 use Rattle.std.proofs.lemmas.Bool.Decides.{nat_tests}
 use Rattle.guild_model.specs.Record.{Record}
 use Rattle.edit_apply.specs.declared.Edit.{Edit}
-use Rattle.edit_apply.specs.Edits.{accepts, after, state_from, state}
+use Rattle.edit_apply.specs.Edits.{after, state_from, state}
 use Rattle.guild_hub.specs.Logs.{with_entry, base_of, whole_record, accepted, accepted_from}
 use Rattle.guild_hub.specs.Trims.{over, pushed, IsTrimmed}
 use Rattle.guild_hub.specs.declared.shown.Spine.{Spine}

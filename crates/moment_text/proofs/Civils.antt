@@ -1,5 +1,5 @@
 -- The date of a day is that of the calendar.
-use Rattle.std.proofs.Common.{◌≡◌, ℕ, zero, suc, ◌+◌, ◌-◌, ◌*◌, ◌/◌, ◌%◌, ◌<◌, ◌≤◌, ◌^◌, ◌⊎◌, inl, inr, Bool, true, false, cond, nat_lt, if◌then◌else◌, refl, sym, ap, subst, ◌∙◌, arith, ℤ, pos, neg_ℤ, unsigned_abs, ◌+ℤ◌, ◌-ℤ◌, ◌*ℤ◌, ◌<ℤ◌, ◌≤ℤ◌}
+use Rattle.std.proofs.Common.{◌≡◌, ℕ, zero, suc, ◌+◌, ◌-◌, ◌<◌, ◌≤◌, inl, inr, Bool, true, false, nat_lt, if◌then◌else◌, refl, sym, ◌∙◌, arith, ℤ, pos, ◌≤ℤ◌}
 use Rattle.std.proofs.lemmas.Bool.Decides.{nat_tests}
 use Rattle.std.proofs.lemmas.Bool.{cases_order}
 use Rattle.std.specs.Int.{IsInRange}
@@ -12,7 +12,6 @@ use Rattle.jiff_core.proofs.DateLemmas.{epoch_day_injective}
 use Rattle.moment_text.specs.declared.civil.Civil.{Civil}
 use Rattle.moment_text.specs.Civil.{from_month, from_year, civil}
 use Rattle.moment_text.specs.Shown.{date_shown}
-use borrow.Author.Differences.{up, down}
 
 -- the date is in the calendar, and so many days lie before it
 pub record IsOfCount (count : ℕ) (c : Civil) : Type 0 where

@@ -1,6 +1,6 @@
 -- The instant that a calendar and a clock make of a moment's parts.
-use Rattle.std.proofs.Common.{◌≡◌, ℕ, ◌+◌, ◌*◌, ◌/◌, ◌%◌, ◌<◌, refl, sym, ap, subst, ◌∙◌, arith, List, ℤ, pos, unsigned_abs}
-use Rattle.jiff_core.specs.Calendar.{IsDate, days_from_civil, days_in_month}
+use Rattle.std.proofs.Common.{◌≡◌, ℕ, ◌*◌, ◌/◌, ◌%◌, ◌<◌, ap, ◌∙◌, arith, List, pos}
+use Rattle.jiff_core.specs.Calendar.{IsDate}
 use Rattle.jiff_core.specs.Date.{IsYmd, epoch_day}
 use Rattle.jiff_core.specs.DateTime.{civil_nanos}
 use Rattle.jiff_core.specs.Time.{IsTime, IsHms, time_nanos}

@@ -1,14 +1,13 @@
 -- The digits of a moment's text name its parts, so that no two moments have the same text.
-use Rattle.std.proofs.Common.{◌≡◌, ℕ, zero, suc, ◌+◌, ◌-◌, ◌*◌, ◌/◌, ◌%◌, ◌<◌, ◌≤◌, ◌⊎◌, inl, inr, List, length, Option, Some, None, Bool, true, false, if◌then◌else◌, refl, sym, ap, ◌∙◌, arith, ℤ, pos, ◌≤ℤ◌}
+use Rattle.std.proofs.Common.{◌≡◌, ℕ, zero, suc, ◌-◌, ◌/◌, ◌%◌, ◌<◌, inl, inr, List, length, Some, None, Bool, true, false, if◌then◌else◌, refl, sym, ap, ◌∙◌, arith, pos}
 use Rattle.std.specs.Str.{bytes_eq}
 use Rattle.std.proofs.lemmas.Bool.{cases_order}
 use Rattle.std.proofs.lemmas.Bool.Decides.{not_from_Decides}
 use Rattle.std.proofs.lemmas.Slice.Eq.{bytes_eq-Decides}
-use Rattle.jiff_core.specs.Calendar.{IsCivilDate, days_from_civil}
+use Rattle.jiff_core.specs.Calendar.{days_from_civil}
 use Rattle.jiff_core.proofs.SignedLemmas.{signed_arith}
 use Rattle.jiff_core.proofs.CalendarLemmas.{days_in_month_bounds}
 use Rattle.guild_model.specs.declared.moment.TheConstants.{END_OF_TIME}
-use Rattle.moment_text.specs.declared.civil.Civil.{Civil}
 use Rattle.moment_text.specs.Civil.{civil}
 use Rattle.moment_text.specs.Text.{time_text}
 use Rattle.moment_text.specs.Named.{two_at, year_at, milliseconds_at, moment_below, moment_of}

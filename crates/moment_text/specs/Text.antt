@@ -1,5 +1,5 @@
 -- Moments as text (API Reference, ISO8601 Date/Time).
-use Rattle.std.specs.Prelude.{ℕ, ◌+◌, ◌*◌, ◌/◌, ◌%◌, List, [], ◌∷◌, ◌++◌, codes}
+use Rattle.std.specs.Prelude.{ℕ, ◌+◌, ◌/◌, ◌%◌, List, [], ◌∷◌, ◌++◌, codes}
 use Rattle.moment_text.specs.declared.civil.Civil.{Civil}
 use Rattle.moment_text.specs.Civil.{civil}
 

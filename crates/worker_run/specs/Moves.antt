@@ -1,9 +1,8 @@
 -- internal: cited by private functions only
 -- What the parts of a turn do.
-use Rattle.std.specs.Prelude.{◌≡◌, ◌⊎◌, ℕ, ◌+◌, ◌≤◌, ◌<◌, List, [], ◌∷◌, ◌++◌, Bool, true, Option, Some, Result, Ok, Err, MatchResult, All, map, length}
+use Rattle.std.specs.Prelude.{◌≡◌, ◌⊎◌, ℕ, ◌+◌, ◌≤◌, ◌<◌, List, [], ◌∷◌, ◌++◌, Bool, true, Option, Some, Result, MatchResult, All, map, length}
 use Rattle.std.specs.List.{list_all, list_any}
 use Rattle.gate_outside.specs.Links.{ReturnedLink}
-use Rattle.gate_outside.specs.Causes.{Rose}
 use Rattle.gate_outside.specs.Clocks.{ClockTale}
 use Rattle.gate_outside.specs.Doors.{DoorTale}
 use Rattle.open_links.specs.Courses.{Events, course, is_over}

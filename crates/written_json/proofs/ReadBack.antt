@@ -1,7 +1,6 @@
 -- The compact text of writable data reads as it.
-use Rattle.std.proofs.Common.{◌≡◌, ℕ, ◌≤◌, false, List, [], ◌∷◌, ◌++◌, Option, Some, None, option_map, option_and_then, decimal, refl, sym, ap, ap₂, ◌∙◌, subst, arith, append-nil}
+use Rattle.std.proofs.Common.{◌≡◌, ℕ, ◌≤◌, false, List, [], Some, option_map, option_and_then, decimal, refl, sym, ap, ◌∙◌, arith, append-nil}
 use Rattle.json.specs.Json as json
-use Rattle.json.specs.Token.{Token}
 use Rattle.json.specs.Lex.{tokens}
 use Rattle.json.specs.Print.{print}
 use Rattle.json.specs.Tree as tree
@@ -9,7 +8,7 @@ use Rattle.json.specs.Tree.{HasNumbers, ItemsHaveNumbers, MembersHaveNumbers}
 use Rattle.json.proofs.Printed.Decimals.{IsNumber-decimal}
 use Rattle.json.proofs.Printed.Tokens.{tokens-print}
 use Rattle.json.proofs.Printed.Trees.{ArePrintable-json_tokens, value-json_tokens}
-use Rattle.serde_json.specs.Data.{Num, unsigned, negative, float, Data, null, boolean, number, string, array, object, Items, no_items, item, Members, no_members, member, put, depth, items_depth, members_depth}
+use Rattle.serde_json.specs.Data.{unsigned, negative, float, Data, null, boolean, number, string, array, object, Items, no_items, item, Members, no_members, member, put, depth, items_depth, members_depth}
 use Rattle.serde_json.specs.Read.{read, number_of, of_json, of_items, of_members, max_depth}
 use Rattle.serde_json.specs.Written.{outline, items_outline, members_outline, compact_text, has_float, items_have_float, members_have_float}
 use Rattle.json_view.specs.Reading.{reading}
@@ -17,7 +16,7 @@ use Rattle.json_view.proofs.Readings.{reading-IsUtf8}
 use Rattle.std.specs.Str.{IsUtf8}
 use Rattle.serde_json.proofs.Numbers.{number_of-decimal}
 use Rattle.serde_json.proofs.Texts.{print-outline}
-use Rattle.written_json.specs.Writable.{put_all, IsCount, IsPlain, IsWritable, ItemsArePlain, MembersArePlain}
+use Rattle.written_json.specs.Writable.{put_all, IsPlain, IsWritable, ItemsArePlain, MembersArePlain}
 
 mutual
   of_outline : (d : Data) → IsPlain d → of_json (outline d) ≡ Some d

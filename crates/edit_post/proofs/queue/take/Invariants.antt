@@ -1,5 +1,4 @@
 use Rattle.std.proofs.Common.{◌≡◌, ◌/◌, ◌<◌}
-use Rattle.std.specs.Prelude.{None}
 use Rattle.crossbeam_queue.specs.declared.seg_queue.Stage.TheVariants.{SawHead}
 use Rattle.crossbeam_queue.specs.SegTies.{IsSegPassOf}
 use Rattle.edit_post.proofs.queue.take.Given as goal

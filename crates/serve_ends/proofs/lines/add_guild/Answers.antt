@@ -1,7 +1,6 @@
-use Rattle.std.proofs.Common.{◌≡◌, ◌∙◌, ◌++◌, [], sym, ap, append-nil, subst, Some, None}
+use Rattle.std.proofs.Common.{◌≡◌, ◌∙◌, ◌++◌, sym, ap, append-nil, subst, Some, None}
 use Rattle.std.specs.Option.{option_copied}
 use Rattle.std.specs.Prelude.{OnOk, string_bytes}
-use Rattle.serve_ends.specs.Lines.{line_of}
 use Rattle.serve_ends.proofs.Written.{line_is}
 use Rattle.serve_ends.proofs.lines.add_guild.Goals as goal
 

@@ -1,4 +1,4 @@
-use Rattle.std.proofs.Common.{◌≡◌, sym, ◌∙◌, ap, refl}
+use Rattle.std.proofs.Common.{◌≡◌, sym, ◌∙◌, ap}
 use Rattle.guild_hub.specs.Books.{counter_of}
 use Rattle.guild_hub.proofs.Marking.{stores_moves}
 use Rattle.guild_hub.proofs.mark.Mark.store.Goals as goal
