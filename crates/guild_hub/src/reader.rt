@@ -9,14 +9,14 @@ ghost use Rattle.guild_hub.specs.Looks.{Looks, Lags, Rebases, MayEnter};
 ghost use Rattle.guild_hub.specs.Rules.{knows};
 ghost use Rattle.left_right.specs.Sides.{view};
 
-use crate::find::{Basis, Found, copies};
+use crate::find::{Basis, Found};
 use crate::mark::{QuitNote, Watch};
 use crate::note::Note;
 use crate::ruled;
 use crate::ruled::LogReader;
 use core::mem::replace_with;
-use edit_apply::Edit;
 use guild_model::Guild;
+use log_entry::Entry;
 use std::alloc::{AllocError, Global};
 use std::marker::Model;
 
@@ -24,7 +24,7 @@ use std::marker::Model;
 #[derive(Drop)]
 pub struct Looked {
     /// The entries after the reader's cursor, in order.
-    pub entries: Vec<Edit>,
+    pub entries: Vec<Entry>,
     /// Whether the log had its seal at the step of the look.
     pub sealed: bool,
     /// Whether the writer had quit at a step of the look.
@@ -53,7 +53,7 @@ pub struct Rebased {
     /// The record after these.
     pub basis: Guild,
     /// The entries that follow, in order.
-    pub entries: Vec<Edit>,
+    pub entries: Vec<Entry>,
     /// Whether the log had its seal.
     pub sealed: bool,
 }
@@ -160,9 +160,6 @@ impl HubReader {
                 cursor: self.cursor,
             });
         };
-        let Ok(entries) = copies(self.alloc, &entries) else {
-            return Err(LookRefused::Memory);
-        };
         let sealed = note.is_sealed();
         self.cursor = note.len();
         self.note = note;
@@ -186,7 +183,6 @@ impl HubReader {
             basis,
             entries,
         } = replace_with(&mut self.reader, with, ruled::rebase)?;
-        let entries = copies(self.alloc, &entries)?;
         let base = note.base();
         let sealed = note.is_sealed();
         self.base = base;

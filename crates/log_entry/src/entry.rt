@@ -1,4 +1,4 @@
-//! An entry of a log, which both copies of a hub's value and its readers share.
+//! An edit that has entered a log.
 
 ghost use Rattle.std.specs.Prelude.{◌≡◌, IfOk};
 ghost use Rattle.std.specs.Arc.{arc_value};
@@ -8,7 +8,7 @@ use std::alloc::{AllocError, Global};
 use std::marker::Model;
 use std::sync::Arc;
 
-/// An entry of a log. All owners share its edit, and a clause sees the edit.
+/// An entry of a log. Its owners share one edit, and a clause sees the edit.
 pub struct Entry {
     edit: Arc<Edit>,
 }
@@ -32,6 +32,9 @@ impl Model for Entry {
 
 impl Entry {
     /// An entry with this edit.
+    ///
+    /// # Errors
+    /// Out of memory.
     pub fn new(alloc: Global, edit: Edit) -> Result<Entry, AllocError>
         ensures { IfOk result (λ entry. entry ≡ edit) }
     {
@@ -40,7 +43,10 @@ impl Entry {
         })
     }
 
-    /// The same entry, with one more owner.
+    /// The same entry, with one more owner. It does not allocate.
+    ///
+    /// # Errors
+    /// There are too many owners to count.
     pub fn again(&self) -> Result<Entry, AllocError>
         ensures { IfOk result (λ entry. entry ≡ self.now) }
     {
@@ -49,7 +55,7 @@ impl Entry {
         })
     }
 
-    /// The entry's edit, which all its owners share.
+    /// The entry's edit, which its owners share.
     pub fn edit(&self) -> &Edit
         ensures { result.now ≡ self.now }
     {
@@ -57,6 +63,9 @@ impl Entry {
     }
 
     /// An edit of one's own that is equal to the entry's.
+    ///
+    /// # Errors
+    /// Out of memory.
     pub fn copy(&self, alloc: Global) -> Result<Edit, AllocError>
         ensures { IfOk result (λ edit. edit ≡ self.now) }
     {
