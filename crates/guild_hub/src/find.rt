@@ -103,3 +103,14 @@ pub fn basis_of(shown: &Shown, alloc: Global, least: &Note) -> Result<Basis, All
         entries,
     })
 }
+
+/// Entries of one's own that are equal to these: to count their owners, no thread waits for another.
+pub fn copies(alloc: Global, entries: &[Entry]) -> Result<Vec<Entry>, AllocError>
+    ensures { IfOk result (λ v. v.items ≡ entries.now) }
+{
+    let mut copies = Vec::with_capacity(alloc, entries.len())?;
+    for entry in entries {
+        copies.push(Entry::new(alloc, entry.copy(alloc)?)?)?;
+    }
+    Ok(copies)
+}

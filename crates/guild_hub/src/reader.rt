@@ -9,7 +9,7 @@ ghost use Rattle.guild_hub.specs.Looks.{Looks, Lags, Rebases, MayEnter};
 ghost use Rattle.guild_hub.specs.Rules.{knows};
 ghost use Rattle.left_right.specs.Sides.{view};
 
-use crate::find::{Basis, Found};
+use crate::find::{Basis, Found, copies};
 use crate::mark::{QuitNote, Watch};
 use crate::note::Note;
 use crate::ruled;
@@ -160,6 +160,9 @@ impl HubReader {
                 cursor: self.cursor,
             });
         };
+        let Ok(entries) = copies(self.alloc, &entries) else {
+            return Err(LookRefused::Memory);
+        };
         let sealed = note.is_sealed();
         self.cursor = note.len();
         self.note = note;
@@ -183,6 +186,7 @@ impl HubReader {
             basis,
             entries,
         } = replace_with(&mut self.reader, with, ruled::rebase)?;
+        let entries = copies(self.alloc, &entries)?;
         let base = note.base();
         let sealed = note.is_sealed();
         self.base = base;
