@@ -190,7 +190,7 @@ def compare_words():
         for line, (word, cell, _) in rows(page, "word"):
             if word != "INTENTS":
                 compare("words of commands", page, line, int(re.findall(r"\d+", cell)[-1]), limits[names.get(word, f"MOST_{word}")])
-    said = text_of("crates/scenario/src/texts.rt", *(f"crates/{crate}/src/*.rt" for crate in ("log_summary", "serve_ends", "serve_parts", "client_follow")))
+    said = text_of("crates/scenario/src/texts.rt", *(f"crates/{crate}/src/*.rt" for crate in ("log_summary", "serve_run", "serve_parts", "client_follow")))
     for page in (TRANSCRIPT, LOAD, SERVE, CLIENT):
         for line, (form, _) in rows(page, "line"):
             word = re.match(r"[a-z ]*", form)[0]

@@ -13,6 +13,7 @@ pub struct FileScript {
     pub(crate) first: Result<Option<Line>, ScriptFault>,
 }
 
+// One call drops it, so that no crate above proves the drop of what it holds again.
 impl Drop for FileScript {
     fn drop(self) {
         let FileScript { lines, first } = self;

@@ -10,8 +10,8 @@ use Rattle.scenario.specs.declared.fault.PlayFault.TheVariants as play
 use Rattle.house_loans.specs.Clocks.{LendsClocks}
 use Rattle.house_loans.proofs.Lending.{clocks_none}
 use Rattle.house_loans.proofs.Returned.{clocks_back_none}
-use Rattle.serve_ends.specs.declared.fault.ServeFault.TheVariants as serving
-use Rattle.serve_house.proofs.Back.{ran_out}
+use Rattle.serve_run.specs.declared.fault.ServeFault.TheVariants as serving
+use Rattle.serve_run.proofs.Back.{ran_out}
 use Rattle.client_follow.specs.declared.fault.FollowFault.TheVariants as follow
 use Rattle.file_lift.specs.declared.fault.LiftFault.TheVariants as lifting
 use Rattle.gateway_main.specs.declared.fault.GateFault.{GateFault}

@@ -9,7 +9,7 @@ use Rattle.client_follow.specs.declared.fault.FollowFault.{FollowFault}
 use Rattle.client_follow.specs.declared.fault.FollowFault.TheVariants.{Memory}
 use Rattle.client_follow.specs.declared.following.Following.{Following}
 use Rattle.client_follow.specs.Follows.{Follows, Around, around, sink_tale}
-use Rattle.serve_house.specs.Serving.{SinkTale}
+use Rattle.serve_run.specs.Serving.{SinkTale}
 
 -- what a client follows by these words, and how far
 abbrev pub following : (url token : List ℕ) → (intents count : ℕ) → Following

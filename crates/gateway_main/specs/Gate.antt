@@ -16,9 +16,9 @@ use Rattle.load_run.specs.declared.fault.LoadFault.{LoadFault}
 use Rattle.load_run.specs.declared.fault.LoadFault.TheVariants as ends
 use Rattle.load_run.specs.Causes.{Loads, HasLoadCause, StartsParts}
 use Rattle.house_loans.specs.Clocks.{LendsClocks}
-use Rattle.serve_ends.specs.declared.fault.ServeFault.{ServeFault}
-use Rattle.serve_ends.specs.declared.fault.ServeFault.TheVariants as serving
-use Rattle.serve_house.specs.Serving.{SinkTale, TeamTale, ServesFiles}
+use Rattle.serve_run.specs.declared.fault.ServeFault.{ServeFault}
+use Rattle.serve_run.specs.declared.fault.ServeFault.TheVariants as serving
+use Rattle.serve_run.specs.Serving.{SinkTale, TeamTale, ServesFiles}
 use Rattle.client_follow.specs.declared.fault.FollowFault.{FollowFault}
 use Rattle.client_follow.specs.declared.fault.FollowFault.TheVariants as follow
 use Rattle.file_lift.specs.declared.fault.LiftFault.{LiftFault}

@@ -8,7 +8,7 @@ use file_lift::LiftFault;
 use gate_outside::std_house::STANDARD_INPUT;
 use load_run::LoadFault;
 use scenario::PlayFault;
-use serve_ends::ServeFault;
+use serve_run::ServeFault;
 use std::io;
 use std::io::Eprint;
 

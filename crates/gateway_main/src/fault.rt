@@ -4,7 +4,7 @@ use client_follow::FollowFault;
 use file_lift::LiftFault;
 use load_run::LoadFault;
 use scenario::PlayFault;
-use serve_ends::ServeFault;
+use serve_run::ServeFault;
 
 /// Why a command did not come to its end.
 #[derive(Clone, Copy, Debug)]

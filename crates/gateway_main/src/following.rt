@@ -1,7 +1,7 @@
 //! The command `client URL TOKEN INTENTS COUNT`.
 
 ghost use Rattle.std.specs.Prelude.{◌≡◌, IfOk};
-ghost use Rattle.serve_house.specs.Serving.{sink_tale};
+ghost use Rattle.serve_run.specs.Serving.{sink_tale};
 ghost use Rattle.gateway_main.specs.Following.{following, FollowsOver};
 
 use client_follow::{FollowFault, Following, follow};

@@ -3,7 +3,7 @@
 ghost use Rattle.std.specs.Prelude.{◌≡◌, None, map, string_bytes};
 ghost use Rattle.world_law.specs.TheLaw.{TheLaw};
 ghost use Rattle.serve_words.specs.Words.{command_of};
-ghost use Rattle.serve_house.specs.Serving.{sink_tale, team_tale};
+ghost use Rattle.serve_run.specs.Serving.{sink_tale, team_tale};
 ghost use Rattle.gateway_main.specs.Gate.{outside, Does};
 ghost use Rattle.gateway_main.specs.Lifting.{MeansTheSame};
 
@@ -21,8 +21,8 @@ use gate_outside::doors::Door;
 use gate_outside::houses::House;
 use gate_outside::spawners::Spawner;
 use load_parts::LoadPart;
-use serve_house::run_serve;
 use serve_parts::ServePart;
+use serve_run::run_serve;
 use serve_words::{Command, read_words};
 use std::alloc::Global;
 use std::sync::Wait;

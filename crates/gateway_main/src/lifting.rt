@@ -1,7 +1,7 @@
 //! The command `lift FILE`.
 
 ghost use Rattle.std.specs.Prelude.{◌≡◌};
-ghost use Rattle.serve_house.specs.Serving.{sink_tale};
+ghost use Rattle.serve_run.specs.Serving.{sink_tale};
 ghost use Rattle.file_lift.specs.Lifting.{LiftCause};
 ghost use Rattle.file_lift.specs.declared.fault.LiftFault.TheVariants.{Memory};
 ghost use Rattle.gateway_main.specs.Files.{AsksForFile};

@@ -10,7 +10,7 @@ use file_lift::LiftFault;
 use gate_outside::faults::Fault;
 use load_run::LoadFault;
 use scenario::PlayFault;
-use serve_ends::ServeFault;
+use serve_run::ServeFault;
 
 /// The exit status if the words are not those of a command.
 pub const BAD_WORDS: u8 = 2;

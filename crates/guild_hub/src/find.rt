@@ -5,11 +5,10 @@ ghost use Rattle.guild_hub.specs.Logs.{GoesOn, base_of, record_after};
 ghost use Rattle.guild_hub.specs.Trims.{spine_of, IsTrimmed};
 ghost use Rattle.guild_hub.specs.Rules.{FindsEntries};
 
-use crate::entry::Entry;
 use crate::note::Note;
 use crate::shown::Shown;
-use edit_apply::Edit;
 use guild_model::Guild;
+use log_entry::Entry;
 use std::alloc::{AllocError, Global};
 use std::collections::VecDeque;
 
@@ -105,13 +104,13 @@ pub fn basis_of(shown: &Shown, alloc: Global, least: &Note) -> Result<Basis, All
     })
 }
 
-/// Edits of one's own that are equal to the entries.
-pub fn copies(alloc: Global, entries: &[Entry]) -> Result<Vec<Edit>, AllocError>
+/// Entries of one's own that are equal to these: to count their owners, no thread waits for another.
+pub fn copies(alloc: Global, entries: &[Entry]) -> Result<Vec<Entry>, AllocError>
     ensures { IfOk result (λ v. v.items ≡ entries.now) }
 {
-    let mut edits = Vec::new(alloc);
+    let mut copies = Vec::with_capacity(alloc, entries.len())?;
     for entry in entries {
-        edits.push(entry.copy(alloc)?)?;
+        copies.push(Entry::new(alloc, entry.copy(alloc)?)?)?;
     }
-    Ok(edits)
+    Ok(copies)
 }

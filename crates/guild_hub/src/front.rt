@@ -5,10 +5,10 @@ ghost use Rattle.edit_apply.specs.Edits.{accepts, after, state_from};
 ghost use Rattle.guild_hub.specs.Logs.{whole_record, accepted_from, accepted as accepted_in};
 ghost use Rattle.guild_hub.specs.Trims.{spine_of, IsTrimmed};
 
-use crate::entry::Entry;
 use crate::shown::Shown;
 use edit_apply::{judge, make};
 use guild_model::Guild;
+use log_entry::Entry;
 use std::alloc::{AllocError, Global};
 use std::collections::VecDeque;
 

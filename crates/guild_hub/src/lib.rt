@@ -2,7 +2,6 @@
 //! latest entries, and of those before them the record that they made.
 #![tactic(auto)]
 
-mod entry;
 mod find;
 mod front;
 mod head;

@@ -15,8 +15,8 @@ use crate::note::Note;
 use crate::ruled;
 use crate::ruled::LogReader;
 use core::mem::replace_with;
-use edit_apply::Edit;
 use guild_model::Guild;
+use log_entry::Entry;
 use std::alloc::{AllocError, Global};
 use std::marker::Model;
 
@@ -24,7 +24,7 @@ use std::marker::Model;
 #[derive(Drop)]
 pub struct Looked {
     /// The entries after the reader's cursor, in order.
-    pub entries: Vec<Edit>,
+    pub entries: Vec<Entry>,
     /// Whether the log had its seal at the step of the look.
     pub sealed: bool,
     /// Whether the writer had quit at a step of the look.
@@ -53,7 +53,7 @@ pub struct Rebased {
     /// The record after these.
     pub basis: Guild,
     /// The entries that follow, in order.
-    pub entries: Vec<Edit>,
+    pub entries: Vec<Entry>,
     /// Whether the log had its seal.
     pub sealed: bool,
 }

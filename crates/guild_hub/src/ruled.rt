@@ -7,7 +7,6 @@ ghost use Rattle.guild_hub.specs.Trims.{spine_of, IsTrimmed};
 ghost use Rattle.guild_hub.specs.Rules.{knows, Knows, stranger, FindsEntries};
 ghost use Rattle.guild_hub.specs.Looks.{MayEnter};
 
-use crate::entry::Entry;
 use crate::find::{self, Basis, Found};
 use crate::note::Note;
 use crate::shown::{Op, Shown};
@@ -15,6 +14,7 @@ use atomic_table::{Join, Split};
 use crossbeam_utils::rule::{Outcome, Protocol};
 use left_right::reader::Reader;
 use left_right::writer::Writer;
+use log_entry::Entry;
 use std::alloc::{AllocError, Global};
 use std::collections::LinkedList;
 use std::sync::Wait;

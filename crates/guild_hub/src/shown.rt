@@ -6,12 +6,12 @@ ghost use Rattle.std.specs.VecDeque.{deque_len, deque_capacity};
 ghost use Rattle.edit_apply.specs.Edits.{state_from};
 ghost use Rattle.guild_hub.specs.Logs.{accepted_from};
 
-use crate::entry::Entry;
 use crate::front::Front;
 use crate::note::Note;
 use edit_apply::Edit;
 use guild_model::Guild;
 use left_right::Absorb;
+use log_entry::Entry;
 use std::alloc::{AllocError, Global};
 use std::collections::{LinkedList, VecDeque};
 

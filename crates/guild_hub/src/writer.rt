@@ -5,7 +5,6 @@ ghost use Rattle.guild_hub.specs.Logs.{with_entry, with_seal, whole_record, acce
 ghost use Rattle.guild_hub.specs.Trims.{spine_of, IsTrimmed};
 ghost use Rattle.guild_hub.specs.Writes.{Refuses, publishing};
 
-use crate::entry::Entry;
 use crate::front::{self, Front};
 use crate::head::Head;
 use crate::mark::{Mark, QuitNote};
@@ -15,6 +14,7 @@ use crate::ruled::LogWriter;
 use crate::sealed::{SealedLog, leave_to_readers};
 use core::mem::replace_with;
 use edit_apply::Edit;
+use log_entry::Entry;
 use std::alloc::{AllocError, Global};
 use std::marker::Model;
 use std::sync::Wait;

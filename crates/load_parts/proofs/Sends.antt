@@ -9,12 +9,12 @@ use Rattle.std.proofs.sync.Arc.TheSendSync as arc
 use Rattle.std.proofs.vec.Vec.TheSendSync as vec
 use Rattle.gate_outside.below.collections.proofs.text.Text.TheSendSync as text
 use Rattle.gate_outside.proofs.fault_plan.FaultPlan.TheSendSync as plan
-use Rattle.gate_outside.proofs.sending.Sending.TheSendSync as sending
 use Rattle.thread_outside.below.atomic_blocks.proofs.web.Seat.TheSendSync as web_seat
 use Rattle.thread_outside.proofs.call.Call.TheSendSync as call
 use Rattle.thread_outside.proofs.call_taker.CallTaker.TheSendSync as taker
 use Rattle.thread_outside.proofs.calls.Calls.TheSendSync as calls
 use Rattle.thread_outside.proofs.kept_notes.KeptNotes.TheSendSync as kept_notes
+use Rattle.thread_outside.proofs.kept_tale.KeptTale.TheSendSync as kept_tale
 use Rattle.thread_outside.proofs.link_shelf.Place.TheLaws.TheKnot as knot
 use Rattle.thread_outside.specs.contracts.dialled_door.DialledDoor
 use Rattle.thread_outside.specs.contracts.door_dial.DoorDial
@@ -38,10 +38,10 @@ use Rattle.load_parts.specs.contracts.load_part.LoadPart
 
 module _ (R : RattleType) (sr : IsSend R) (yr : IsSync R) where
   dial : IsSend (DoorDial.the_field R).row
-  dial = search (web_seat.the_send, text.the_send, option.the_field_send, option.the_send, sending.the_send, arc.the_send, boxed.the_send, vec.the_send, global.the_field_send, global.the_send, call.the_send, calls.the_send, calls.the_sync, crosses, knot.crosses, sendable) depth 60 fits 20000
+  dial = search (web_seat.the_send, text.the_send, option.the_field_send, option.the_send, kept_tale.the_send, arc.the_send, boxed.the_send, vec.the_send, global.the_field_send, global.the_send, call.the_send, calls.the_send, calls.the_sync, crosses, knot.crosses, sendable) depth 60 fits 20000
 
   door : IsSend (DialledDoor.the_row R)
-  door = search (taker.the_send, plan.the_send, sending.the_send, global.the_field_send, crosses, knot.crosses, sendable) depth 60 fits 20000
+  door = search (taker.the_send, plan.the_send, kept_tale.the_send, global.the_field_send, crosses, knot.crosses, sendable) depth 60 fits 20000
 
   module _ (C : RattleType) (sc : IsSend C) where
     client : IsSend (ClientPart.the_field C R).row

@@ -8,6 +8,7 @@ use std::alloc::{AllocError, Global};
 use std::collections::VecDeque;
 use thread_outside::link_content::LinkContent;
 use thread_outside::script::Script;
+use thread_outside::unused::Unused;
 
 /// What a link answers.
 pub fn heard(alloc: Global, answer: Result<Incoming, Fault>) -> Result<String, AllocError> {
@@ -20,7 +21,7 @@ pub fn heard(alloc: Global, answer: Result<Incoming, Fault>) -> Result<String, A
 }
 
 /// A script that gives this text, then nothing once, and then a close.
-pub fn script(alloc: Global, text: &str) -> Result<Script, AllocError> {
+pub fn script(alloc: Global, text: &str) -> Result<Unused<Script>, AllocError> {
     let mut turns = VecDeque::new(alloc);
     turns.push_back(Some(Sending::Text(Text::new(alloc, text)?)))?;
     turns.push_back(None)?;

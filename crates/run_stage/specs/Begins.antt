@@ -6,7 +6,7 @@ use Rattle.team_run.specs.Teams.{many_more}
 use Rattle.stop_flag.specs.Flags.{SeatState, after_set}
 
 -- the first of these tasks were started, none after another was finished; the others came back, and only if the spawner
--- failed, and then the stop flag is set
+-- failed; then, and only then, the stop flag is set
 pub record Begins {T H : Type 0} (task_of : H → T) (tasks : List T) (before after : Starts) (faults0 faults1 : ℕ) (seat0 seat1 : SeatState) (started : List H) (back : List T) : Type 0 where
   pub parts : tasks ≡ map task_of started ++ back
   pub asked : back ≡ [] → after.asked ≡ many_more (length tasks) before.asked

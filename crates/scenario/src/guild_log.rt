@@ -9,6 +9,7 @@ ghost use Rattle.scenario.specs.Represents.{log_with, over, counted_in, added};
 use collections::Seq;
 use edit_apply::{Edit, judge, make};
 use guild_model::{Guild, Verdict};
+use log_entry::Entry;
 use snowflake_id::Snowflake;
 use std::alloc::{AllocError, Global};
 use std::collections::VecDeque;
@@ -20,7 +21,7 @@ const KEPT: usize = 4096;
 
 /// The latest entries of a log, seen as a list.
 pub struct Latest {
-    entries: VecDeque<Edit>,
+    entries: VecDeque<Entry>,
 }
 
 impl Drop for Latest {
@@ -94,10 +95,10 @@ impl Latest {
     }
 
     // Adds an entry.
-    fn push(&mut self, edit: Edit) -> Result<(), AllocError>
-        ensures { OnOk result (self.new ≡ self.old ++ edit ∷ []) }
+    fn push(&mut self, entry: Entry) -> Result<(), AllocError>
+        ensures { OnOk result (self.new ≡ self.old ++ entry ∷ []) }
     {
-        self.entries.push_back(edit)?;
+        self.entries.push_back(entry)?;
         Ok(())
     }
 
@@ -110,16 +111,16 @@ impl Latest {
         }
     }
 
-    // Copies of the entries from a place on.
-    fn copies_from(&self, alloc: Global, from: usize) -> Result<Seq<Edit>, AllocError>
-        ensures { IfOk result (λ copies. copies ≡ drop from self.now) }
+    // The entries from a place on, with one more owner each.
+    fn shared_from(&self, alloc: Global, from: usize) -> Result<Seq<Entry>, AllocError>
+        ensures { IfOk result (λ shared. shared ≡ drop from self.now) }
     {
         let entries = &self.entries;
-        let mut copies = Vec::new(alloc);
+        let mut shared = Vec::new(alloc);
         for place in from..entries.len() {
-            copies.push(entries[place].copy(alloc)?)?;
+            shared.push(entries[place].again()?)?;
         }
-        Ok(Seq::from_vec(copies))
+        Ok(Seq::from_vec(shared))
     }
 }
 
@@ -140,11 +141,9 @@ impl GuildLog {
         ensures answer { IfOk result (λ answer. answer ≡ verdict self.old.guild edit) }
         ensures log { OnOk result (self.new ≡ added self.old edit) }
     {
-        let Ok(verdict) = self.count_in(alloc, &edit) else {
-            drop(edit);
-            return Err(AllocError);
-        };
-        self.latest.push(edit)?;
+        let entry = Entry::new(alloc, edit)?;
+        let verdict = self.count_in(alloc, entry.edit())?;
+        self.latest.push(entry)?;
         Ok(verdict)
     }
 
@@ -182,7 +181,7 @@ impl GuildLog {
         if cursor < base {
             return self.rebase(alloc, guild);
         }
-        let entries = self.latest.copies_from(alloc, cursor - base)?;
+        let entries = self.latest.shared_from(alloc, cursor - base)?;
         Ok(Input::Look(guild, entries))
     }
 

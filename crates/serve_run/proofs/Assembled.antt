@@ -20,13 +20,13 @@ use Rattle.serve_stage.specs.Parts.{IsActor, IsScript, IsWorker}
 use Rattle.serve_stage.specs.Stages.{IsStage, senders_of}
 use Rattle.serve_stage.specs.declared.lent.Lent.{Lent}
 use Rattle.serve_stage.specs.declared.stage.Stage.{Stage}
-use Rattle.serve_ends.specs.Ends.{FileEnds, WorkerEnds, Joined}
-use Rattle.serve_ends.specs.Faults.{first_fault}
-use Rattle.serve_ends.specs.Services.{Service, HasHead, service, ascending, senders}
-use Rattle.serve_ends.specs.Sorted.{IsEmpty, Sorts, file_end}
-use Rattle.serve_ends.specs.Files.{FileEnd}
-use Rattle.serve_ends.specs.declared.ends.Ends.{Ends}
-use Rattle.serve_ends.specs.declared.fault.ServeFault.{ServeFault}
+use Rattle.serve_run.specs.Ends.{FileEnds, WorkerEnds, Joined}
+use Rattle.serve_run.specs.Faults.{first_fault}
+use Rattle.serve_run.specs.Services.{Service, HasHead, service, ascending, senders}
+use Rattle.serve_run.specs.Sorted.{IsEmpty, Sorts, file_end}
+use Rattle.serve_run.specs.Files.{FileEnd}
+use Rattle.serve_run.specs.declared.ends.Ends.{Ends}
+use Rattle.serve_run.specs.declared.fault.ServeFault.{ServeFault}
 use Rattle.gate_ends.specs.Done.{worker_end}
 use Rattle.gate_ends.specs.Ends.{ActorEnds}
 use Rattle.gate_ends.specs.declared.ending.WorkerEnd.{WorkerEnd}

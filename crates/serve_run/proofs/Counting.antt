@@ -23,8 +23,8 @@ use Rattle.serve_stage.specs.Parts.{IsActor, IsScript, IsWorker}
 use Rattle.serve_stage.specs.Stages.{AreLent, IsStage, senders_of}
 use Rattle.serve_stage.specs.declared.lent.Lent.{Lent}
 use Rattle.serve_stage.specs.declared.stage.Stage.{Stage}
-use Rattle.serve_ends.specs.Sorted.{HasRoom, IsEmpty, Sorts, source_of, door_of, clock_of, source_of_part, door_of_part, clock_of_part}
-use Rattle.serve_ends.specs.declared.ends.Ends.{Ends}
+use Rattle.serve_run.specs.Sorted.{HasRoom, IsEmpty, Sorts, source_of, door_of, clock_of, source_of_part, door_of_part, clock_of_part}
+use Rattle.serve_run.specs.declared.ends.Ends.{Ends}
 use Rattle.gate_ends.proofs.Counts.{each_one, goes_back}
 use Rattle.gate_ends.proofs.Zips.{many_zip}
 use Rattle.serve_run.specs.Lent.{ReturnsAll}

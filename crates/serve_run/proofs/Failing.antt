@@ -26,12 +26,12 @@ use Rattle.serve_parts.specs.declared.file_part.FilePart.{FilePart}
 use Rattle.serve_parts.specs.declared.file_part.FileDone.{FileDone}
 use Rattle.serve_parts.specs.declared.serve_part.ServeDone.{ServeDone}
 use Rattle.serve_parts.specs.declared.serve_part.ServeDone.TheVariants as done
-use Rattle.serve_ends.specs.Faults.{actor_faults, script_faults, worker_faults, first_fault, rank, start_fault}
-use Rattle.serve_ends.specs.Sorted.{file_end, source_of, door_of}
-use Rattle.serve_ends.specs.Files.{FileEnd}
-use Rattle.serve_ends.specs.declared.fault.ServeFault.{ServeFault}
-use Rattle.serve_ends.specs.declared.fault.ServeFault.TheVariants.{Memory, Spent, Start, Door, Read, Line, Write}
-use Rattle.serve_ends.proofs.Ranks.{ScriptFaultOf, is_start, of_actor, of_script, of_worker}
+use Rattle.serve_run.specs.Faults.{actor_faults, script_faults, worker_faults, first_fault, rank, start_fault}
+use Rattle.serve_run.specs.Sorted.{file_end, source_of, door_of}
+use Rattle.serve_run.specs.Files.{FileEnd}
+use Rattle.serve_run.specs.declared.fault.ServeFault.{ServeFault}
+use Rattle.serve_run.specs.declared.fault.ServeFault.TheVariants.{Memory, Spent, Start, Door, Read, Line, Write}
+use Rattle.serve_run.proofs.Ranks.{ScriptFaultOf, is_start, of_actor, of_script, of_worker}
 use Rattle.gate_ends.specs.Done.{worker_end}
 use Rattle.gate_ends.specs.declared.ending.WorkerEnd.{WorkerEnd}
 use Rattle.gate_ends.proofs.Ranks.{AnyIs, first_is}

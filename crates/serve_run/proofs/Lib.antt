@@ -1,3 +1,10 @@
+pub mod Added
+pub mod Ranks
+pub mod Ascending
+pub mod Sendings
+pub mod Workers
+pub mod SettledLogs
+pub mod Written
 pub mod Fronts
 pub mod Told
 pub mod Counting
@@ -5,3 +12,8 @@ pub mod Ranking
 pub mod Failing
 pub mod Assembled
 pub mod Out
+pub mod Asked
+pub mod Lent
+pub mod ToldFiles
+pub mod Back
+pub mod Served

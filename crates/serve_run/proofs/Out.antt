@@ -13,12 +13,12 @@ use Rattle.gate_outside.specs.Causes.{Rose, FaultHasCause}
 use Rattle.gate_outside.specs.Streams.{AppendsFront}
 use Rattle.gate_outside.specs.declared.faults.Fault.{Fault}
 use Rattle.gate_outside.specs.declared.faults.Fault.TheVariants as outside
-use Rattle.serve_ends.specs.Faults.{by_sink, sooner}
-use Rattle.serve_ends.specs.Lines.{stop_line}
-use Rattle.serve_ends.specs.Served.{IsServed}
-use Rattle.serve_ends.specs.Services.{Service}
-use Rattle.serve_ends.specs.declared.fault.ServeFault.{ServeFault}
-use Rattle.serve_ends.specs.declared.fault.ServeFault.TheVariants.{Memory, Spent, Start, Door, Read, Line, Write}
+use Rattle.serve_run.specs.Faults.{by_sink, sooner}
+use Rattle.serve_run.specs.Lines.{stop_line}
+use Rattle.serve_run.specs.Served.{IsServed}
+use Rattle.serve_run.specs.Services.{Service}
+use Rattle.serve_run.specs.declared.fault.ServeFault.{ServeFault}
+use Rattle.serve_run.specs.declared.fault.ServeFault.TheVariants.{Memory, Spent, Start, Door, Read, Line, Write}
 use Rattle.serve_run.specs.Causes.{AnswersBy, HasServeCause, ShowsFault}
 use Rattle.serve_run.specs.Ended.{HasEndedBy, MayHave}
 use Rattle.serve_run.specs.Serves.{Serves, told}

@@ -5,11 +5,11 @@ use Rattle.std.specs.List.{fold}
 use Rattle.std.proofs.lemmas.Bool.Decides.{Decides-ltb}
 use Rattle.std.proofs.lemmas.Option.{same_Some, none-some}
 use Rattle.gate_parts.specs.declared.actor_part.ActorDone.{ActorDone}
-use Rattle.serve_ends.specs.Faults.{actor_faults, script_faults, worker_faults, first_fault, rank, sooner, start_fault}
-use Rattle.serve_ends.specs.Files.{FileEnd}
-use Rattle.serve_ends.specs.declared.fault.ServeFault.{ServeFault}
-use Rattle.serve_ends.specs.declared.fault.ServeFault.TheVariants.{Memory, Spent, Start, Door, Read, Line, Write}
-use Rattle.serve_ends.proofs.Ranks.{ScriptFaultOf, all_started, of_actor, of_script, of_worker}
+use Rattle.serve_run.specs.Faults.{actor_faults, script_faults, worker_faults, first_fault, rank, sooner, start_fault}
+use Rattle.serve_run.specs.Files.{FileEnd}
+use Rattle.serve_run.specs.declared.fault.ServeFault.{ServeFault}
+use Rattle.serve_run.specs.declared.fault.ServeFault.TheVariants.{Memory, Spent, Start, Door, Read, Line, Write}
+use Rattle.serve_run.proofs.Ranks.{ScriptFaultOf, all_started, of_actor, of_script, of_worker}
 use Rattle.gate_ends.specs.declared.ending.WorkerEnd.{WorkerEnd}
 use Rattle.gate_ends.proofs.Ranks.{AnyIs, first_is, first_is_none}
 use Rattle.serve_run.specs.Ended.{MayHave}

@@ -29,9 +29,9 @@ use Rattle.serve_parts.specs.declared.file_part.FileDone.{FileDone}
 use Rattle.serve_stage.specs.Parts.{IsActor, IsScript, IsWorker, file_of}
 use Rattle.serve_stage.specs.Stages.{senders_of}
 use Rattle.serve_stage.specs.declared.lent.Lent.{Lent}
-use Rattle.serve_ends.specs.Ends.{FileEnds, WorkerEnds, SendsOrStops}
-use Rattle.serve_ends.specs.Services.{Service, FileTale, DoorGiven, HasHead, service, file_tales, ascending, senders}
-use Rattle.serve_ends.specs.Sorted.{file_end}
+use Rattle.serve_run.specs.Ends.{FileEnds, WorkerEnds, SendsOrStops}
+use Rattle.serve_run.specs.Services.{Service, FileTale, DoorGiven, HasHead, service, file_tales, ascending, senders}
+use Rattle.serve_run.specs.Sorted.{file_end}
 use Rattle.gate_ends.specs.Done.{worker_end}
 use Rattle.gate_ends.specs.Ends.{ActorEnds}
 use Rattle.gate_ends.proofs.Began.{actor_ends, worker_serves}

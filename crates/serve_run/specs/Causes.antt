@@ -3,9 +3,9 @@ use Rattle.std.specs.Prelude.{◌≡◌, ◌⊎◌, ℕ, ◌<◌, List, [], ◌�
 use Rattle.gate_outside.specs.Causes.{Rose}
 use Rattle.gate_outside.specs.Spawners.{Starts}
 use Rattle.team_run.specs.Teams.{many_more}
-use Rattle.serve_ends.specs.Services.{Service}
-use Rattle.serve_ends.specs.declared.fault.ServeFault.{ServeFault}
-use Rattle.serve_ends.specs.declared.fault.ServeFault.TheVariants.{Memory, Spent, Start, Door, Read, Line, Write}
+use Rattle.serve_run.specs.Services.{Service}
+use Rattle.serve_run.specs.declared.fault.ServeFault.{ServeFault}
+use Rattle.serve_run.specs.declared.fault.ServeFault.TheVariants.{Memory, Spent, Start, Door, Read, Line, Write}
 use Rattle.serve_run.specs.Ended.{HasEndedBy}
 
 -- one of these counts of faults stands above 0

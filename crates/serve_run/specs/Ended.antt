@@ -5,12 +5,12 @@ use Rattle.edit_post.specs.Post.{PostId}
 use Rattle.guild_hub.specs.Writes.{Publishing}
 use Rattle.gate_parts.specs.declared.actor_part.ActorDone.{ActorDone}
 use Rattle.run_stage.specs.Hubs.{IsNewWriter}
-use Rattle.serve_ends.specs.Ends.{FileEnds, WorkerEnds}
-use Rattle.serve_ends.specs.Faults.{first_fault}
-use Rattle.serve_ends.specs.Services.{Service, ascending, senders}
-use Rattle.serve_ends.specs.Files.{FileEnd}
-use Rattle.serve_ends.specs.declared.fault.ServeFault.{ServeFault}
-use Rattle.serve_ends.specs.declared.fault.ServeFault.TheVariants.{Memory, Spent, Start, Door, Read, Line, Write}
+use Rattle.serve_run.specs.Ends.{FileEnds, WorkerEnds}
+use Rattle.serve_run.specs.Faults.{first_fault}
+use Rattle.serve_run.specs.Services.{Service, ascending, senders}
+use Rattle.serve_run.specs.Files.{FileEnd}
+use Rattle.serve_run.specs.declared.fault.ServeFault.{ServeFault}
+use Rattle.serve_run.specs.declared.fault.ServeFault.TheVariants.{Memory, Spent, Start, Door, Read, Line, Write}
 use Rattle.gate_ends.specs.Ends.{ActorEnds}
 use Rattle.gate_ends.specs.declared.ending.WorkerEnd.{WorkerEnd}
 

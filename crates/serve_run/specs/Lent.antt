@@ -7,8 +7,8 @@ use Rattle.session_core.specs.declared.bot.Bot.{Bot}
 use Rattle.serve_stage.specs.Stages.{IsStage}
 use Rattle.serve_stage.specs.declared.lent.Lent.{Lent}
 use Rattle.serve_stage.specs.declared.stage.Stage.{Stage}
-use Rattle.serve_ends.specs.Services.{Service, HasHead, service, ascending}
-use Rattle.serve_ends.specs.declared.ends.Returned.{Returned}
+use Rattle.serve_run.specs.Services.{Service, HasHead, service, ascending}
+use Rattle.serve_run.specs.declared.ends.Returned.{Returned}
 
 module _ {S D C : Type 0} where
   -- as much goes back as was lent

@@ -1,3 +1,10 @@
+pub mod Files
+pub mod Faults
+pub mod Sorted
+pub mod Services
+pub mod Ends
+pub mod Lines
+pub mod Served
 pub mod Rooms
 pub mod StartsAll
 pub mod Writes
@@ -5,3 +12,7 @@ pub mod Serves
 pub mod Ended
 pub mod Lent
 pub mod Causes
+pub mod Loans
+pub mod Begun
+pub mod Serving
+pub mod Parts

@@ -1,7 +1,7 @@
 -- internal: cited by private functions only. Room for the parts of a run.
 use Rattle.std.specs.Prelude.{◌≡◌, ℕ, ◌≤◌, []}
 use Rattle.std.specs.Vec.{vec_capacity}
-use Rattle.serve_ends.specs.Sorted.{IsEmpty, HasRoom}
+use Rattle.serve_run.specs.Sorted.{IsEmpty, HasRoom}
 use Rattle.serve_run.specs.declared.rooms.Rooms.{Rooms}
 
 module _ {S D C R : Type 0} where

@@ -4,11 +4,11 @@ use Rattle.std.specs.declared.option.Option.{Option}
 use Rattle.std.specs.Io.KnownBytes.{Appends}
 use Rattle.edit_fields.specs.declared.fault.LineFault.{LineFault}
 use Rattle.gate_outside.specs.Streams.{AppendsFront}
-use Rattle.serve_ends.specs.Lines.{worker_lines, stop_line}
-use Rattle.serve_ends.specs.Served.{IsServed}
-use Rattle.serve_ends.specs.Services.{Service}
-use Rattle.serve_ends.specs.declared.fault.ServeFault.{ServeFault}
-use Rattle.serve_ends.specs.declared.fault.ServeFault.TheVariants.{Memory, Spent, Start, Door, Read, Line, Write}
+use Rattle.serve_run.specs.Lines.{worker_lines, stop_line}
+use Rattle.serve_run.specs.Served.{IsServed}
+use Rattle.serve_run.specs.Services.{Service}
+use Rattle.serve_run.specs.declared.fault.ServeFault.{ServeFault}
+use Rattle.serve_run.specs.declared.fault.ServeFault.TheVariants.{Memory, Spent, Start, Door, Read, Line, Write}
 use Rattle.serve_run.specs.Writes.{GoesOut}
 
 module _ (s : Service) where

@@ -6,9 +6,9 @@ use Rattle.std.specs.declared.alloc.AllocError.{AllocError}
 use Rattle.std.specs.Io.KnownBytes.{Appends}
 use Rattle.gate_outside.specs.Causes.{Rose}
 use Rattle.gate_outside.specs.Streams.{AppendsFront}
-use Rattle.serve_ends.specs.Lines.{stop_line}
-use Rattle.serve_ends.specs.declared.fault.ServeFault.{ServeFault}
-use Rattle.serve_ends.specs.declared.fault.ServeFault.TheVariants.{Memory, Line, Write}
+use Rattle.serve_run.specs.Lines.{stop_line}
+use Rattle.serve_run.specs.declared.fault.ServeFault.{ServeFault}
+use Rattle.serve_run.specs.declared.fault.ServeFault.TheVariants.{Memory, Line, Write}
 
 -- the whole text went out, or if the sink failed a front of it
 abbrev pub GoesOut : (got0 got1 : Option (List ℕ)) (sink0 sink1 : ℕ) → List ℕ → Type 0

@@ -2,20 +2,23 @@
 
 ghost use Rattle.std.specs.Prelude.{◌≡◌, ℕ, List, Bool, None, length};
 ghost use Rattle.std.specs.declared.option.Option.{Option};
-ghost use Rattle.serve_ends.specs.Ends.{Joined};
-ghost use Rattle.serve_ends.specs.Lines.{worker_lines};
-ghost use Rattle.serve_ends.specs.Services.{Service};
+ghost use Rattle.serve_run.specs.Ends.{Joined};
+ghost use Rattle.serve_run.specs.Lines.{worker_lines};
+ghost use Rattle.serve_run.specs.Services.{Service};
 ghost use Rattle.serve_run.specs.Causes.{AnswersBy};
 ghost use Rattle.serve_run.specs.Ended.{MayHave};
 ghost use Rattle.serve_run.specs.Serves.{Serves};
 ghost use Rattle.serve_run.specs.Writes.{Refuses, Tells};
 
+use crate::fault::ServeFault;
+use crate::faults::sooner;
+use crate::lines::stop_line;
+use crate::settling::sum_up;
 use crate::writing::put;
 use file_script::ScriptFault;
 use gate_ends::Senders;
 use gate_outside::streams::Sink;
 use gate_parts::Posts;
-use serve_ends::{ServeFault, sooner, stop_line, sum_up};
 use snowflake_id::Snowflake;
 use std::alloc::Global;
 use std::sync::Wait;

@@ -3,7 +3,7 @@
 ghost use Rattle.std.specs.Prelude.{IfOk};
 ghost use Rattle.serve_run.specs.Rooms.{AreRoomy};
 
-use serve_ends::{Ends, make_ends};
+use crate::ends::{Ends, make_ends};
 use serve_parts::{ServeDone, ServePart};
 use std::alloc::{AllocError, Global};
 use std::sync::Wait;

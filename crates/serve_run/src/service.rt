@@ -1,6 +1,7 @@
 //! What a run of `serve` begins with, and what it leaves.
 
-use serve_ends::{Returned, ServeFault};
+use crate::ends::Returned;
+use crate::fault::ServeFault;
 use serve_stage::Lent;
 use session_core::Bot;
 use snowflake_id::Snowflake;

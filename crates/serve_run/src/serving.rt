@@ -2,12 +2,13 @@
 
 ghost use Rattle.std.specs.Prelude.{◌≡◌, ◌+◌, ◌≤◌, length, map, IfOk, IfErr};
 ghost use Rattle.serve_stage.specs.Stages.{AreLent};
-ghost use Rattle.serve_ends.specs.Services.{Service as AService};
+ghost use Rattle.serve_run.specs.Services.{Service as AService};
 ghost use Rattle.serve_run.specs.Causes.{HasServeCause, StartsParts};
 ghost use Rattle.serve_run.specs.Lent.{ReturnsAll, TellsLent};
 ghost use Rattle.serve_run.specs.Serves.{Serves};
 
 use crate::answering::answer;
+use crate::ends::Ends;
 use crate::playing::{Played, play};
 use crate::rooms::PARTS;
 use crate::service::{Served, Service};
@@ -17,7 +18,6 @@ use gate_outside::clocks::Clock;
 use gate_outside::doors::Door;
 use gate_outside::spawners::Spawner;
 use gate_outside::streams::{Sink, Source};
-use serve_ends::Ends;
 use serve_parts::ServePart;
 use serve_stage::Lent;
 use std::alloc::Global;

@@ -2,14 +2,14 @@
 
 ghost use Rattle.std.specs.Prelude.{◌≡◌, ◌+◌, ◌≤◌, length, string_bytes, IfOk, IfErr};
 ghost use Rattle.serve_stage.specs.Stages.{AreLent, IsStage};
-ghost use Rattle.serve_ends.specs.Lines.{worker_lines};
-ghost use Rattle.serve_ends.specs.Services.{ascending};
+ghost use Rattle.serve_run.specs.Lines.{worker_lines};
+ghost use Rattle.serve_run.specs.Services.{ascending};
 ghost use Rattle.serve_run.specs.Rooms.{AreRoomy};
 
+use crate::lines::worker_lines;
 use crate::rooms::{Rooms, make_rooms};
 use collections::ById;
 use file_script::Declared;
-use serve_ends::worker_lines;
 use serve_stage::{Lent, Stage, set_stage};
 use session_core::Bot;
 use snowflake_id::Snowflake;

@@ -2,9 +2,9 @@
 
 ghost use Rattle.serve_run.specs.Writes.{Tells};
 
+use crate::fault::ServeFault;
 use gate_ends::write_out;
 use gate_outside::streams::Sink;
-use serve_ends::ServeFault;
 
 /// Writes the lines of the workers, if all parts were started, and lets them go out. It gives why they did not all
 /// go out.

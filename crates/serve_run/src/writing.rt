@@ -2,9 +2,9 @@
 
 ghost use Rattle.serve_run.specs.Writes.{Puts};
 
+use crate::fault::ServeFault;
 use gate_ends::write_out;
 use gate_outside::streams::Sink;
-use serve_ends::ServeFault;
 use std::alloc::AllocError;
 
 /// Writes a text, if there was memory to make it, and lets all of it go out.

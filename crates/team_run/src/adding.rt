@@ -5,10 +5,10 @@ ghost use Rattle.std.specs.Vec.{vec_len, vec_capacity};
 
 /// A part of one kind, which stands among the parts of all kinds of a run.
 pub trait PartOf<P> {
-    /// How it stands among them.
+    /// The part as one of all kinds.
     ghost among: { Self → P };
 
-    /// It as a part among those of all kinds.
+    /// The part as one of all kinds.
     fn into_part(self) -> P
         ensures { result ≡ among self };
 }

@@ -2,6 +2,7 @@ pub mod Flags
 pub mod Lanes
 pub mod EndInside
 pub mod Peers
+pub mod KeptTales
 pub mod MemLinks
 pub mod Shelves
 pub mod Teams

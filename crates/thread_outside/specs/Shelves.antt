@@ -4,19 +4,11 @@ use Rattle.std.specs.declared.option.Option.{Option}
 use Rattle.std.specs.declared.option.Option.TheVariants.{Some, None}
 use Rattle.std.specs.declared.alloc.Global.{Global}
 use Rattle.thread_outside.specs.declared.link_shelf.Place.{Place, Place', Held-Place-below, None', Some'}
-use Rattle.gate_outside.specs.declared.sending.Sending.{Sending}
 use Rattle.gate_outside.specs.Links.{ReturnedLink}
-
--- what came over the link of a place and was given, and what went out
-abbrev pub gave_at : Place → List Sending
-gave_at (Place' gave sent faults below) = gave.items
-
-abbrev pub sent_at : Place → List Sending
-sent_at (Place' gave sent faults below) = sent.items
 
 -- what is kept at a place
 abbrev pub kept_at : Place → ReturnedLink
-kept_at (Place' gave sent faults below) = record { gave = Some gave.items; sent = Some sent.items; faults = faults }
+kept_at (Place' tale faults below) = record { gave = Some tale.gave; sent = Some tale.sent; faults = faults }
 
 -- what is kept at the place of a link before its first call
 abbrev pub new_place : ReturnedLink
@@ -25,8 +17,8 @@ new_place = record { gave = Some []; sent = Some []; faults = 0 }
 -- what is kept in a stack of places, the lowest first
 abbrev mutual
   pub all_at : Place → List ReturnedLink
-  all_at (Place' gave sent faults below) =
-      all_below below ++ record { gave = Some gave.items; sent = Some sent.items; faults = faults } ∷ []
+  all_at (Place' tale faults below) =
+      all_below below ++ record { gave = Some tale.gave; sent = Some tale.sent; faults = faults } ∷ []
 
   pub all_below : Held-Place-below → List ReturnedLink
   all_below None' = []

@@ -1,7 +1,7 @@
 //! What a dial puts at its door.
 ghost use Rattle.std.specs.Prelude.{◌≡◌};
 
-use crate::ends::Ends;
+use crate::unused_ends::UnusedEnds;
 use std::marker::Model;
 
 /// What a dial puts at its door: the far ends of a link that it opened, or nothing at its end. A
@@ -9,7 +9,7 @@ use std::marker::Model;
 #[derive(Drop)]
 pub struct Call {
     pub(crate) caller: u8,
-    pub(crate) ends: Option<Ends>,
+    pub(crate) ends: Option<UnusedEnds>,
 }
 
 impl Model for Call {
@@ -25,7 +25,7 @@ impl Model for Call {
 
 impl Call {
     // The ends, if there are some.
-    pub(crate) fn into_ends(self) -> Option<Ends>
+    pub(crate) fn into_ends(self) -> Option<UnusedEnds>
         ensures { result ≡ self.ends }
     {
         self.ends

@@ -6,7 +6,7 @@ ghost use Rattle.thread_outside.specs.DialledDoors.{after_call_of, after_empty_t
 
 use crate::call::Call;
 use crate::calls::{CallPass, Calls};
-use crate::ends::Ends;
+use crate::unused_ends::UnusedEnds;
 use std::alloc::{AllocError, Global};
 use std::marker::Model;
 use std::sync::{Arc, Wait};
@@ -89,7 +89,7 @@ impl CallTaker {
     }
 
     // Takes until ends come. `None` only if nothing waited at one step of the call.
-    pub(crate) fn next<R: Wait>(&mut self, runtime: &R) -> Option<Ends>
+    pub(crate) fn next<R: Wait>(&mut self, runtime: &R) -> Option<UnusedEnds>
         ensures { TakesEnds self.old self.new result }
     {
         for _ in runtime.forever() {

@@ -123,7 +123,7 @@ impl<R: Wait + Copy + Drop> DialledDoor<R> {
         match self.taker.next(&self.runtime) {
             Some(ends) => {
                 self.given += 1;
-                let end = LaneEnd::new(self.runtime, self.alloc, ends);
+                let end = LaneEnd::new(self.runtime, ends);
                 let content = LinkContent::new(end, Vec::new(self.alloc));
                 Accepted::Link(MemLink::at(self.alloc, place, content))
             }

@@ -10,10 +10,10 @@ ghost use Rattle.thread_outside.specs.DialledDoors.{new_door_dial, door_dial_tal
 use crate::call::Call;
 use crate::call_taker::CallTaker;
 use crate::calls::{CallPass, Calls};
-use crate::ends::joined_ends;
 use crate::lane_end::LaneEnd;
 use crate::link_shelf::Shelf;
 use crate::mem_link::MemLink;
+use crate::unused_ends::UnusedEnds;
 use collections::text::Text;
 use gate_outside::dials::Dial;
 use gate_outside::faults::Fault;
@@ -131,8 +131,8 @@ impl<R: Wait + Copy + Drop> Dial for DoorDial<R> {
     {
         let url = Text::new(self.alloc, url)?;
         self.urls.reserve(1)?;
-        let (near, far) = joined_ends(self.alloc)?;
-        let near = LaneEnd::new(self.runtime, self.alloc, near);
+        let (near, far) = UnusedEnds::joined(self.alloc)?;
+        let near = LaneEnd::new(self.runtime, near);
         let link = MemLink::new(self.alloc, near, Vec::new(self.alloc))?;
         let call = Call {
             caller: self.caller,

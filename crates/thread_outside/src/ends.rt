@@ -1,10 +1,10 @@
 //! The two lanes of an end in memory.
 ghost use Rattle.std.specs.Prelude.{◌≡◌, Some, None, IfOk, MatchBool};
 ghost use Rattle.thread_outside.specs.Lanes.{new_ends, MayGo, RefusesLane, TakesLane, PutsLane};
-ghost use Rattle.thread_outside.specs.Peers.{KeepsCopy};
+ghost use Rattle.thread_outside.specs.Peers.{ListsTaken, ListsPut};
 
+use crate::kept_tale::KeptTale;
 use crate::lane::{Lane, Putting, Taking};
-use crate::twice::Twice;
 use gate_outside::faults::Fault;
 use gate_outside::sending::Sending;
 use std::alloc::{AllocError, Global};
@@ -71,24 +71,34 @@ pub(crate) fn joined_ends(alloc: Global) -> Result<(Ends, Ends), AllocError>
 }
 
 impl Ends {
-    // Takes what waits first, and adds a copy of it to the list.
-    pub(crate) fn take<R: Wait>(
-        &mut self,
-        runtime: &R,
-        taken: &mut Vec<Sending>,
-    ) -> Result<Option<Sending>, Fault>
-        ensures lane { TakesLane (Some self.old) (Some self.new) result }
-        ensures copy { KeepsCopy taken.old.items taken.new.items result }
+    // Leaves, and keeps the passes, which tell what was taken and put.
+    pub(crate) fn into_kept(self) -> KeptTale
+        ensures { result ≡ record {
+          gave = self.came.taken;
+          sent = self.went.put;
+        } }
     {
-        taken.reserve(1)?;
+        let Ends {
+            from: _,
+            to,
+            takes,
+            puts,
+        } = self;
+        let Putting { pass, mut seat } = puts;
+        to.leave(&mut seat);
+        KeptTale::of_passes(takes.pass, pass)
+    }
+
+    // Takes what waits first.
+    pub(crate) fn take<R: Wait>(&mut self, runtime: &R) -> Result<Option<Sending>, Fault>
+        ensures lane { TakesLane (Some self.old) (Some self.new) result }
+        ensures gave { ListsTaken self.old.came.taken self.new.came.taken result }
+        ensures sent { self.new.went ≡ self.old.went }
+    {
         // Asked before the lane: what was put before the other end went is found below.
         let left = self.from.may_be_left();
         match self.from.take(runtime, &mut self.takes.pass) {
-            Some(twice) => {
-                let (given, kept) = twice.into_parts();
-                taken.push_reserved(kept);
-                Ok(Some(given))
-            }
+            Some(sending) => Ok(Some(sending)),
             None if left && self.from.is_left(&mut self.takes.seat) => Err(Fault::Failed),
             None => Ok(None),
         }
@@ -96,9 +106,10 @@ impl Ends {
 
     // Whether what goes out is refused: a text, if the other end has left.
     fn refuses(&mut self, sending: &Sending) -> bool
-        ensures { MatchBool result
+        ensures refuses { MatchBool result
             (RefusesLane self.old (Some self.new) sending.now)
             ((self.new ≡ self.old) × MayGo self.old sending.now) }
+        ensures same { (self.new.came ≡ self.old.came) × (self.new.went ≡ self.old.went) }
     {
         match sending {
             Sending::Text(_) => self.from.is_left(&mut self.takes.seat),
@@ -107,19 +118,15 @@ impl Ends {
     }
 
     // Puts what goes out.
-    pub(crate) fn put<R: Wait>(
-        &mut self,
-        runtime: &R,
-        alloc: Global,
-        sending: Sending,
-    ) -> Result<(), Fault>
-        ensures { PutsLane (Some self.old) (Some self.new) sending result }
+    pub(crate) fn put<R: Wait>(&mut self, runtime: &R, sending: Sending) -> Result<(), Fault>
+        ensures lane { PutsLane (Some self.old) (Some self.new) sending result }
+        ensures gave { self.new.came ≡ self.old.came }
+        ensures sent { ListsPut self.old.went.put self.new.went.put sending result }
     {
         if self.refuses(&sending) {
             return Err(Fault::Failed);
         }
-        let twice = Twice::new(alloc, sending)?;
-        match self.to.put(runtime, &mut self.puts.pass, twice) {
+        match self.to.put(runtime, &mut self.puts.pass, sending) {
             Ok(()) => Ok(()),
             Err(_) => Err(Fault::Memory),
         }

@@ -6,9 +6,9 @@ ghost use Rattle.thread_outside.specs.Lanes.{opening, putter, taker, spent, afte
 
 use crate::flag::{self, Flag, FlagSeat};
 use crate::lane_view::LaneView;
-use crate::twice::Twice;
 use crossbeam_queue::protocol::{Lesson, Outcome, Protocol, Split};
 use crossbeam_queue::{RuledSegQueue, SegPass};
+use gate_outside::sending::Sending;
 use std::alloc::{AllocError, Global};
 use std::marker::Model;
 use std::sync::{Arc, Wait};
@@ -16,7 +16,7 @@ use std::sync::{Arc, Wait};
 // The rule of a lane.
 pub(crate) struct All;
 
-impl Protocol<Twice, LaneView> for All {
+impl Protocol<Sending, LaneView> for All {
     ghost use Rattle.thread_outside.specs.Lanes.{opening, KeepsAll};
 
     ghost holds = { KeepsAll };
@@ -26,17 +26,17 @@ impl Protocol<Twice, LaneView> for All {
 
 struct Puts;
 
-impl Outcome<Twice, LaneView> for Puts {
+impl Outcome<Sending, LaneView> for Puts {
     ghost then = { λ before sending after. after ≡ after_put before sending };
 }
 
 struct Takes;
 
-impl Outcome<Twice, LaneView> for Takes {
+impl Outcome<Sending, LaneView> for Takes {
     ghost then = { λ before sending after. after ≡ after_take before sending };
 }
 
-impl Lesson<Twice, LaneView> for Takes {
+impl Lesson<Sending, LaneView> for Takes {
     ghost use Rattle.std.specs.Prelude.{⊤};
 
     ghost fact = { λ mine items. ⊤ };
@@ -45,11 +45,11 @@ impl Lesson<Twice, LaneView> for Takes {
 // A take that has found nothing at first, and has counted itself.
 struct TakesAfterAll;
 
-impl Outcome<Twice, LaneView> for TakesAfterAll {
+impl Outcome<Sending, LaneView> for TakesAfterAll {
     ghost then = { λ before sending after. after ≡ took_after_all before sending };
 }
 
-impl Lesson<Twice, LaneView> for TakesAfterAll {
+impl Lesson<Sending, LaneView> for TakesAfterAll {
     ghost use Rattle.std.specs.Prelude.{◌≡◌, ℕ, List};
     ghost use mathlib.Core.Option.{some};
     ghost use lib.ListN.{get_elem?};
@@ -76,7 +76,7 @@ impl Split<LaneView> for Parts {
 }
 
 /// The right of one end to put into a lane, or to take from it.
-pub(crate) type LanePass = SegPass<Twice, LaneView>;
+pub(crate) type LanePass = SegPass<Sending, LaneView>;
 
 // What the end that puts holds of a lane: its pass, and the seat by which it leaves.
 #[derive(Drop)]
@@ -95,7 +95,7 @@ pub(crate) struct Taking {
 // What waits for one end, and the flag that is up once the end that puts it there has left. A clause
 // sees its name.
 pub(crate) struct Lane {
-    waiting: RuledSegQueue<Twice, LaneView, All>,
+    waiting: RuledSegQueue<Sending, LaneView, All>,
     flag: Flag,
 }
 
@@ -149,8 +149,8 @@ impl Lane {
         &self,
         runtime: &R,
         pass: &mut LanePass,
-        sending: Twice,
-    ) -> Result<(), Twice>
+        sending: Sending,
+    ) -> Result<(), Sending>
         requires lane { IsSegPassOf self.now.queue pass.old }
         requires puts { pass.old.me.view.client.puts ≡ true }
         ensures lane { IsSegPassOf self.now.queue pass.new }
@@ -160,7 +160,7 @@ impl Lane {
     }
 
     // Takes what waits first. `None` only if nothing waited at one step of the call.
-    pub(crate) fn take<R: Wait>(&self, runtime: &R, pass: &mut LanePass) -> Option<Twice>
+    pub(crate) fn take<R: Wait>(&self, runtime: &R, pass: &mut LanePass) -> Option<Sending>
         requires lane { IsSegPassOf self.now.queue pass.old }
         requires takes { pass.old.me.view.client.takes ≡ true }
         ensures lane { IsSegPassOf self.now.queue pass.new }
@@ -177,7 +177,7 @@ impl Lane {
 
     // Counts this take as one that finds nothing, and only then looks, so that the step at which the
     // lane was empty is known to be one of this call.
-    fn count_and_take<R: Wait>(&self, runtime: &R, pass: &mut LanePass) -> Option<Twice>
+    fn count_and_take<R: Wait>(&self, runtime: &R, pass: &mut LanePass) -> Option<Sending>
         requires lane { IsSegPassOf self.now.queue pass.old }
         requires takes { pass.old.me.view.client.takes ≡ true }
         ensures lane { IsSegPassOf self.now.queue pass.new }

@@ -3,9 +3,12 @@ ghost use Rattle.std.specs.Prelude.{◌≡◌, None, Some, IfOk};
 ghost use Rattle.thread_outside.specs.Lanes.{new_ends};
 ghost use Rattle.thread_outside.specs.MemLinks.{ArePaired};
 
-use crate::ends::{Ends, joined_ends};
+use crate::ends::Ends;
+use crate::kept_tale::KeptTale;
 use crate::mem_link::MemLink;
 use crate::peer::Peer;
+use crate::unused::Unused;
+use crate::unused_ends::UnusedEnds;
 use gate_outside::faults::Fault;
 use gate_outside::sending::Sending;
 use std::alloc::{AllocError, Global};
@@ -15,17 +18,12 @@ use std::sync::Wait;
 /// One of two ends. What is put at one is taken at the other, which another thread may hold.
 pub struct LaneEnd<R: Wait + Drop> {
     runtime: R,
-    alloc: Global,
     ends: Ends,
 }
 
 impl<R: Wait + Drop> Drop for LaneEnd<R> {
     fn drop(self) {
-        let LaneEnd {
-            runtime: _,
-            alloc: _,
-            ends,
-        } = self;
+        let LaneEnd { runtime: _, ends } = self;
         drop(ends);
     }
 }
@@ -40,14 +38,13 @@ impl<R: Wait + Drop> Model for LaneEnd<R> {
 
 impl<R: Wait + Drop> LaneEnd<R> {
     // An end of these lanes.
-    pub(crate) fn new(runtime: R, alloc: Global, ends: Ends) -> LaneEnd<R>
+    pub(crate) fn new(runtime: R, ends: UnusedEnds) -> Unused<LaneEnd<R>>
         ensures { result ≡ ends }
     {
-        LaneEnd {
+        Unused::new(LaneEnd {
             runtime,
-            alloc,
-            ends,
-        }
+            ends: ends.into_ends(),
+        })
     }
 }
 
@@ -55,14 +52,11 @@ impl<R: Wait + Drop> LaneEnd<R> {
 pub fn two_ends<R: Wait + Copy + Drop>(
     runtime: R,
     alloc: Global,
-) -> Result<(LaneEnd<R>, LaneEnd<R>), AllocError>
+) -> Result<(Unused<LaneEnd<R>>, Unused<LaneEnd<R>>), AllocError>
     ensures { IfOk result (λ ends. (ends.0 ≡ new_ends ends.0.from ends.0.to) × (ends.1 ≡ new_ends ends.0.to ends.0.from)) }
 {
-    let (near, far) = joined_ends(alloc)?;
-    Ok((
-        LaneEnd::new(runtime, alloc, near),
-        LaneEnd::new(runtime, alloc, far),
-    ))
+    let (near, far) = UnusedEnds::joined(alloc)?;
+    Ok((LaneEnd::new(runtime, near), LaneEnd::new(runtime, far)))
 }
 
 impl<R: Wait + Copy + Drop> MemLink<LaneEnd<R>> {
@@ -87,11 +81,20 @@ impl<R: Wait + Drop> Peer for LaneEnd<R> {
 
     ghost lane = { λ e. Some e };
 
-    fn take(&mut self, taken: &mut Vec<Sending>) -> Result<Option<Sending>, Fault> {
-        self.ends.take(&self.runtime, taken)
+    ghost gave = { λ e. e.came.taken };
+
+    ghost sent = { λ e. e.went.put };
+
+    fn take(&mut self) -> Result<Option<Sending>, Fault> {
+        self.ends.take(&self.runtime)
     }
 
     fn put(&mut self, sending: Sending) -> Result<(), Fault> {
-        self.ends.put(&self.runtime, self.alloc, sending)
+        self.ends.put(&self.runtime, sending)
+    }
+
+    fn into_kept(self) -> KeptTale {
+        let LaneEnd { runtime: _, ends } = self;
+        ends.into_kept()
     }
 }

@@ -2,15 +2,14 @@
 ghost use Rattle.std.specs.Prelude.{◌≡◌, ◌++◌, ◌∷◌, [], IfOk};
 ghost use Rattle.thread_outside.specs.Shelves.{kept_at, new_place};
 
-use gate_outside::sending::Sending;
+use crate::kept_tale::KeptTale;
 use std::alloc::{AllocError, Global};
 use std::marker::Model;
 
-// What came over a link and was given, what went out, and its count of faults, with what lies below
-// it, where it lies on a shelf.
+// What is kept of what came over a link and went out, and its count of faults, with what lies below it,
+// where it lies on a shelf.
 pub(crate) struct Place {
-    pub(crate) gave: Vec<Sending>,
-    pub(crate) sent: Vec<Sending>,
+    pub(crate) tale: KeptTale,
     pub(crate) faults: u64,
     below: Option<Box<Place>>,
 }
@@ -18,13 +17,11 @@ pub(crate) struct Place {
 impl Drop for Place {
     fn drop(self) {
         let Place {
-            gave,
-            sent,
+            tale,
             faults: _,
             below,
         } = self;
-        drop(gave);
-        drop(sent);
+        drop(tale);
         drop(below);
     }
 }
@@ -35,8 +32,7 @@ impl Place {
         ensures { IfOk result (λ p. kept_at p.value ≡ new_place) }
     {
         let place = Place {
-            gave: Vec::new(alloc),
-            sent: Vec::new(alloc),
+            tale: KeptTale::of_lists(Vec::new(alloc), Vec::new(alloc)),
             faults: 0,
             below: None,
         };

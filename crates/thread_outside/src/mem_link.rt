@@ -9,6 +9,8 @@ ghost use Rattle.thread_outside.specs.Shelves.{kept_at};
 use crate::link_content::LinkContent;
 use crate::link_shelf::Place;
 use crate::peer::Peer;
+use crate::script::Script;
+use crate::unused::Unused;
 use collections::text::Text;
 use gate_outside::fault_plan::FaultPlan;
 use gate_outside::faults::Fault;
@@ -18,14 +20,12 @@ use gate_outside::sending::Sending;
 use std::alloc::{AllocError, Global};
 use std::marker::Model;
 
-/// A link in memory. It tells what it gave and what it was sent.
+/// A link in memory. A clause sees what it gave and what it was sent.
 pub struct MemLink<P: Peer + Drop> {
     alloc: Global,
     peer: P,
     own_code: Option<u16>,
     gave_text: bool,
-    gave: Vec<Sending>,
-    sent: Vec<Sending>,
     place: Box<Place>,
     plan: FaultPlan,
 }
@@ -37,14 +37,10 @@ impl<P: Peer + Drop> Drop for MemLink<P> {
             peer,
             own_code: _,
             gave_text: _,
-            gave,
-            sent,
             place,
             plan,
         } = self;
         drop(peer);
-        drop(gave);
-        drop(sent);
         drop(place);
         drop(plan);
     }
@@ -60,15 +56,15 @@ impl<P: Peer + Drop> Model for MemLink<P> {
       lane = P.lane l.peer;
       own_code = l.own_code;
       gave_text = l.gave_text;
-      gave = l.gave.items;
-      sent = l.sent.items;
+      gave = P.gave l.peer;
+      sent = P.sent l.peer;
       plan = l.plan;
     } };
 }
 
 impl<P: Peer + Drop> MemLink<P> {
     /// A link to that other end. `failing` has the numbers of its calls that are to fail, from 1.
-    pub fn new(alloc: Global, peer: P, failing: Vec<u64>) -> Result<MemLink<P>, AllocError>
+    pub fn new(alloc: Global, peer: Unused<P>, failing: Vec<u64>) -> Result<MemLink<P>, AllocError>
         ensures { IfOk result (λ l. l ≡ new_link (P.turns peer) (P.lane peer) failing.items) }
     {
         let place = Place::new(alloc)?;
@@ -85,8 +81,6 @@ impl<P: Peer + Drop> MemLink<P> {
             peer,
             own_code: None,
             gave_text: false,
-            gave: Vec::new(alloc),
-            sent: Vec::new(alloc),
             place,
             plan: FaultPlan::new(failing),
         }
@@ -101,30 +95,12 @@ impl<P: Peer + Drop> MemLink<P> {
             peer,
             own_code: _,
             gave_text: _,
-            gave,
-            sent,
             mut place,
             plan,
         } = self;
-        drop(peer);
+        place.tale = peer.into_kept();
         place.faults = plan.faults();
-        place.gave = gave;
-        place.sent = sent;
         place
-    }
-
-    /// What came and was given, in order.
-    pub fn gave(&self) -> &[Sending]
-        ensures { result.now ≡ self.now.gave }
-    {
-        self.gave.as_slice()
-    }
-
-    /// What went out, in order.
-    pub fn sent(&self) -> &[Sending]
-        ensures { result.now ≡ self.now.sent }
-    {
-        self.sent.as_slice()
     }
 
     /// Whether it has given a text.
@@ -139,6 +115,22 @@ impl<P: Peer + Drop> MemLink<P> {
         ensures { result ≡ self.now.plan.faults }
     {
         self.plan.faults()
+    }
+}
+
+impl MemLink<Script> {
+    /// What came and was given, in order.
+    pub fn gave(&self) -> &[Sending]
+        ensures { result.now ≡ self.now.gave }
+    {
+        self.peer.gave()
+    }
+
+    /// What went out, in order.
+    pub fn sent(&self) -> &[Sending]
+        ensures { result.now ≡ self.now.sent }
+    {
+        self.peer.sent()
     }
 }
 
@@ -158,16 +150,13 @@ impl<P: Peer + Drop> MemLink<P> {
         }
     }
 
-    // Puts what goes out, and keeps a copy of it.
-    fn go_out(&mut self, kept: Sending, out: Sending) -> Result<(), Fault>
-        requires { out ≡ kept }
-        ensures exact { GoesOut self.old self.new kept result }
+    // Puts what goes out.
+    fn go_out(&mut self, sending: Sending) -> Result<(), Fault>
+        ensures exact { GoesOut self.old self.new sending result }
         ensures cause { FaultHasCause self.old.plan.faults self.new.plan.faults result }
     {
-        self.sent.reserve(1)?;
-        match self.peer.put(out) {
+        match self.peer.put(sending) {
             Ok(()) => {
-                self.sent.push_reserved(kept);
                 self.plan.count_call();
                 Ok(())
             }
@@ -197,7 +186,7 @@ impl<P: Peer + Drop> Link for MemLink<P> {
             self.plan.count_failed_call();
             return Err(Fault::Failed);
         }
-        match self.peer.take(&mut self.gave) {
+        match self.peer.take() {
             Ok(turn) => {
                 self.plan.count_call();
                 Ok(self.given(turn))
@@ -222,9 +211,8 @@ impl<P: Peer + Drop> Link for MemLink<P> {
             self.plan.count_failed_call();
             return Err(Fault::Failed);
         }
-        let kept = Sending::Text(Text::new(self.alloc, text)?);
-        let out = Sending::Text(Text::new(self.alloc, text)?);
-        self.go_out(kept, out)
+        let text = Text::new(self.alloc, text)?;
+        self.go_out(Sending::Text(text))
     }
 
     fn close(&mut self, code: u16) -> Result<(), Fault>
@@ -239,7 +227,7 @@ impl<P: Peer + Drop> Link for MemLink<P> {
             self.plan.count_failed_call();
             return Err(Fault::Failed);
         }
-        self.go_out(Sending::Close(code), Sending::Close(code))?;
+        self.go_out(Sending::Close(code))?;
         self.own_code = Some(code);
         Ok(())
     }

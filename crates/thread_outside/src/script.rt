@@ -1,10 +1,12 @@
 //! A script of what comes over a link.
-ghost use Rattle.std.specs.Prelude.{◌≡◌, ◌++◌, Ok, Some, OnOk, OnErr, drop, None};
+ghost use Rattle.std.specs.Prelude.{◌≡◌, ◌++◌, Some, None, OnOk, OnErr, drop};
 ghost use Rattle.std.specs.Option.{option_to_list};
-ghost use Rattle.thread_outside.specs.Peers.{TakesTurn, KeepsCopy, Puts, first_turn};
+ghost use Rattle.thread_outside.specs.Peers.{first_turn, new_script};
 
 use crate::copies::copy_of;
+use crate::kept_tale::KeptTale;
 use crate::peer::Peer;
+use crate::unused::Unused;
 use gate_outside::faults::Fault;
 use gate_outside::sending::Sending;
 use std::alloc::{AllocError, Global};
@@ -12,53 +14,84 @@ use std::collections::VecDeque;
 use std::marker::Model;
 
 /// What waits at each call of `recv`, in order. At a turn of `None` nothing waits, nor after the last
-/// turn. What goes out is heard by nobody.
+/// turn. What goes out is heard by nobody. It lists what it gave, of which it keeps copies, and what it
+/// was sent.
 pub struct Script {
     alloc: Global,
     turns: VecDeque<Option<Sending>>,
+    gave: Vec<Sending>,
+    sent: Vec<Sending>,
 }
 
 impl Drop for Script {
     fn drop(self) {
-        let Script { alloc: _, turns } = self;
+        let Script {
+            alloc: _,
+            turns,
+            gave,
+            sent,
+        } = self;
         drop(turns);
+        drop(gave);
+        drop(sent);
     }
 }
 
 impl Model for Script {
-    ghost use Rattle.std.specs.Prelude.{List};
-    ghost use Rattle.std.specs.declared.option.Option.{Option};
-    ghost use Rattle.gate_outside.specs.declared.sending.Sending.{Sending};
+    ghost use Rattle.thread_outside.specs.Peers.{ScriptState};
 
-    ghost Value = { List (Option Sending) };
+    ghost Value = { ScriptState };
 
-    ghost view = { λ s. s.turns.items };
+    ghost view = { λ s. record {
+      turns = s.turns.items;
+      gave = s.gave.items;
+      sent = s.sent.items;
+    } };
 }
 
 impl Script {
     /// A script of these turns.
-    pub fn new(alloc: Global, turns: VecDeque<Option<Sending>>) -> Script
-        ensures { result ≡ turns.items }
+    pub fn new(alloc: Global, turns: VecDeque<Option<Sending>>) -> Unused<Script>
+        ensures { result ≡ new_script turns.items }
     {
-        Script { alloc, turns }
+        Unused::new(Script {
+            alloc,
+            turns,
+            gave: Vec::new(alloc),
+            sent: Vec::new(alloc),
+        })
     }
 
-    // Adds a copy of what waits, if something does.
-    fn keep_first(&self, taken: &mut Vec<Sending>) -> Result<(), AllocError>
-        ensures ok { OnOk result (taken.new.items ≡ taken.old.items ++ option_to_list (first_turn self.now)) }
-        ensures err { OnErr result (taken.new.items ≡ taken.old.items) }
+    // What was taken, in order.
+    pub(crate) fn gave(&self) -> &[Sending]
+        ensures { result.now ≡ self.now.gave }
+    {
+        self.gave.as_slice()
+    }
+
+    // What was put, in order.
+    pub(crate) fn sent(&self) -> &[Sending]
+        ensures { result.now ≡ self.now.sent }
+    {
+        self.sent.as_slice()
+    }
+
+    // Lists a copy of what waits, if something does.
+    fn keep_first(&mut self) -> Result<(), AllocError>
+        ensures ok { OnOk result (self.new ≡ record self.old { gave = self.old.gave ++ option_to_list (first_turn self.old.turns) }) }
+        ensures err { OnErr result (self.new ≡ self.old) }
     {
         if let Some(Some(sending)) = self.turns.front() {
             let copy = copy_of(self.alloc, sending)?;
-            taken.push(copy)?;
+            self.gave.push(copy)?;
         }
         Ok(())
     }
 
     // Lets one turn go by, and gives what waited.
     fn next(&mut self) -> Option<Sending>
-        ensures turn { result ≡ first_turn self.old }
-        ensures rest { self.new ≡ drop 1 self.old }
+        ensures turn { result ≡ first_turn self.old.turns }
+        ensures rest { self.new ≡ record self.old { turns = drop 1 self.old.turns } }
     {
         match self.turns.pop_front() {
             Some(turn) => turn,
@@ -68,23 +101,31 @@ impl Script {
 }
 
 impl Peer for Script {
-    ghost turns = { λ s. Some s };
+    ghost turns = { λ s. Some s.turns };
 
     ghost lane = { λ _. None };
 
-    fn take(&mut self, taken: &mut Vec<Sending>) -> Result<Option<Sending>, Fault>
-        ensures turn { TakesTurn (Some self.old) (Some self.new) result }
-        ensures copy { KeepsCopy taken.old.items taken.new.items result }
-    {
-        self.keep_first(taken)?;
+    ghost gave = { λ s. s.gave };
+
+    ghost sent = { λ s. s.sent };
+
+    fn take(&mut self) -> Result<Option<Sending>, Fault> {
+        self.keep_first()?;
         Ok(self.next())
     }
 
-    fn put(&mut self, sending: Sending) -> Result<(), Fault>
-        ensures turn { Puts (Some self.old) (Some self.new) result }
-        ensures always { result ≡ Ok tt }
-    {
-        drop(sending);
+    fn put(&mut self, sending: Sending) -> Result<(), Fault> {
+        self.sent.push(sending)?;
         Ok(())
+    }
+
+    fn into_kept(self) -> KeptTale {
+        let Script {
+            alloc: _,
+            turns: _,
+            gave,
+            sent,
+        } = self;
+        KeptTale::of_lists(gave, sent)
     }
 }

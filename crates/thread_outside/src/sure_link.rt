@@ -8,6 +8,7 @@ ghost use Rattle.thread_outside.specs.MemLinks.{new_link, tale_of, Gives, PutsOu
 
 use crate::mem_link::MemLink;
 use crate::script::Script;
+use crate::unused::Unused;
 use gate_outside::faults::Fault;
 use gate_outside::incoming::Incoming;
 use gate_outside::links::Link;
@@ -34,8 +35,8 @@ impl Model for SureLink {
 
 impl SureLink {
     /// A link to that script.
-    pub fn new(alloc: Global, script: Script) -> Result<SureLink, AllocError>
-        ensures { IfOk result (λ l. l ≡ new_link (Some script) None []) }
+    pub fn new(alloc: Global, script: Unused<Script>) -> Result<SureLink, AllocError>
+        ensures { IfOk result (λ l. l ≡ new_link (Some script.turns) None []) }
     {
         let link = MemLink::new(alloc, script, Vec::new(alloc))?;
         Ok(SureLink { link })

@@ -3,6 +3,7 @@
 use collections::Seq;
 use edit_apply::{Edit, apply};
 use guild_model::Guild;
+use log_entry::Entry;
 use snowflake_id::Snowflake;
 use std::alloc::{AllocError, Global};
 use std::mem::replace;
@@ -14,7 +15,7 @@ pub struct Log {
     alloc: Global,
     guild: Snowflake,
     /// The edits at which the worker has not looked.
-    unseen: Vec<Edit>,
+    unseen: Vec<Entry>,
     /// The guild after all edits.
     record: Guild,
 }
@@ -42,15 +43,15 @@ impl Log {
 
     /// An edit comes to the log.
     pub fn push(&mut self, edit: Edit) -> Result<(), AllocError> {
-        let copy = edit.copy(self.alloc)?;
+        let entry = Entry::new(self.alloc, edit.copy(self.alloc)?)?;
         drop(apply(self.alloc, &mut self.record, edit)?);
-        self.unseen.push(copy)?;
+        self.unseen.push(entry)?;
         Ok(())
     }
 
     /// A look of the worker at all edits.
     pub fn look(&mut self) -> Input {
-        let edits = replace(&mut self.unseen, Vec::new(self.alloc));
-        Input::Look(self.guild, Seq::from_vec(edits))
+        let entries = replace(&mut self.unseen, Vec::new(self.alloc));
+        Input::Look(self.guild, Seq::from_vec(entries))
     }
 }

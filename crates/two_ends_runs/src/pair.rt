@@ -2,6 +2,7 @@
 
 use crate::rest::Rest;
 use anyhow::bail;
+use collections::Text;
 use gate_outside::faults::Fault;
 use gate_outside::incoming::Incoming;
 use gate_outside::links::Link;
@@ -17,8 +18,10 @@ type End<R> = MemLink<LaneEnd<R>>;
 /// Two links in memory to one another. What one was sent and the other has not given is on its way.
 #[derive(Drop)]
 pub struct Pair<R: Wait + Copy + Drop> {
+    alloc: Global,
     client: End<R>,
     worker: End<R>,
+    sent_to_client: Vec<Sending>,
 }
 
 fn received(answer: Result<Incoming, Fault>) -> anyhow::Result<Incoming> {
@@ -55,7 +58,12 @@ impl<R: Wait + Copy + Drop> Pair<R> {
     /// Two links on which nothing is on its way.
     pub fn new(rt: R, alloc: Global) -> Result<Pair<R>, AllocError> {
         let (client, worker) = MemLink::pair(rt, alloc)?;
-        Ok(Pair { client, worker })
+        Ok(Pair {
+            alloc,
+            client,
+            worker,
+            sent_to_client: Vec::new(alloc),
+        })
     }
 
     /// The client sends a text.
@@ -65,12 +73,17 @@ impl<R: Wait + Copy + Drop> Pair<R> {
 
     /// The worker sends a text.
     pub fn send_to_client(&mut self, text: &str) -> anyhow::Result<()> {
-        sent(self.worker.send(text))
+        sent(self.worker.send(text))?;
+        let kept = Text::new(self.alloc, text)?;
+        self.sent_to_client.push(Sending::Text(kept))?;
+        Ok(())
     }
 
     /// The worker closes its link.
     pub fn close_to_client(&mut self, code: u16) -> anyhow::Result<()> {
-        sent(self.worker.close(code))
+        sent(self.worker.close(code))?;
+        self.sent_to_client.push(Sending::Close(code))?;
+        Ok(())
     }
 
     /// What comes to the client next.
@@ -93,8 +106,8 @@ impl<R: Wait + Copy + Drop> Pair<R> {
         rest_of(alloc, &mut self.worker)
     }
 
-    /// What the worker was asked to send, in order.
+    /// What the worker has sent, in order.
     pub fn sent_to_client(&self) -> &[Sending] {
-        self.worker.sent()
+        self.sent_to_client.as_slice()
     }
 }

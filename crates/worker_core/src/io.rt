@@ -5,8 +5,8 @@ ghost use Rattle.worker_core.specs.Represents.{may_end_by};
 
 use crate::wished_edit::WishedEdit;
 use collections::{Duplicate, Seq, Text};
-use edit_apply::Edit;
 use guild_model::Guild;
+use log_entry::Entry;
 use payload_text::Payload;
 use session_core::{SessionFault, Spent};
 use snowflake_id::Snowflake;
@@ -16,10 +16,10 @@ use std::alloc::{AllocError, Global};
 #[derive(Drop)]
 pub enum Input {
     /// The entries of a guild's log that follow those that the worker has looked at, in order.
-    Look(Snowflake, Seq<Edit>),
+    Look(Snowflake, Seq<Entry>),
     /// A log of which the worker has missed too much: how many entries its base has, the record after
     /// these, and the entries that follow them.
-    Rebase(Snowflake, u64, Guild, Seq<Edit>),
+    Rebase(Snowflake, u64, Guild, Seq<Entry>),
     /// A client has connected; its connection has this number.
     Open(u32),
     /// A text has come on a connection.
@@ -44,25 +44,23 @@ impl Input {
     }
 }
 
-// Copies of entries.
-fn copies_of(alloc: Global, entries: &[Edit]) -> Result<Seq<Edit>, AllocError>
-    ensures { IfOk result (λ copies. copies ≡ entries.now) }
+// The same entries, with one more owner each.
+fn shared(alloc: Global, entries: &[Entry]) -> Result<Seq<Entry>, AllocError>
+    ensures { IfOk result (λ shared. shared ≡ entries.now) }
 {
-    let mut copies = Vec::with_capacity(alloc, entries.len())?;
+    let mut shared = Vec::with_capacity(alloc, entries.len())?;
     for entry in entries {
-        copies.push(entry.copy(alloc)?)?;
+        shared.push(entry.again()?)?;
     }
-    Ok(Seq::from_vec(copies))
+    Ok(Seq::from_vec(shared))
 }
 
 impl Duplicate for Input {
     fn duplicate(&self, alloc: Global) -> Result<Input, AllocError> {
         Ok(match self {
-            Input::Look(guild, entries) => {
-                Input::Look(*guild, copies_of(alloc, entries.as_slice())?)
-            }
+            Input::Look(guild, entries) => Input::Look(*guild, shared(alloc, entries.as_slice())?),
             Input::Rebase(guild, base, basis, entries) => {
-                let entries = copies_of(alloc, entries.as_slice())?;
+                let entries = shared(alloc, entries.as_slice())?;
                 Input::Rebase(*guild, *base, basis.copy(alloc)?, entries)
             }
             Input::Open(conn) => Input::Open(*conn),

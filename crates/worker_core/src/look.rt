@@ -19,6 +19,7 @@ use crate::recipients::Recipients;
 use edit_apply::{Edit, judge, make};
 use guild_model::Guild;
 use guild_replica::Replica;
+use log_entry::Entry;
 use session_core::Sessions;
 use std::alloc::{AllocError, Global};
 
@@ -78,7 +79,7 @@ fn enter(
 pub fn look(
     alloc: Global,
     replica: &mut Replica,
-    entries: &[Edit],
+    entries: &[Entry],
     recipients: &Recipients,
     sessions: &mut Sessions,
     out: &mut Vec<Output>,
@@ -90,17 +91,17 @@ pub fn look(
     ensures spent { MatchResult result (λ _. kept_spends replica.old.guild entries.now sessions.old.sessions ≡ false) (FaultBy (kept_spends replica.old.guild entries.now sessions.old.sessions)) }
 {
     for entry in entries {
-        enter(alloc, replica, entry, recipients, sessions, out)?;
+        enter(alloc, replica, entry.edit(), recipients, sessions, out)?;
     }
     Ok(())
 }
 
 /// Entries in their order, for the record alone.
-pub fn apply_each(alloc: Global, guild: &mut Guild, entries: &[Edit]) -> Result<(), AllocError>
+pub fn apply_each(alloc: Global, guild: &mut Guild, entries: &[Entry]) -> Result<(), AllocError>
     ensures { OnOk result (guild.new ≡ state_from guild.old entries.now) }
 {
     for entry in entries {
-        apply_one(alloc, guild, entry)?;
+        apply_one(alloc, guild, entry.edit())?;
     }
     Ok(())
 }

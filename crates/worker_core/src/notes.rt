@@ -85,7 +85,7 @@ impl Notes {
     {
         let count = recipients.viewers.len();
         let mut notes = Notes {
-            noted: Vec::new(alloc),
+            noted: Vec::with_capacity(alloc, recipients.users.len())?,
             whose: Vec::with_capacity(alloc, count)?,
         };
         for index in 0..count {

@@ -1,6 +1,6 @@
 //! The viewers of sessions: sessions of one viewer are due the same.
 
-ghost use Rattle.std.specs.Prelude.{◌≡◌, ◌↔◌, Some, map, slice_get, IfOk, OnOk, IsTrue};
+ghost use Rattle.std.specs.Prelude.{◌≡◌, ◌↔◌, [], Some, map, slice_get, IfOk, OnOk, IsTrue};
 ghost use Rattle.std.specs.Option.{option_copied};
 ghost use Rattle.worker_core.specs.Recipients.{AreServedAlike, Picks, IsLonger, picked_by, viewer_of};
 
@@ -97,7 +97,10 @@ fn viewers_of(alloc: Global, sessions: &Sessions) -> Result<(Vec<Viewer>, Vec<us
 
 impl Recipients {
     /// Those of no session. Does not allocate.
-    pub fn none(alloc: Global) -> Recipients {
+    pub fn none(alloc: Global) -> Recipients
+        ensures viewers { result.viewers.items ≡ [] }
+        ensures whose { result.whose.items ≡ [] }
+    {
         Recipients {
             viewers: Vec::new(alloc),
             whose: Vec::new(alloc),

@@ -40,10 +40,10 @@ use crate::tell::tell;
 use crate::wish::{wish_presence, wish_voice};
 use collections::{ById, Text};
 use dispatch_types::{Dispatch, Ready, Viewer};
-use edit_apply::Edit;
 use gateway_frames::{Ask, Out, VoiceAsk};
 use guild_model::{Guild, Status, User};
 use guild_replica::Replica;
+use log_entry::Entry;
 use member_chunks::answer;
 use payload_text::Payload;
 use session_core::{Bot, Holder, Mark, Reply, SessionFault, Sessions, Spent};
@@ -222,7 +222,7 @@ impl Worker {
         }
     }
 
-    fn look(&mut self, guild: Snowflake, entries: &[Edit]) -> Result<Vec<Output>, StepFault>
+    fn look(&mut self, guild: Snowflake, entries: &[Entry]) -> Result<Vec<Output>, StepFault>
         ensures { MatchResult result (λ out. Takes self.old (Look guild entries.now) self.new out.items) (TakesNot self.old (Look guild entries.now)) }
     {
         let Some(mut replica) = self.take_replica(guild) else {
@@ -267,7 +267,7 @@ impl Worker {
 
     /// For how many outputs of a look room is made: for none if it finds nothing, so that it does not
     /// allocate.
-    fn room_for(&self, entries: &[Edit]) -> usize
+    fn room_for(&self, entries: &[Entry]) -> usize
         ensures live { length (live self.now.machine.core) ≡ length self.now.machine.core.sessions }
     {
         let sessions = self.sessions.len();
@@ -275,7 +275,7 @@ impl Worker {
     }
 
     /// Handles the entries of a guild, for its record and for each session.
-    fn follow(&mut self, replica: &mut Replica, entries: &[Edit]) -> Result<Vec<Output>, StepFault>
+    fn follow(&mut self, replica: &mut Replica, entries: &[Entry]) -> Result<Vec<Output>, StepFault>
         ensures guild { OnOk result (replica.new.guild ≡ state_from replica.old.guild entries.now) }
         ensures core { OnOk result (self.new ≡ record self.old { machine = record self.old.machine { core = with_sessions (kept_looked replica.old.guild entries.now self.old.machine.core.sessions) self.old.machine.core } }) }
         ensures out { IfOk result (λ out. out.items ≡ all_written (kept_sends replica.old.guild entries.now self.old.machine.core.sessions)) }
@@ -302,7 +302,7 @@ impl Worker {
         &mut self,
         guild: Snowflake,
         basis: Guild,
-        entries: &[Edit],
+        entries: &[Entry],
     ) -> Result<Vec<Output>, StepFault>
         ensures { (log : List ModelEdit) → state_from basis entries.now ≡ state guild log
             → MatchResult result (λ out. Takes self.old (Rebase guild log) self.new out.items) (TakesNot self.old (Rebase guild log)) }
@@ -316,7 +316,7 @@ impl Worker {
     }
 
     /// Replaces the record of a guild by this one with entries more.
-    fn replace_record(&mut self, basis: Guild, entries: &[Edit]) -> Result<(), AllocError>
+    fn replace_record(&mut self, basis: Guild, entries: &[Entry]) -> Result<(), AllocError>
         ensures { OnOk result (self.new ≡ record self.old { machine = record self.old.machine { logs = put_id replica_id (record { guild = state_from basis entries.now }) self.old.machine.logs } }) }
     {
         let mut guild = basis;

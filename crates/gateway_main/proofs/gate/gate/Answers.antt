@@ -1,7 +1,7 @@
 use Rattle.std.proofs.Common.{◌∙◌, map, string_bytes, option_map, Some, refl, sym, ap, inl, arith}
 use Rattle.std.proofs.lemmas.List.{length-map}
 use Rattle.serve_words.specs.Words.{asked, command_of}
-use Rattle.serve_house.specs.Serving.{sink_tale, team_tale}
+use Rattle.serve_run.specs.Serving.{sink_tale, team_tale}
 use Rattle.gateway_main.specs.Gate.{outside}
 use Rattle.gateway_main.proofs.Bounds.{are_bounded}
 use Rattle.gateway_main.proofs.Commands.{out_of_memory, plays, serves, lifts}

@@ -1,7 +1,7 @@
 use Rattle.std.proofs.Common.{◌∙◌, length, None, Some, Err, ap, sym, subst}
 use Rattle.std.specs.Option.{unwrap_or}
-use Rattle.serve_ends.specs.Ends.{Joined}
-use Rattle.serve_ends.specs.Lines.{worker_lines}
+use Rattle.serve_run.specs.Ends.{Joined}
+use Rattle.serve_run.specs.Lines.{worker_lines}
 use Rattle.serve_run.specs.Causes.{AnswersBy}
 use Rattle.serve_run.specs.Ended.{MayHave}
 use Rattle.serve_run.specs.Serves.{Serves}

@@ -6,8 +6,8 @@ use Rattle.gate_outside.specs.Spawners.{Starts}
 use Rattle.serve_parts.specs.ByKind.{parts_of}
 use Rattle.serve_parts.specs.Kinds.{script_of}
 use Rattle.serve_parts.specs.Parts.{ServeGives}
-use Rattle.serve_ends.specs.Faults.{first_fault}
-use Rattle.serve_ends.specs.Sorted.{file_end}
+use Rattle.serve_run.specs.Faults.{first_fault}
+use Rattle.serve_run.specs.Sorted.{file_end}
 use Rattle.team_run.specs.Teams.{many_more}
 use Rattle.gate_ends.proofs.Counts.{none_there, some_there}
 use Rattle.serve_run.proofs.Assembled.{ends_so, shows_so}

@@ -1,7 +1,7 @@
 use Rattle.std.proofs.Common.{◌≡◌, ◌+◌, ◌∙◌, length, map, string_bytes, Ok, ap, ap₂, sym, subst}
 use Rattle.serve_stage.specs.Stages.{IsStage}
-use Rattle.serve_ends.specs.Lines.{worker_lines}
-use Rattle.serve_ends.specs.Services.{Service, ascending}
+use Rattle.serve_run.specs.Lines.{worker_lines}
+use Rattle.serve_run.specs.Services.{Service, ascending}
 use Rattle.team_run.specs.Teams.{many_more}
 use Rattle.serve_run.specs.Causes.{AnswersBy}
 use Rattle.serve_run.specs.Ended.{MayHave}

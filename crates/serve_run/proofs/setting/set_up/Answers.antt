@@ -1,7 +1,7 @@
 use Rattle.std.proofs.Common.{sym, subst}
 use Rattle.guild_places.specs.Places.{AreDistinct}
 use Rattle.serve_stage.specs.Stages.{IsStage}
-use Rattle.serve_ends.proofs.Ascending.{distinct}
+use Rattle.serve_run.proofs.Ascending.{distinct}
 use Rattle.serve_run.proofs.setting.set_up.Goals as goal
 
 pub set_stage-requires-clause-guilds : goal.set_stage-requires-clause-guilds

@@ -12,4 +12,4 @@ loop-entry-preserved c =
     let e : Edit = c.entry-item.result in
     let lt : i < length es = omega arith in
     let rest : drop i es ≡ e ∷ drop (i + 1) es = rest_dropped es i e lt (sym c.entry-item.is) in
-    ap (λ h. state_from h (drop (i + 1) es)) c.in_ok-apply_one.ensures ∙ (ap (state_from c.loop-entry.guild) (sym rest) ∙ c.loop-entry.invariant)
+    ap (λ h. state_from h (drop (i + 1) es)) (rw c.edit.ensures at c.in_ok-apply_one.ensures) ∙ (ap (state_from c.loop-entry.guild) (sym rest) ∙ c.loop-entry.invariant)

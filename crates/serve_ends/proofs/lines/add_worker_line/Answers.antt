@@ -1,4 +1,0 @@
-use Rattle.serve_ends.proofs.lines.add_worker_line.Goals as goal
-
-pub returns : goal.returns
-returns c = rw c.from.ensures at c.writeln.ensures.bytes

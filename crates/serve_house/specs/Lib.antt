@@ -1,4 +1,0 @@
-pub mod Loans
-pub mod Begun
-pub mod Serving
-pub mod Parts
