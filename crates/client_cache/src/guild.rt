@@ -164,7 +164,7 @@ fn opened_view(fold: &Fold, create: &mut GuildCreate) -> Result<Option<GuildView
     };
     let members = listed_members(fold, members)?;
     let mut view = OpenView {
-        name: replace(&mut create.name, Text::empty(alloc)),
+        name: replace(&mut create.name, Text::empty()),
         owner: create.owner,
         me,
         roles: ById::new(alloc),

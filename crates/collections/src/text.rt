@@ -1,29 +1,38 @@
 //! A text, of which a clause sees the bytes.
 
-ghost use Rattle.std.specs.Prelude.{◌≡◌, IfOk, IsUtf8, length, string_bytes, []};
+ghost use Rattle.std.specs.Prelude.{◌≡◌, IfOk, length, string_bytes, []};
 ghost use Rattle.std.specs.Str.{bytes_eq};
 
+use arrayvec::ArrayString;
 use std::alloc::{AllocError, Global};
 use std::marker::Model;
 
-/// A text, seen as its bytes in UTF-8.
+// Short texts are most of the texts of an edit, so they lie in the value itself.
+#[derive(Drop)]
+pub(crate) enum Kept {
+    Short(ArrayString<16>),
+    Long(String),
+}
+
+/// A text, seen as its bytes in UTF-8. One of up to 16 bytes needs no memory of its own.
 pub struct Text {
-    inner: String,
+    kept: Kept,
 }
 
 impl Drop for Text {
     fn drop(self) {
-        let Text { inner } = self;
-        drop(inner);
+        let Text { kept } = self;
+        drop(kept);
     }
 }
 
 impl Model for Text {
-    ghost use Rattle.std.specs.Prelude.{List, ℕ, string_bytes};
+    ghost use Rattle.std.specs.Prelude.{List, ℕ};
+    ghost use Rattle.collections.specs.Texts.{bytes_of};
 
     ghost Value = { List ℕ };
 
-    ghost view = { λ t. string_bytes t.inner };
+    ghost view = { λ t. bytes_of t.kept };
 }
 
 impl Text {
@@ -31,53 +40,58 @@ impl Text {
     pub fn new(alloc: Global, text: &str) -> Result<Text, AllocError>
         ensures { IfOk result (λ t. t ≡ text.now) }
     {
-        let inner = String::from_str(alloc, text)?;
-        Ok(Text { inner })
+        if let Ok(short) = ArrayString::from(text) {
+            return Ok(Text {
+                kept: Kept::Short(short),
+            });
+        }
+        let long = String::from_str(alloc, text)?;
+        Ok(Text::from_string(long))
     }
 
     /// The text without bytes, which does not allocate.
-    pub fn empty(alloc: Global) -> Text
+    pub fn empty() -> Text
         ensures { result ≡ [] }
     {
         Text {
-            inner: String::new(alloc),
+            kept: Kept::Short(ArrayString::new()),
         }
     }
 
     /// The text of a string, which is moved.
-    pub fn from_string(inner: String) -> Text
-        ensures { result ≡ string_bytes inner }
+    pub fn from_string(text: String) -> Text
+        ensures { result ≡ string_bytes text }
     {
-        Text { inner }
-    }
-
-    /// The string of a text, which is moved.
-    pub fn into_string(self) -> String
-        ensures { string_bytes result ≡ self }
-    {
-        let Text { inner } = self;
-        inner
+        Text {
+            kept: Kept::Long(text),
+        }
     }
 
     /// The text.
     pub fn as_str(&self) -> &str
         ensures { result.now ≡ self.now }
     {
-        self.inner.as_str()
+        match &self.kept {
+            Kept::Short(text) => text.as_str(),
+            Kept::Long(text) => text.as_str(),
+        }
     }
 
     /// Removes all bytes. It does not allocate.
     pub fn clear(&mut self)
         ensures { self.new ≡ [] }
     {
-        self.inner.clear();
+        match &mut self.kept {
+            Kept::Short(text) => text.clear(),
+            Kept::Long(text) => text.clear(),
+        }
     }
 
     /// How many bytes there are.
     pub fn len(&self) -> usize
         ensures { result ≡ length self.now }
     {
-        self.inner.len()
+        self.as_str().len()
     }
 
     /// A copy of the text.

@@ -1,5 +1,5 @@
 //! The queue of a post, under the rule that each sender's requests are taken in its order.
-ghost use Rattle.std.specs.Prelude.{◌≡◌, ◌++◌, ◌+◌, ◌/◌, ◌<◌, true, false, length, MatchOption, MatchResult, IfOk, IfErr, List};
+ghost use Rattle.std.specs.Prelude.{◌≡◌, ◌++◌, ◌+◌, ◌^◌, ◌/◌, ◌<◌, true, false, length, MatchOption, MatchResult, IfOk, IfErr, List};
 ghost use Rattle.crossbeam_queue.specs.declared.seg_queue.Stage.TheVariants.{SawHead};
 ghost use Rattle.crossbeam_queue.specs.SegTies.{IsSegPassOf};
 ghost use Rattle.edit_post.specs.Requests.{requests_of};
@@ -169,7 +169,7 @@ fn try_take<R: Wait>(
     head: u64,
 ) -> Result<Option<Request>, u64>
     requires queue { IsSegPassOf queue.now pass.old }
-    requires head { (pass.old.me.view.stage ≡ SawHead) × (pass.old.me.view.at ≡ head / 2) × (head < 9223372036854775810) }
+    requires head { (pass.old.me.view.stage ≡ SawHead) × (pass.old.me.view.at ≡ head / 2) × (head < 2 ^ 63 + 2) }
     requires taker { pass.old.me.view.client.takes ≡ true }
     ensures queue { IsSegPassOf queue.now pass.new }
     ensures taken { IfOk result (λ found. MatchOption found
@@ -177,7 +177,7 @@ fn try_take<R: Wait>(
         (λ r. (pass.new.me.view.client ≡ took pass.old.me.view.client r) × (r.sender < pass.old.me.view.client.made)
         × (r.number ≡ length (requests_of r.sender pass.old.me.view.client.taken) + 1))) }
     ensures again { IfErr result (λ next. (pass.new.me.view.client ≡ pass.old.me.view.client)
-        × (pass.new.me.view.stage ≡ SawHead) × (pass.new.me.view.at ≡ next / 2) × (next < 9223372036854775810)) }
+        × (pass.new.me.view.stage ≡ SawHead) × (pass.new.me.view.at ≡ next / 2) × (next < 2 ^ 63 + 2)) }
 {
     queue.try_pop_from::<Takes, R>(rt, pass, head)
 }

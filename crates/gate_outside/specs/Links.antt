@@ -1,5 +1,5 @@
 -- What links tell, and what their calls make of it.
-use Rattle.std.specs.Prelude.{◌≡◌, ℕ, List, [], ◌∷◌, Bool, true, false, Result, Ok, Err, ⊤, OnErr, string_bytes}
+use Rattle.std.specs.Prelude.{◌≡◌, ℕ, List, [], ◌∷◌, Bool, true, false, Result, Ok, Err, ⊤, OnErr}
 use Rattle.std.specs.declared.option.Option.{Option}
 use Rattle.std.specs.declared.option.Option.TheVariants.{Some, None}
 use Rattle.gate_outside.specs.declared.faults.Fault.{Fault}
@@ -42,7 +42,7 @@ pub record IsNewLink (tale : LinkTale) (faults : ℕ) : Type 0 where
 
 -- the text or the close code that an answer gives
 abbrev pub given_by : Result Incoming Fault → Option Sending
-given_by (Ok (incoming.Text text)) = Some (sending.Text (string_bytes text))
+given_by (Ok (incoming.Text text)) = Some (sending.Text text)
 given_by (Ok (incoming.Closed code)) = Some (sending.Close code)
 given_by (Ok incoming.NotYet) = None
 given_by (Err fault) = None

@@ -8,9 +8,8 @@ ghost use Rattle.guild_hub.specs.Rules.{FindsEntries};
 use crate::note::Note;
 use crate::shown::Shown;
 use guild_model::Guild;
-use log_entry::Entry;
+use log_entry::{Entry, shared_from};
 use std::alloc::{AllocError, Global};
-use std::collections::VecDeque;
 
 /// The log at the step of a look, and the entries after the cursor, if they are all still kept.
 #[derive(Drop)]
@@ -26,22 +25,6 @@ pub struct Basis {
     pub note: Note,
     pub basis: Guild,
     pub entries: Vec<Entry>,
-}
-
-// The entries from a place on, shared.
-fn shared_from(
-    alloc: Global,
-    entries: &VecDeque<Entry>,
-    from: usize,
-) -> Result<Vec<Entry>, AllocError>
-    requires { from ≤ length entries.now.items }
-    ensures { IfOk result (λ v. v.items ≡ drop from entries.now.items) }
-{
-    let mut shared = Vec::new(alloc);
-    for place in from..entries.len() {
-        shared.push(entries[place].again()?)?;
-    }
-    Ok(shared)
 }
 
 // The note of what is shown. A log that is shown is never behind what was told of it, so the error is

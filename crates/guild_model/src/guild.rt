@@ -116,7 +116,7 @@ impl Guild {
             opened: false,
             outage: false,
             private: false,
-            name: Text::empty(alloc),
+            name: Text::empty(),
             owner: Snowflake(0),
             roles: ById::new(alloc),
             members: ById::new(alloc),

@@ -1,6 +1,9 @@
 //! A JSON value that borrows from the text that it stands in.
 
 ghost use Rattle.std.specs.Prelude.{◌≡◌, is_some, option_map};
+ghost use Rattle.std.specs.Str.{bytes_eq};
+ghost use Rattle.json.specs.Find.{get as json_get, get_member};
+ghost use Rattle.json.specs.Value.{value_view, members_view};
 ghost use Rattle.serde_json.specs.Find.{as_array, as_object};
 ghost use Rattle.json_view.specs.Nodes.{items_view, view};
 
@@ -25,13 +28,45 @@ pub fn list_of<'a, 't>(value: &'a Value<'t>) -> Option<&'a [Value<'t>]>
     }
 }
 
+// Whether a key is that name. Most keys differ from it in their lengths, and to compare bytes is a call.
+fn is_named(key: &str, name: &str) -> bool
+    ensures { result ≡ bytes_eq key.now name.now }
+{
+    key.len() == name.len() && key == name
+}
+
+// The value of the last member of that name.
+fn last_named<'v, 't>(members: &'v [(&'t str, Value<'t>)], name: &str) -> Option<&'v Value<'t>>
+    ensures { option_map (λ v. value_view v.now) result ≡ get_member name.now (members_view members.now) }
+{
+    let mut left = members.len();
+    while left > 0 {
+        left -= 1;
+        let member = &members[left];
+        if is_named(member.0, name) {
+            return Some(&member.1);
+        }
+    }
+    None
+}
+
+// The value of the last member of that name, where the value is an object.
+fn get<'v, 't>(value: &'v Value<'t>, name: &str) -> Option<&'v Value<'t>>
+    ensures { option_map (λ v. value_view v.now) result ≡ json_get name.now (value_view value.now) }
+{
+    match value {
+        Value::Object(members) => last_named(members.as_slice(), name),
+        _ => None,
+    }
+}
+
 impl<'t> JsonValue for Value<'t> {
     ghost use Rattle.json_view.specs.Nodes.{view};
 
     ghost meaning = { view };
 
     fn member(&self, name: &str) -> Option<&Value<'t>> {
-        self.get(name)
+        get(self, name)
     }
 
     fn is_null(&self) -> bool {

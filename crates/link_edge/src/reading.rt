@@ -1,6 +1,7 @@
 //! What a socket gives.
 
 use crate::handshake::Socket;
+use collections::text::Text;
 use gate_outside::faults::Fault;
 use gate_outside::incoming::Incoming;
 use std::alloc::Global;
@@ -20,7 +21,7 @@ const NO_CODE: u16 = 1005;
 
 // A copy of a text. Its message is gone, so out of memory is a failure.
 fn text_of(alloc: Global, text: &str) -> Result<Incoming, Fault> {
-    match String::from_str(alloc, text) {
+    match Text::new(alloc, text) {
         Ok(copy) => Ok(Incoming::Text(copy)),
         Err(_) => Err(Fault::Failed),
     }

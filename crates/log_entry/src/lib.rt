@@ -2,5 +2,7 @@
 #![tactic(auto)]
 
 mod entry;
+mod sharing;
 
 pub use entry::Entry;
+pub use sharing::{shared, shared_from};

@@ -62,7 +62,7 @@ fn content(alloc: Global, with_content: bool, body: &MessageBody) -> Result<Text
     if with_content {
         body.content.copy(alloc)
     } else {
-        Ok(Text::empty(alloc))
+        Ok(Text::empty())
     }
 }
 

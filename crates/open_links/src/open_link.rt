@@ -45,7 +45,7 @@ impl<L: Link + Drop> OpenLink<L> {
             return Ok(Word::Lost);
         }
         match self.wire.recv() {
-            Ok(Incoming::Text(text)) => Ok(Word::Text(Text::from_string(text))),
+            Ok(Incoming::Text(text)) => Ok(Word::Text(text)),
             Ok(Incoming::Closed(code)) => {
                 self.done = true;
                 Ok(Word::Closed(code))

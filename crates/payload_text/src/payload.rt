@@ -74,7 +74,7 @@ impl Payload {
         let len = text.len();
         let parts = Parts {
             head: text,
-            tail: Text::empty(alloc),
+            tail: Text::empty(),
         };
         Ok(Payload {
             parts: Arc::new(alloc, parts)?,

@@ -9,7 +9,7 @@ ghost use Rattle.scenario.specs.Represents.{log_with, over, counted_in, added};
 use collections::Seq;
 use edit_apply::{Edit, judge, make};
 use guild_model::{Guild, Verdict};
-use log_entry::Entry;
+use log_entry::{Entry, shared_from};
 use snowflake_id::Snowflake;
 use std::alloc::{AllocError, Global};
 use std::collections::VecDeque;
@@ -115,11 +115,7 @@ impl Latest {
     fn shared_from(&self, alloc: Global, from: usize) -> Result<Seq<Entry>, AllocError>
         ensures { IfOk result (λ shared. shared ≡ drop from self.now) }
     {
-        let entries = &self.entries;
-        let mut shared = Vec::new(alloc);
-        for place in from..entries.len() {
-            shared.push(entries[place].again()?)?;
-        }
+        let shared = shared_from(alloc, &self.entries, from)?;
         Ok(Seq::from_vec(shared))
     }
 }

@@ -1,6 +1,6 @@
 //! The ids of sessions (Gateway Events, Ready).
 
-ghost use Rattle.std.specs.Prelude.{◌≡◌, ◌++◌, ◌<◌, ◌^◌, ℕ, Some, decimal, codes, IfOk, IfSome};
+ghost use Rattle.std.specs.Prelude.{◌≡◌, ◌++◌, ◌<◌, ◌^◌, ℕ, Some, decimal, codes, string_bytes, IfOk, IfSome};
 ghost use Rattle.session_core.specs.Resume.{session_id};
 
 use collections::Text;
@@ -9,22 +9,22 @@ use snowflake_id::Snowflake;
 use std::alloc::{AllocError, Global};
 
 /// What the ids of a worker's sessions begin with.
-fn front(alloc: Global, worker: u8) -> Result<Text, AllocError>
-    ensures { IfOk result (λ front. front ≡ codes "w" ++ (decimal worker ++ codes "s")) }
+fn front(alloc: Global, worker: u8) -> Result<String, AllocError>
+    ensures { IfOk result (λ front. string_bytes front ≡ codes "w" ++ (decimal worker ++ codes "s")) }
 {
     let mut text = String::new(alloc);
     let mut buffer = Buffer::new();
     text.push_str("w")?;
     text.push_str(buffer.format(worker))?;
     text.push_str("s")?;
-    Ok(Text::from_string(text))
+    Ok(text)
 }
 
 /// The id of a session: of its worker, and of its number there.
 pub fn session_id(alloc: Global, worker: u8, number: u32) -> Result<Text, AllocError>
     ensures { IfOk result (λ id. id ≡ session_id worker number) }
 {
-    let mut text = front(alloc, worker)?.into_string();
+    let mut text = front(alloc, worker)?;
     let mut buffer = Buffer::new();
     text.push_str(buffer.format(number))?;
     Ok(Text::from_string(text))

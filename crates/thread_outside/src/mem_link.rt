@@ -143,7 +143,7 @@ impl<P: Peer + Drop> MemLink<P> {
         match turn {
             Some(Sending::Text(text)) => {
                 self.gave_text = true;
-                Incoming::Text(text.into_string())
+                Incoming::Text(text)
             }
             Some(Sending::Close(code)) => Incoming::Closed(code),
             None => Incoming::NotYet,

@@ -14,7 +14,7 @@ use worker_core::Input;
 pub struct Log {
     alloc: Global,
     guild: Snowflake,
-    /// The edits at which the worker has not looked.
+    /// The entries at which the worker has not looked.
     unseen: Vec<Entry>,
     /// The guild after all edits.
     record: Guild,
@@ -49,7 +49,7 @@ impl Log {
         Ok(())
     }
 
-    /// A look of the worker at all edits.
+    /// A look of the worker at all entries at which it has not looked.
     pub fn look(&mut self) -> Input {
         let entries = replace(&mut self.unseen, Vec::new(self.alloc));
         Input::Look(self.guild, Seq::from_vec(entries))

@@ -91,7 +91,7 @@ impl<R: Wait + Copy + Drop> TwoEnds<R> {
     pub fn give_worker(&mut self) -> anyhow::Result<bool> {
         match self.connection.next_to_worker()? {
             Incoming::Text(text) => {
-                self.hear(Text::from_string(text))?;
+                self.hear(text)?;
                 Ok(true)
             }
             Incoming::Closed(_) => Ok(false),

@@ -47,12 +47,12 @@ fn text(alloc: Global, given: &str) -> Result<String, AllocError> {
     let name = Text::new(alloc, given)?;
     let is_same = name.is(given);
     let bytes = name.len();
-    let copy = name.copy(alloc)?.into_string();
+    let copy = name.copy(alloc)?;
     let mut lengths: Seq<usize> = Seq::new(alloc);
     lengths.push(bytes)?;
     lengths.push(bytes)?;
     let count = lengths.copy(alloc)?.into_vec().len();
-    format!(in alloc; "{copy}, {bytes} bytes, the same: {is_same}, a list of {count}")
+    format!(in alloc; "{}, {bytes} bytes, the same: {is_same}, a list of {count}", copy.as_str())
 }
 
 // A head and a tail, with two numbers between them.

@@ -6,7 +6,7 @@ ghost use Rattle.worker_core.specs.Represents.{may_end_by};
 use crate::wished_edit::WishedEdit;
 use collections::{Duplicate, Seq, Text};
 use guild_model::Guild;
-use log_entry::Entry;
+use log_entry::{Entry, shared};
 use payload_text::Payload;
 use session_core::{SessionFault, Spent};
 use snowflake_id::Snowflake;
@@ -44,23 +44,16 @@ impl Input {
     }
 }
 
-// The same entries, with one more owner each.
-fn shared(alloc: Global, entries: &[Entry]) -> Result<Seq<Entry>, AllocError>
-    ensures { IfOk result (λ shared. shared ≡ entries.now) }
-{
-    let mut shared = Vec::with_capacity(alloc, entries.len())?;
-    for entry in entries {
-        shared.push(entry.again()?)?;
-    }
-    Ok(Seq::from_vec(shared))
-}
-
 impl Duplicate for Input {
     fn duplicate(&self, alloc: Global) -> Result<Input, AllocError> {
         Ok(match self {
-            Input::Look(guild, entries) => Input::Look(*guild, shared(alloc, entries.as_slice())?),
+            Input::Look(guild, entries) => {
+                let entries = shared(alloc, entries.as_slice())?;
+                Input::Look(*guild, Seq::from_vec(entries))
+            }
             Input::Rebase(guild, base, basis, entries) => {
                 let entries = shared(alloc, entries.as_slice())?;
+                let entries = Seq::from_vec(entries);
                 Input::Rebase(*guild, *base, basis.copy(alloc)?, entries)
             }
             Input::Open(conn) => Input::Open(*conn),

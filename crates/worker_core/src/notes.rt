@@ -85,6 +85,7 @@ impl Notes {
     {
         let count = recipients.viewers.len();
         let mut notes = Notes {
+            // Most users have one shard, so one note; for more the list grows.
             noted: Vec::with_capacity(alloc, recipients.users.len())?,
             whose: Vec::with_capacity(alloc, count)?,
         };
