@@ -52,7 +52,10 @@ fn text(alloc: Global, given: &str) -> Result<String, AllocError> {
     lengths.push(bytes)?;
     lengths.push(bytes)?;
     let count = lengths.copy(alloc)?.into_vec().len();
-    format!(in alloc; "{}, {bytes} bytes, the same: {is_same}, a list of {count}", copy.as_str())
+    format!(in alloc;
+        "{}, {bytes} bytes, the same: {is_same}, a list of {count}",
+        copy.as_str()
+    )
 }
 
 // A head and a tail, with two numbers between them.

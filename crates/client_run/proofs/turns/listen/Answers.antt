@@ -13,7 +13,7 @@ returns-in-Ok-Text-clause-moves g c before may m =
     let x = c.in-Ok-Text.field-0 in
     c.hear.ensures.moves before may
     (hears_text before c.args.wire.now c.recv.new.self m c.recv.result c.recv.ensures.tale c.recv.ensures.cause x text c.in-Ok-Text.is
-    (ap (λ (y : Incoming). given_by (Ok y)) c.in-Ok-Text.field-0-is ∙ ap (λ (b : List ℕ). Some (sending.Text b)) (sym c.as_str.ensures.value)))
+    (ap (λ (y : Incoming). given_by (Ok y)) c.in-Ok-Text.field-0-is ∙ ap (λ (b : List ℕ). Some (sending.Text b)) (sym c.as_str.ensures)))
 
 pub returns-in-Ok-Closed-clause-moves : goal.returns-in-Ok-Closed-clause-moves
 returns-in-Ok-Closed-clause-moves g c before may m =
