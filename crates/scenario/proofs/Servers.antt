@@ -21,10 +21,11 @@ use Rattle.world_law.specs.World.{first_world}
 use Rattle.worker_core.specs.declared.io.StepFault.{StepFault}
 use Rattle.worker_core.specs.declared.io.Output.{Output as Written}
 use Rattle.scenario.specs.declared.guild_log.GuildLog.{GuildLog}
+use Rattle.session_core.specs.declared.bot.Bot.{Bot as KnownBot}
 use Rattle.scenario.specs.declared.opened.Opened.{Opened}
 use Rattle.scenario.specs.declared.worker_slot.WorkerSlot.{WorkerSlot}
 use Rattle.scenario.specs.declared.server.Server.{Server as KeptServer}
-use Rattle.scenario.specs.Server.{Server, first_workers, world, given, for_worker, step_of, with_step, with_line, noted, opened_id, log, step_sends, step_spends}
+use Rattle.scenario.specs.Server.{Server, has_token, first_workers, world, given, for_worker, step_of, with_step, with_line, noted, opened_id, log, step_sends, step_spends}
 use Rattle.scenario.specs.Represents.{log_with, added, SlotsRepresent, guilds_of, HasSlotsOnceStepped, IsFull, Keeps, Represents, all_moved, all_sends, any_spends, SlotsStep, SlotsFail, Plays, PlaysNot, Gives}
 use Rattle.scenario.proofs.Latest.{log_more}
 use Rattle.scenario.proofs.Slots.{by_result}
@@ -313,6 +314,27 @@ no_items (x ∷ xs) e = absurd (omega (arith, e))
 -- before the first step each log is empty
 fresh_log : (p : Server) (g : ℕ) → length p.steps ≡ 0 → log p g ≡ []
 fresh_log p g e = ap (λ (ss : List Step). (run wire_text (first_world p.bots p.guilds first_workers) ss).logs g) (no_items p.steps e)
+
+pub bot_plays : (old new : KeptServer) (p : Server) (b : KnownBot) (v : ℕ) (out : List Written) → Represents old p → old.slots.items ≡ [] → has_token b.token old.bots ≡ false
+    → new.bots ≡ old.bots ++ b ∷ [] → new.guilds ≡ old.guilds → new.used ≡ old.used → new.logs ≡ old.logs → new.slots.items ≡ old.slots.items
+    → out ≡ [] → Plays p (line.Bot b.token b.user b.name b.privileged v b.ring_items b.ring_bytes) new out
+bot_plays old new p b v out stands empty unknown bots guilds used logs slots none =
+    let fresh : length p.steps ≡ 0 = subst (λ ks. HasSlotsOnceStepped ks p) empty stands.slots in
+    let lacks : has_token b.token p.bots ≡ false = ap (has_token b.token) (sym stands.keeps.bots) ∙ unknown in
+    let q : Server = record p { bots = p.bots ++ b ∷ [] } in
+    plays_nothing p q (line.Bot b.token b.user b.name b.privileged v b.ring_items b.ring_bytes) new out refl
+    (ap (λ n. if n == 0 then (if has_token b.token p.bots then p else q) else p) fresh ∙ ap (λ t. if t then p else q) lacks)
+    (record {
+      keeps = record {
+        bots = bots ∙ ap (λ bs. bs ++ b ∷ []) stands.keeps.bots;
+        guilds = guilds ∙ stands.keeps.guilds;
+        used = used ∙ stands.keeps.used;
+        logs = λ h. ap (λ ls. get nat_eq ls h) logs ∙ stands.keeps.logs h
+            ∙ ap (λ es. if contains h p.guilds then Some (log_with h es) else None) (fresh_log p h fresh ∙ sym (fresh_log q h fresh));
+      };
+      slots = subst (λ ks. HasSlotsOnceStepped ks q) (sym (slots ∙ empty)) fresh;
+    })
+    none
 
 pub guild_plays : (old new : KeptServer) (p : Server) (g : ℕ) (out : List Written) → Represents old p → old.slots.items ≡ [] → get nat_eq old.logs g ≡ None
     → new.bots ≡ old.bots → new.guilds ≡ old.guilds ++ g ∷ [] → new.used ≡ old.used
