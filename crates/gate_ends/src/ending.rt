@@ -75,9 +75,9 @@ impl WorkerEnd {
     ghost use Rattle.std.specs.Prelude.{◌≡◌, IfOk};
     ghost use Rattle.gate_ends.specs.Done.{HasServed, worker_end};
 
-    /// A worker whose part has ended, and what goes back to the house: its door and its clock.
-    pub fn of<D, C, J: Drop>(done: WorkerDone<D, C, J>) -> (Self, D, C)
-        ensures { (result.0 ≡ worker_end done) × (result.1 ≡ done.door) × (result.2 ≡ done.clock) }
+    /// A worker whose part has ended, what goes back to the house, its door and its clock, and its notes.
+    pub fn of<D, C, J>(done: WorkerDone<D, C, J>) -> (Self, D, C, J)
+        ensures { (result.0 ≡ worker_end done) × (result.1 ≡ done.door) × (result.2 ≡ done.clock) × (result.3 ≡ done.notes) }
     {
         let WorkerDone {
             ending,
@@ -88,14 +88,13 @@ impl WorkerEnd {
             notes,
             seat,
         } = done;
-        drop(notes);
         drop(seat);
         let end = WorkerEnd {
             ending,
             readers,
             passes,
         };
-        (end, door, clock)
+        (end, door, clock, notes)
     }
 
     /// The readers and the passes of a worker that has served.

@@ -1,5 +1,5 @@
 -- A copy of a guild, and the masks that are kept with it.
-use Rattle.std.specs.Prelude.{◌≡◌, Bool, true, false, List, [], ◌∷◌, Option, IfSome}
+use Rattle.std.specs.Prelude.{◌≡◌, ◌&&◌, ℕ, Bool, true, false, List, [], ◌∷◌, Option, Some, None}
 use Rattle.collections.specs.ById.{has_id}
 use Rattle.guild_model.specs.Record.{Record, member_id}
 use Rattle.role_member_edit.specs.declared.RoleMemberEdit.TheVariants.{RoleCreate}
@@ -7,21 +7,28 @@ use Rattle.edit_apply.specs.declared.Edit.{Edit}
 use Rattle.edit_apply.specs.declared.Edit.TheVariants.{RoleMember}
 use Rattle.mask_cache.specs.Masks.{UserMasks, MasksOf}
 
--- what a copy means: the record, whatever masks are kept
+-- what a copy means: the record, and the users whose masks are kept where they are members
 pub record GuildCopy : Type 0 where
   pub guild : Record
+  pub users : List ℕ
 
 -- ---- internal: cited by private functions only
 
--- masks of a user who is a member of the guild, which is open
-pub record AreServed (s : Record) (m : UserMasks) : Type 0 where
-  pub masks : MasksOf s m.user m
-  pub member : has_id member_id m.user s.members ≡ true
-  pub opened : s.opened ≡ true
+-- the guild is open, and the user is a member of it
+abbrev pub is_served : Record → ℕ → Bool
+is_served s user = s.opened && has_id member_id user s.members
 
-abbrev pub EachServed : Record → List (Option UserMasks) → Type 0
-EachServed s [] = Unit {0}
-EachServed s (one ∷ more) = IfSome one (AreServed s) × EachServed s more
+-- what is kept for a user are its masks if it is served, and nothing if it is not
+abbrev pub AreKept : Record → ℕ → Option UserMasks → Type 0
+AreKept s user None = is_served s user ≡ false
+AreKept s user (Some m) = (is_served s user ≡ true) × MasksOf s user m
+
+-- the same of each of these users, by its index
+abbrev pub EachKept : Record → List ℕ → List (Option UserMasks) → Type 0
+EachKept s [] [] = Unit {0}
+EachKept s [] (one ∷ more) = ⊥
+EachKept s (user ∷ users) [] = ⊥
+EachKept s (user ∷ users) (one ∷ more) = AreKept s user one × EachKept s users more
 
 abbrev pub creates_role : Edit → Bool
 creates_role (RoleMember (RoleCreate body)) = true

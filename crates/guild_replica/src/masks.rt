@@ -1,15 +1,14 @@
 //! The masks of users in a guild, those who are members of it.
 
-ghost use Rattle.std.specs.Prelude.{◌≡◌, ◌&&◌, ◌<◌, true, slice_get, IfOk, IfSome};
+ghost use Rattle.std.specs.Prelude.{◌≡◌, ◌==◌, ◌<◌, true, position, slice_get, IfOk};
 ghost use Rattle.std.specs.Option.{option_copied};
-ghost use Rattle.collections.specs.ById.{has_id};
-ghost use Rattle.guild_model.specs.Record.{Record, member_id};
+ghost use Rattle.guild_model.specs.Record.{Record};
 ghost use Rattle.edit_apply.specs.Edits.{accepts, applied};
 ghost use Rattle.mask_cache.specs.Masks.{MasksOf};
 ghost use Rattle.mask_cache.specs.Law.{Follows};
-ghost use Rattle.guild_replica.specs.Replicas.{AreServed, EachServed, creates_role};
+ghost use Rattle.guild_replica.specs.Replicas.{AreKept, EachKept, creates_role, is_served};
 
-use edit_apply::{Edit, GuildEdit, RoleMemberEdit};
+use edit_apply::{Edit, RoleMemberEdit};
 use guild_model::Guild;
 use mask_cache::Masks;
 use snowflake_id::Snowflake;
@@ -19,13 +18,13 @@ use std::sync::ledger::{Blank, Ledger};
 use step_count::Steps;
 
 fn is_served(guild: &Guild, user: Snowflake) -> bool
-    ensures { result ≡ (guild.now.opened && has_id member_id user guild.now.members) }
+    ensures { result ≡ is_served guild.now user }
 {
     guild.opened && guild.member(user).is_some()
 }
 
 fn masks_for(alloc: Global, guild: &Guild, user: Snowflake) -> Result<Option<Masks>, AllocError>
-    ensures { IfOk result (λ masks. IfSome masks (AreServed guild.now)) }
+    ensures { IfOk result (AreKept guild.now user) }
 {
     if !is_served(guild, user) {
         return Ok(None);
@@ -40,13 +39,20 @@ pub(crate) fn masks_of_each(
     guild: &Guild,
     users: &[Snowflake],
 ) -> Result<Vec<Option<Masks>>, AllocError>
-    ensures { IfOk result (λ masks. EachServed guild.now masks.items) }
+    ensures { IfOk result (λ masks. EachKept guild.now users.now masks.items) }
 {
     let mut masks = Vec::with_capacity(alloc, users.len())?;
     for user in users {
         masks.push(masks_for(alloc, guild, *user)?)?;
     }
     Ok(masks)
+}
+
+/// The index of a user among these.
+pub(crate) fn index_of(users: &[Snowflake], user: Snowflake) -> Option<usize>
+    ensures { result ≡ position (λ one. one == user) users.now }
+{
+    users.iter().position(|one| *one == user)
 }
 
 /// What stands in a list of masks under an index.
@@ -62,29 +68,6 @@ fn creates_role(edit: &Edit) -> bool
     match edit {
         Edit::RoleMember(RoleMemberEdit::RoleCreate(_)) => true,
         _ => false,
-    }
-}
-
-// Whether an edit may make a user a member, of a guild that is open.
-fn may_join(edit: &Edit) -> bool {
-    matches!(
-        edit,
-        Edit::RoleMember(RoleMemberEdit::MemberAdd(_)) | Edit::Guild(GuildEdit::GuildOpen { .. })
-    )
-}
-
-// The masks of a user who was not served before an edit, if it is served after it.
-fn first_masks(
-    alloc: Global,
-    user: Option<Snowflake>,
-    guild: &Guild,
-    edit: &Edit,
-) -> Result<Option<Masks>, AllocError>
-    ensures { IfOk result (λ masks. IfSome masks (AreServed guild.now)) }
-{
-    match user {
-        Some(user) if may_join(edit) => masks_for(alloc, guild, user),
-        _ => Ok(None),
     }
 }
 
@@ -111,28 +94,23 @@ fn mended<L: Ledger>(
 fn masks_then(
     alloc: Global,
     masks: Option<Masks>,
-    user: Option<Snowflake>,
+    user: Snowflake,
     guild: &Guild,
     edit: &Edit,
 ) -> Result<Option<Masks>, AllocError>
     requires { (before : Record) × (accepts before edit.now ≡ true)
-        × (guild.now ≡ applied before edit.now) × IfSome masks (AreServed before) }
-    ensures { IfOk result (λ masks. IfSome masks (AreServed guild.now)) }
+        × (guild.now ≡ applied before edit.now) × AreKept before user masks }
+    ensures { IfOk result (AreKept guild.now user) }
 {
     let Some(masks) = masks else {
-        return first_masks(alloc, user, guild, edit);
+        return masks_for(alloc, guild, user);
     };
-    let user = masks.user();
     // A role that is created changes no mask, which rests on what all members hold; so it is worked out anew.
     if creates_role(edit) || !is_served(guild, user) {
         return masks_for(alloc, guild, user);
     }
     let masks = mended::<Brand>(masks, guild, edit, Blank::new(1))?;
     Ok(Some(masks))
-}
-
-fn user_at(users: &[Snowflake], index: usize) -> Option<Snowflake> {
-    users.get(index).copied()
 }
 
 fn mend_each(
@@ -143,12 +121,12 @@ fn mend_each(
     edit: &Edit,
 ) -> Result<Vec<Option<Masks>>, AllocError>
     requires { (before : Record) × (accepts before edit.now ≡ true)
-        × (guild.now ≡ applied before edit.now) × EachServed before masks.items }
-    ensures { IfOk result (λ masks. EachServed guild.now masks.items) }
+        × (guild.now ≡ applied before edit.now) × EachKept before users.now masks.items }
+    ensures { IfOk result (λ masks. EachKept guild.now users.now masks.items) }
 {
     let mut then = Vec::with_capacity(alloc, masks.len())?;
     for one in masks {
-        let user = user_at(users, then.len());
+        let user = users[then.len()];
         then.push(masks_then(alloc, one, user, guild, edit)?)?;
     }
     Ok(then)
@@ -163,8 +141,8 @@ pub(crate) fn masks_after(
     edit: &Edit,
 ) -> Result<Vec<Option<Masks>>, AllocError>
     requires { (before : Record) × (accepts before edit.now ≡ true)
-        × (guild.now ≡ applied before edit.now) × EachServed before masks.items }
-    ensures { IfOk result (λ masks. EachServed guild.now masks.items) }
+        × (guild.now ≡ applied before edit.now) × EachKept before users.now masks.items }
+    ensures { IfOk result (λ masks. EachKept guild.now users.now masks.items) }
 {
     match edit {
         Edit::Message(_) => Ok(masks),

@@ -1,7 +1,9 @@
 //! A worker's copy of a guild.
 
-ghost use Rattle.std.specs.Prelude.{◌≡◌, true, IfOk, OnOk, IfSome};
-ghost use Rattle.guild_model.specs.Record.{Record};
+ghost use Rattle.std.specs.Prelude.{◌≡◌, ◌&&◌, [], true, is_some, IfOk, IfSome, OnErr, OnOk};
+ghost use Rattle.collections.specs.ById.{has_id};
+ghost use Rattle.guild_model.specs.Record.{Record, member_id};
+ghost use Rattle.dispatch_types.specs.Fold.{contains};
 ghost use Rattle.dispatch_types.specs.Serves.{served};
 ghost use Rattle.edit_apply.specs.Edits.{accepts, applied};
 ghost use Rattle.edit_events.specs.ByNote.{due_between};
@@ -10,7 +12,7 @@ ghost use Rattle.edit_events.specs.Forms.{form_between};
 ghost use Rattle.edit_events.specs.Was.{was_of};
 ghost use Rattle.mask_cache.specs.Masks.{MasksOf};
 
-use crate::masks::{masks_after, masks_of_each, masks_under};
+use crate::masks::{index_of, masks_after, masks_of_each, masks_under};
 use collections::Keyed;
 use dispatch_types::{Dispatch, Viewer};
 use edit_apply::{Edit, make};
@@ -48,13 +50,13 @@ impl Drop for Replica {
 }
 
 impl Model for Replica {
-    ghost use Rattle.guild_replica.specs.Replicas.{GuildCopy, EachServed};
+    ghost use Rattle.guild_replica.specs.Replicas.{GuildCopy, EachKept};
 
     ghost Value = { GuildCopy };
 
-    ghost view = { λ r. record { guild = r.guild } };
+    ghost view = { λ r. record { guild = r.guild; users = r.users.items } };
 
-    ghost invariant = { λ r. EachServed r.guild r.masks.items };
+    ghost invariant = { λ r. EachKept r.guild r.users.items r.masks.items };
 }
 
 impl Keyed for Replica {
@@ -66,9 +68,9 @@ impl Keyed for Replica {
 }
 
 impl Replica {
-    /// A copy of a guild, without masks. Does not allocate.
+    /// A copy of a guild, without users and masks. Does not allocate.
     pub fn new(alloc: Global, guild: Guild) -> Replica
-        ensures { result ≡ record { guild = guild } }
+        ensures { result ≡ record { guild = guild; users = [] } }
     {
         Replica {
             guild,
@@ -84,34 +86,61 @@ impl Replica {
         &self.guild
     }
 
+    /// The users that [`Replica::keep_masks`] was given.
+    pub fn users(&self) -> &[Snowflake]
+        ensures { result.now ≡ self.now.users }
+    {
+        self.users.as_slice()
+    }
+
     /// Keeps the masks of those of these users who are members of the guild, if it is open, until it is given
     /// other users. An edit that makes another of them a member has its masks kept from then on.
     ///
     /// # Errors
-    /// Out of memory.
+    /// Out of memory: nothing has changed then.
     pub fn keep_masks(&mut self, alloc: Global, users: &[Snowflake]) -> Result<(), AllocError>
-        ensures { self.new ≡ self.old }
+        ensures ok { OnOk result (self.new ≡ record self.old { users = users.now }) }
+        ensures err { OnErr result (self.new ≡ self.old) }
     {
         if self.users.as_slice() == users {
             return Ok(());
         }
+        let kept = Vec::from_slice(alloc, users)?;
         self.masks = masks_of_each(alloc, &self.guild, users)?;
-        self.users = Vec::from_slice(alloc, users)?;
+        self.users = kept;
         Ok(())
     }
 
     /// Makes an edit that is accepted, and mends the masks.
     ///
     /// # Errors
-    /// Out of memory.
+    /// Out of memory. Then no masks are kept until [`Replica::keep_masks`] is called.
     pub fn make(&mut self, alloc: Global, edit: &Edit) -> Result<(), AllocError>
         requires { accepts self.old.guild edit.now ≡ true }
-        ensures { OnOk result (self.new.guild ≡ applied self.old.guild edit.now) }
+        ensures { OnOk result (self.new ≡ record self.old { guild = applied self.old.guild edit.now }) }
     {
+        let users = mem::replace(&mut self.users, Vec::new(alloc));
         let masks = mem::replace(&mut self.masks, Vec::new(alloc));
         make(alloc, &mut self.guild, edit.copy(alloc)?)?;
-        self.masks = masks_after(alloc, masks, self.users.as_slice(), &self.guild, edit)?;
+        self.masks = masks_after(alloc, masks, users.as_slice(), &self.guild, edit)?;
+        self.users = users;
         Ok(())
+    }
+
+    /// The masks of a user. `None` exactly if the user is none of those of [`Replica::keep_masks`], or no member of
+    /// the guild, or the guild is not open. Does not allocate.
+    pub fn masks(&self, user: Snowflake) -> Option<&Masks>
+        ensures lent { IfSome result (λ masks. MasksOf self.now.guild user masks.now) }
+        ensures there { is_some result ≡ ((self.now.guild.opened && has_id member_id user self.now.guild.members)
+            && contains user self.now.users) }
+    {
+        let Some(index) = index_of(self.users.as_slice(), user) else {
+            return None;
+        };
+        let Some(kept) = masks_under(self.masks.as_slice(), index) else {
+            return None;
+        };
+        kept.as_ref()
     }
 
     // The masks under an index, if they are those of the user.

@@ -10,6 +10,7 @@ use gate_ends::{ScriptEnd, WorkerEnd};
 use gate_parts::{ActorDone, ScriptDone};
 use load_client::EndedClient;
 use load_parts::{ClientDone, DoorWorkerDone, LoadDone, LoadPart};
+use std::mem::ManuallyDrop;
 use std::sync::Wait;
 use team_run::add;
 
@@ -40,8 +41,10 @@ impl<C: Drop, R: Wait + Copy + Drop> Ends<C, R> {
         ensures sorts { Sorts (Worker done ∷ []) self.old self.new }
         ensures room { (more : ℕ) → HasRoom (more + 1) self.old → HasRoom more self.new }
     {
-        let (end, door, clock) = WorkerEnd::of(done);
+        let (end, door, clock, notes) = WorkerEnd::of(done);
         drop(door);
+        // A load is the last that its process does, which ends sooner if the system takes such lists back whole.
+        let _left = ManuallyDrop::new(notes);
         add(&mut self.clocks, clock);
         add(&mut self.workers, end);
     }

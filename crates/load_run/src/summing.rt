@@ -12,6 +12,7 @@ use load_client::EndedClient;
 use log_summary::summary;
 use run_ends::{Settled, settle};
 use std::alloc::{AllocError, Global};
+use std::mem::ManuallyDrop;
 use std::sync::Wait;
 
 // Settles what the actors, the scripts and the workers have left.
@@ -55,5 +56,8 @@ pub fn sum_up<R: Wait + Copy + Drop>(
         return Err(AllocError);
     }
     let agrees = agrees_of(alloc, &clients, &settled.logs)?;
-    summary(alloc, seed, &settled.logs, &agrees)
+    let text = summary(alloc, seed, &settled.logs, &agrees)?;
+    // As with the notes of the workers.
+    let _left = ManuallyDrop::new((settled, clients));
+    Ok(text)
 }

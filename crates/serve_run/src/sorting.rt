@@ -34,7 +34,8 @@ impl<S: Drop, D: Drop, C: Drop, R: Wait + Copy + Drop> Ends<S, D, C, R> {
         ensures sorts { Sorts (Worker done ∷ []) self.old self.new }
         ensures room { (more : ℕ) → HasRoom (more + 1) self.old → HasRoom more self.new }
     {
-        let (end, door, clock) = WorkerEnd::of(done);
+        let (end, door, clock, notes) = WorkerEnd::of(done);
+        drop(notes);
         add(&mut self.returned.doors, door);
         add(&mut self.returned.clocks, clock);
         add(&mut self.workers, end);

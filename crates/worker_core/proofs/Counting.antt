@@ -24,6 +24,7 @@ use Rattle.world_law.specs.Inputs.{Input, Look, Rebase, Open, Frame, Lost, Close
 use Rattle.world_law.specs.Model.{Logs, Worker, cursors, replay}
 use Rattle.world_law.proofs.Replays.{last_is}
 use Rattle.worker_core.specs.InCode.{wire_model, wire_text, in_code, KeptWorker, kept_after}
+use Rattle.guild_replica.specs.Replicas.{GuildCopy}
 use Rattle.worker_core.specs.declared.io.Input.{Input as Given}
 use Rattle.worker_core.specs.declared.io.Input.TheVariants as given
 use Rattle.worker_core.specs.declared.io.Output.{Output as Written}
@@ -31,7 +32,7 @@ use Rattle.worker_core.specs.declared.io.StepFault.{StepFault}
 use Rattle.worker_core.specs.Outputs.{IsGiven}
 use Rattle.worker_core.proofs.Representing.{input_kept}
 use Rattle.worker_core.specs.Made.{dispatch_count, all_dispatches, ended_count, ended_dispatches, last_number, live_dispatches}
-use Rattle.worker_core.specs.Represents.{Represents, counted, kept_session, kept, TakesNot, Takes, TakesCounted, may_end, may_end_by, past_with, with_ended, past_after}
+use Rattle.worker_core.specs.Represents.{Represents, counted, kept_session, kept, TakesNot, Takes, TakesCounted, may_end, may_end_by, past_with, with_ended, past_after, counted_after}
 
 -- ---- sums
 
@@ -332,17 +333,21 @@ ends_given (given.Closed conn code) i is = ap may_end (sym is)
 ends_given (given.Tick now) i is = ap may_end (sym is)
 
 module _ (k : KeptWorker) (i : Input) where
-  abbrev after_if : Bool → KeptWorker
-  after_if b = record (kept_after k i) { past = if b then past_with (live_dispatches k.machine.core.sessions) (kept_after k i) else k.past }
+  abbrev after_if : List GuildCopy → Bool → KeptWorker
+  after_if cs b = record (kept_after k i) { copies = cs; past = if b then past_with (live_dispatches k.machine.core.sessions) (kept_after k i) else k.past }
 
   pub none_end : {V : Type 0} (new : KeptWorker) (items : V → List Written) (result : Result V StepFault) → may_end i ≡ false
       → MatchResult result (λ out. Takes k i new (items out)) (TakesNot k i) → MatchResult result (λ out. TakesCounted k i new (items out)) (TakesNot k i)
-  none_end new items (Ok out) none takes = (takes.0 ∙ ap after_if (sym none), takes.1)
+  none_end new items (Ok out) none takes = (takes.0 ∙ ap (after_if new.copies) (sym none), takes.1)
   none_end new items (Err fault) none takes = takes
 
   pub some_end : {V : Type 0} (mid new : KeptWorker) (before : ℕ) (items : V → List Written) (result : Result V StepFault) → may_end i ≡ true
       → before ≡ live_dispatches k.machine.core.sessions → new ≡ with_ended before mid
       → MatchResult result (λ out. Takes k i mid (items out)) (TakesNot k i) → MatchResult result (λ out. TakesCounted k i new (items out)) (TakesNot k i)
   some_end mid new before items (Ok out) some is counted takes =
-      (counted ∙ (ap (λ n. with_ended n mid) is ∙ (ap (with_ended (live_dispatches k.machine.core.sessions)) takes.0 ∙ ap after_if (sym some))), takes.1)
+      let same : mid.copies ≡ new.copies = sym (ap (λ (h : KeptWorker). h.copies) counted) in (
+        counted ∙ (ap (λ n. with_ended n mid) is ∙ (ap (with_ended (live_dispatches k.machine.core.sessions)) takes.0 ∙ (ap (after_if mid.copies) (sym some)
+            ∙ ap (λ (cs : List GuildCopy). record (counted_after k i) { copies = cs }) same))),
+        takes.1,
+      )
   some_end mid new before items (Err fault) some is counted takes = takes

@@ -11,3 +11,4 @@ pub mod Numbering
 pub mod Moving
 pub mod Counting
 pub mod Noting
+pub mod Masks

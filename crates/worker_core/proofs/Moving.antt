@@ -27,11 +27,11 @@ use Rattle.worker_core.specs.declared.io.Output.{Output as Written}
 use Rattle.worker_core.specs.declared.io.StepFault.{StepFault}
 use Rattle.worker_core.proofs.Putting.{all_live, AreLive, look_sends_is, look_spends_is, looked_is, put_twice, puts_once}
 use Rattle.world_law.specs.Outputs.{Closes, Says, Sends, sends}
-use Rattle.worker_core.specs.Represents.{Fails, FaultBy, Represents, StepsTo, Takes, TakesCounted, TakesNot}
+use Rattle.worker_core.specs.Represents.{Fails, FaultBy, Represents, StepsTo, Takes, TakesCounted, TakesNot, TakesWhole}
 use Rattle.worker_core.specs.Telling.{FailsAt, TellsAt, further}
 use Rattle.world_law.specs.Inputs.{Frame, Input, Look, Rebase, open_sends, outputs, taken}
 use Rattle.worker_core.specs.Replies.{Greets, GreetsNot, Replies, RepliesNot, greeted, is_plain, plain, wanted_spends}
-use Rattle.worker_core.specs.InCode.{wire_model, KeptMachine, KeptWorker, after_frame, guild_of, in_code, kept_after, replica_id, replica_of, wire_text}
+use Rattle.worker_core.specs.InCode.{wire_model, KeptMachine, KeptWorker, after_frame, bare, guild_of, in_code, kept_after, replica_id, replica_of, wire_text}
 use Rattle.world_law.specs.Model.{Worker, record_of}
 use Rattle.worker_core.specs.Outputs.{all_written}
 use Rattle.worker_core.proofs.Records.{find_guild}
@@ -50,19 +50,28 @@ use Rattle.world_law.specs.Looks.{look_sends_by, looked_by, rebase_sends_by, reb
 use Rattle.world_law.specs.Keeping.{record_at, with_sessions}
 use Rattle.world_law.proofs.Folds.{same_id, state_join}
 use Rattle.worker_core.specs.Faults.{step_fault}
+use Rattle.worker_core.specs.Masks.{keep_masks}
 
 abbrev pub empty : ℕ → GuildCopy
 empty g = replica_of (closed g)
 
+-- ---- copies, which only the masks that are lent speak of
+
+pub kept_copies : (new is : KeptWorker) → new ≡ is → new ≡ record is { copies = new.copies }
+kept_copies new is same = same ∙ ap (λ (cs : List GuildCopy). record is { copies = cs }) (sym (ap (λ (h : KeptWorker). h.copies) same))
+
+then_copies : (new mid is : KeptWorker) → new ≡ mid → mid ≡ record is { copies = mid.copies } → new ≡ record is { copies = new.copies }
+then_copies new mid is same moved = same ∙ (moved ∙ ap (λ (cs : List GuildCopy). record is { copies = cs }) (sym (ap (λ (h : KeptWorker). h.copies) same)))
+
 -- ---- looks
 
 -- a look at a guild that the worker has, by its replica
-module _ (k : KeptMachine) (g : ℕ) (es : List Edit) (r : GuildCopy) (found : find_id replica_id g k.logs ≡ Some r) where
+module _ (k : KeptMachine) (g : ℕ) (es : List Edit) (r : GuildCopy) (found : find_id replica_id g k.logs ≡ Some (bare r)) where
   here : record_at in_code k.logs g ≡ Some r.guild
   here = find_guild g k.logs ∙ ap (option_map guild_of) found
 
   looked_key : replica_id (replica_of (state_from r.guild es)) ≡ g
-  looked_key = from_id r.guild es ∙ key-found replica_id g k.logs r found
+  looked_key = from_id r.guild es ∙ key-found replica_id g k.logs (bare r) found
 
   pub is_there : (again : GuildCopy) → again ≡ replica_of (state_from r.guild es) → IsSome (find_id replica_id (replica_id again) (put_id replica_id (empty g) k.logs))
   is_there again is =
@@ -77,17 +86,17 @@ module _ (k : KeptMachine) (g : ℕ) (es : List Edit) (r : GuildCopy) (found : f
     look_is : looked_by in_code (record_at in_code k.logs g) k g es
         ≡ record k { logs = put_id replica_id (replica_of (state_from r.guild es)) k.logs; core = with_sessions (kept_looked r.guild es k.core.sessions) k.core }
     look_is =
-        let one : r.guild.id ≡ g = key-found replica_id g k.logs r found in
+        let one : r.guild.id ≡ g = key-found replica_id g k.logs (bare r) found in
         let own : find_id replica_id r.guild.id k.logs ≡ Some (replica_of r.guild) = ap (λ n. find_id replica_id n k.logs) one ∙ found in
         ap (λ o. looked_by in_code o k g es) here
         ∙ (looked_is es k g r.guild live
         ∙ ap (λ rs. record k { logs = rs; core = with_sessions (kept_looked r.guild es k.core.sessions) k.core }) (puts_once es r.guild k.logs own ascend))
 
-module _ (k : KeptWorker) (g : ℕ) (es : List Edit) (r : GuildCopy) (found : find_id replica_id g k.machine.logs ≡ Some r) (live : AreLive k.machine.core.sessions) where
+module _ (k : KeptWorker) (g : ℕ) (es : List Edit) (r : GuildCopy) (found : find_id replica_id g k.machine.logs ≡ Some (bare r)) (live : AreLive k.machine.core.sessions) where
   pub look_made : (k1 k2 k3 : KeptWorker) (again : GuildCopy) (out : List Written) → IsById replica_id k.machine.logs
-      → k1 ≡ record k { machine = record k.machine { logs = put_id replica_id (empty g) k.machine.logs } }
+      → k1 ≡ record k { copies = k1.copies; machine = record k.machine { logs = put_id replica_id (empty g) k.machine.logs } }
       → k2 ≡ record k1 { machine = record k1.machine { core = with_sessions (kept_looked r.guild es k1.machine.core.sessions) k1.machine.core } }
-      → k3 ≡ record k2 { machine = record k2.machine { logs = put_id replica_id again k2.machine.logs } }
+      → k3 ≡ record k2 { copies = k3.copies; machine = record k2.machine { logs = put_id replica_id again k2.machine.logs } }
       → again ≡ replica_of (state_from r.guild es)
       → out ≡ all_written (kept_sends r.guild es k1.machine.core.sessions)
       → kept_spends r.guild es k1.machine.core.sessions ≡ false
@@ -96,11 +105,11 @@ module _ (k : KeptWorker) (g : ℕ) (es : List Edit) (r : GuildCopy) (found : fi
       let core : State Replay = with_sessions (kept_looked r.guild es k.machine.core.sessions) k.machine.core in
       let key : replica_id (replica_of (state_from r.guild es)) ≡ replica_id (empty g) = looked_key k.machine g es r found in (
         three
-            ∙ (ap (λ (h : KeptWorker). record h { machine = record h.machine { logs = put_id replica_id again h.machine.logs } }) two
-            ∙ (ap (λ (h : KeptWorker). record h { machine = record h.machine { core = with_sessions (kept_looked r.guild es h.machine.core.sessions) h.machine.core; logs = put_id replica_id again h.machine.logs } }) one
-            ∙ (ap (λ (a : GuildCopy). record k { machine = record k.machine { core = core; logs = put_id replica_id a (put_id replica_id (empty g) k.machine.logs) } }) is
-            ∙ (ap (λ (rs : List GuildCopy). record k { machine = record k.machine { core = core; logs = rs } }) (put_twice (replica_of (state_from r.guild es)) (empty g) k.machine.logs key ascend)
-            ∙ ap (λ (h : KeptMachine). record k { machine = h }) (sym (look_is k.machine g es r found ascend live)))))),
+            ∙ (ap (λ (h : KeptWorker). record h { copies = k3.copies; machine = record h.machine { logs = put_id replica_id again h.machine.logs } }) two
+            ∙ (ap (λ (h : KeptWorker). record h { copies = k3.copies; machine = record h.machine { core = with_sessions (kept_looked r.guild es h.machine.core.sessions) h.machine.core; logs = put_id replica_id again h.machine.logs } }) one
+            ∙ (ap (λ (a : GuildCopy). record k { copies = k3.copies; machine = record k.machine { core = core; logs = put_id replica_id a (put_id replica_id (empty g) k.machine.logs) } }) is
+            ∙ (ap (λ (rs : List GuildCopy). record k { copies = k3.copies; machine = record k.machine { core = core; logs = rs } }) (put_twice (replica_of (state_from r.guild es)) (empty g) k.machine.logs key ascend)
+            ∙ ap (λ (h : KeptMachine). record k { copies = k3.copies; machine = h }) (sym (look_is k.machine g es r found ascend live)))))),
         (
           sent ∙ (ap (λ (h : KeptWorker). all_written (kept_sends r.guild es h.machine.core.sessions)) one
               ∙ ap all_written (sym (ap (λ o. look_sends_by in_code o k.machine g es) (here k.machine g es r found) ∙ look_sends_is es k.machine g r.guild live))),
@@ -108,13 +117,13 @@ module _ (k : KeptWorker) (g : ℕ) (es : List Edit) (r : GuildCopy) (found : fi
         ),
       )
 
-  pub look_fails : (k1 : KeptWorker) (fault : StepFault) → k1 ≡ record k { machine = record k.machine { logs = put_id replica_id (empty g) k.machine.logs } }
+  pub look_fails : (k1 : KeptWorker) (fault : StepFault) → k1 ≡ record k { copies = k1.copies; machine = record k.machine { logs = put_id replica_id (empty g) k.machine.logs } }
       → FaultBy (kept_spends r.guild es k1.machine.core.sessions) fault → TakesNot k (Look g es) fault
   look_fails k1 fault one fails =
       subst (λ b. FaultBy b fault) (ap (λ (h : KeptWorker). kept_spends r.guild es h.machine.core.sessions) one ∙ sym (look_spent k.machine g es r found live)) fails
 
 -- the sessions are as they were before the replica was taken out
-pub live_at : (k k1 : KeptWorker) (logs : List GuildCopy) → k1 ≡ record k { machine = record k.machine { logs = logs } } → length (live k1.machine.core) ≡ length k1.machine.core.sessions
+pub live_at : (k k1 : KeptWorker) (logs : List GuildCopy) → k1 ≡ record k { copies = k1.copies; machine = record k.machine { logs = logs } } → length (live k1.machine.core) ≡ length k1.machine.core.sessions
     → AreLive k.machine.core.sessions
 live_at k k1 logs one same = all_live k.machine.core.sessions (subst (λ (h : KeptWorker). length (live h.machine.core) ≡ length h.machine.core.sessions) one same)
 
@@ -125,7 +134,7 @@ none_here k g none = find_guild g k.logs ∙ ap (option_map guild_of) none
 pub look_past : (k : KeptWorker) (g : ℕ) (es : List Edit) (new : KeptWorker) (out : List Written) → find_id replica_id g k.machine.logs ≡ None → new ≡ k → out ≡ [] → Takes k (Look g es) new out
 look_past k g es new out none same empty =
     let o : record_at in_code k.machine.logs g ≡ None = none_here k.machine g none in (
-      same ∙ ap (λ o. record k { machine = looked_by in_code o k.machine g es }) (sym o),
+      kept_copies new (record k { machine = looked_by in_code (record_at in_code k.machine.logs g) k.machine g es }) (same ∙ ap (λ o. record k { machine = looked_by in_code o k.machine g es }) (sym o)),
       (empty ∙ ap (λ o. all_written (look_sends_by in_code o k.machine g es)) (sym o), ap (λ o. look_spends_by in_code o k.machine g es) o),
     )
 
@@ -141,10 +150,10 @@ RepliedNot k1 fault replies = (list_all is_plain replies ≡ true → FaultBy fa
 
 -- replies of which each is plain
 pub plain_ends : {V : Type 0} (k k1 new : KeptWorker) (i : Input) (items : V → List Written) (result : Result V StepFault) (replies : List Reply)
-    → k1 ≡ kept_after k i → list_all is_plain replies ≡ true → flat_map plain replies ≡ outputs in_code k.machine i → spends in_code k.machine i ≡ false
+    → k1 ≡ record (kept_after k i) { copies = k1.copies } → list_all is_plain replies ≡ true → flat_map plain replies ≡ outputs in_code k.machine i → spends in_code k.machine i ≡ false
     → (list_all is_plain replies ≡ true → MatchResult result (λ out. (new ≡ k1) × (items out ≡ all_written (flat_map plain replies))) (FaultBy false))
     → MatchResult result (λ out. Takes k i new (items out)) (TakesNot k i)
-plain_ends k k1 new i items (Ok out) replies moved all is counted told = let done = told all in (done.0 ∙ moved, (done.1 ∙ ap all_written is, counted))
+plain_ends k k1 new i items (Ok out) replies moved all is counted told = let done = told all in (then_copies new k1 (kept_after k i) done.0 moved, (done.1 ∙ ap all_written is, counted))
 plain_ends k k1 new i items (Err fault) replies moved all is counted told = subst (λ b. FaultBy b fault) (sym counted) (told all)
 
 -- one reply more
@@ -255,20 +264,21 @@ record_there k g has = by_found (find_id replica_id g k.logs) refl
 pub rebase_past : (k : KeptWorker) (g : ℕ) (log : List Edit) (out : List Written) → has_id replica_id g k.machine.logs ≡ false → out ≡ [] → Takes k (Rebase g log) k out
 rebase_past k g log out lacks empty =
     let o : record_at in_code k.machine.logs g ≡ None = none_here k.machine g (by_found (find_id replica_id g k.machine.logs) lacks) in
-    (ap (λ o. record k { machine = rebased_by in_code o k.machine g log }) (sym o), (empty ∙ ap (λ o. all_written (rebase_sends_by o k.machine.core)) (sym o), refl))
+    (kept_copies k (kept_after k (Rebase g log)) (ap (λ o. record k { machine = rebased_by in_code o k.machine g log }) (sym o)), (empty ∙ ap (λ o. all_written (rebase_sends_by o k.machine.core)) (sym o), refl))
   where
     by_found : (o : Option GuildCopy) → is_some o ≡ false → o ≡ None
     by_found None e = refl
     by_found (Some r) e = absurd (cc e)
 
 module _ (k k1 k2 : KeptWorker) (g : ℕ) (log : List Edit) (s : Record) (made : s ≡ state g log) (has : has_id replica_id g k.machine.logs ≡ true)
-    (one : k1 ≡ record k { machine = record k.machine { logs = put_id replica_id (replica_of s) k.machine.logs } })
+    (one : k1 ≡ record k { copies = k1.copies; machine = record k.machine { logs = put_id replica_id (replica_of s) k.machine.logs } })
     (two : k2 ≡ record k1 { machine = record k1.machine { core = all_ended (λ x. []) k1.machine.core } }) where
-  rebase_moved : k2 ≡ kept_after k (Rebase g log)
+  rebase_moved : k2 ≡ record (kept_after k (Rebase g log)) { copies = k2.copies }
   rebase_moved =
-      two ∙ (ap (λ (h : KeptWorker). record h { machine = record h.machine { core = all_ended (λ x. []) h.machine.core } }) one
-      ∙ (ap (λ (r : Record). record k { machine = record k.machine { logs = put_id replica_id (replica_of r) k.machine.logs; core = all_ended (λ x. []) k.machine.core } }) made
-      ∙ ap (λ o. record k { machine = rebased_by in_code o k.machine g log }) (sym (record_there k.machine g has).1)))
+      kept_copies k2 (record (kept_after k (Rebase g log)) { copies = k1.copies })
+      (two ∙ (ap (λ (h : KeptWorker). record h { machine = record h.machine { core = all_ended (λ x. []) h.machine.core } }) one
+      ∙ (ap (λ (r : Record). record k { copies = k1.copies; machine = record k.machine { logs = put_id replica_id (replica_of r) k.machine.logs; core = all_ended (λ x. []) k.machine.core } }) made
+      ∙ ap (λ o. record k { copies = k1.copies; machine = rebased_by in_code o k.machine g log }) (sym (record_there k.machine g has).1))))
 
   rebase_out : map (λ conn. Closes conn 4000) (session_conns k1.machine.core) ≡ outputs in_code k.machine (Rebase g log)
   rebase_out =
@@ -371,21 +381,36 @@ module _ (k : KeptWorker) (conn : ℕ) where
         → (list_all is_plain replies ≡ true → MatchResult result (λ out. (new ≡ k1) × (items out ≡ all_written (flat_map plain replies))) (FaultBy false))
         → ((r : Reply) → replies ≡ r ∷ [] → MatchResult result (λ out. Replies r k1 new [] (items out)) (RepliesNot r k1))
         → MatchResult result (λ out. Takes k (Frame conn received) new (items out)) (TakesNot k (Frame conn received))
-    frame_ends items (Ok out) k1 new replies is moved_to counted all one = move_made k1 new (items out) move moved_to counted (subst (Replied k1 new (items out)) is (all, one))
+    frame_ends items (Ok out) k1 new replies is moved_to counted all one =
+        let made = move_made k1 new (items out) move moved_to counted (subst (Replied k1 new (items out)) is (all, one)) in
+        (kept_copies new (kept_after k (Frame conn received)) made.0, made.1)
     frame_ends items (Err fault) k1 new replies is moved_to counted all one = move_fails k1 fault move moved_to counted (subst (RepliedNot k1 fault) is (all, one))
 
     pub frame_refused : (fault : SessionFault) → (fault ≡ session.Spent → is_spent move k.machine.core ≡ true) → TakesNot k (Frame conn received) (step_fault fault)
     frame_refused session.Spent spent = spent_frame move (spent refl)
     frame_refused session.Memory spent = tt
 
+-- masks are kept after the worker has taken it
+pub taken_whole : (k mid new : KeptWorker) (i : Input) (out : List Written) → TakesCounted k i mid out → new ≡ record mid { copies = new.copies }
+    → keep_masks new.copies mid.machine.core.sessions ≡ true → TakesWhole k i new out
+taken_whole k mid new i out takes same keeps = (
+  (same ∙ ap (λ (h : KeptWorker). record h { copies = new.copies }) takes.0, takes.1),
+  ap (λ (h : KeptWorker). keep_masks new.copies h.machine.core.sessions) same ∙ keeps,
+)
+
 -- ---- in the words of the model
 
 pub steps : {V : Type 0} (k new : KeptWorker) (w : Worker) (i : Input) (items : V → List Written) (result : Result V StepFault) → Represents k w
-    → MatchResult result (λ out. TakesCounted k i new (items out)) (TakesNot k i) → MatchResult result (λ out. StepsTo w i new (items out)) (Fails w i)
+    → MatchResult result (λ out. TakesWhole k i new (items out)) (TakesNot k i) → MatchResult result (λ out. StepsTo w i new (items out)) (Fails w i)
 steps k new w i items (Ok out) stands takes =
     let same = input_kept k.machine w stands.machine i in (
-      subst (λ (h : KeptWorker). Represents h (taken wire_model w i)) (sym takes.0) (record { goes_on = stands.goes_on; past = past_kept k w stands i; machine = same.0 }),
-      (takes.1.0 ∙ ap all_written same.1.0, sym same.1.1 ∙ takes.1.1),
+      subst (λ (h : KeptWorker). Represents h (taken wire_model w i)) (sym takes.0.0) (record {
+        goes_on = stands.goes_on;
+        keeps = ap (λ (h : KeptWorker). keep_masks new.copies h.machine.core.sessions) (sym takes.0.0) ∙ takes.1;
+        past = past_kept k w stands i;
+        machine = same.0;
+      }),
+      (takes.0.1.0 ∙ ap all_written same.1.0, sym same.1.1 ∙ takes.0.1.1),
     )
 steps k new w i items (Err fault) stands takes = subst (λ b. FaultBy b fault) (input_kept k.machine w stands.machine i).1.1 takes
 

@@ -1,8 +1,8 @@
 -- The records of a worker's replicas are those of the model.
-use Rattle.std.proofs.Common.{◌≡◌, ℕ, List, [], ◌∷◌, Bool, true, false, Option, Some, None, if◌then◌else◌, map, refl, sym, ap, ◌∙◌}
-use Rattle.std.specs.Prelude.{◌==◌, is_some, option_map, nat_lt}
+use Rattle.std.proofs.Common.{◌≡◌, ℕ, List, [], ◌∷◌, ◌++◌, Bool, true, false, Option, Some, None, if◌then◌else◌, map, refl, sym, ap, subst, ◌∙◌}
+use Rattle.std.specs.Prelude.{◌==◌, IsSome, flat_map, is_some, option_map, nat_lt}
 use Rattle.std.proofs.lemmas.Bool.{eqb-true}
-use Rattle.collections.specs.ById.{find_id, put_id, IsById}
+use Rattle.collections.specs.ById.{find_id, has_id, put_id, IsById}
 use Rattle.collections.proofs.Ids.{IsById-put}
 use Rattle.collections.proofs.Finds.{same_by_id, find-put, find-map, key-found, IsById-map}
 use Rattle.guild_model.specs.Record.{Record, own_id}
@@ -14,7 +14,7 @@ use Rattle.world_law.specs.Model.{Seen, record_of}
 use Rattle.world_law.proofs.Logs.{state_id}
 use Rattle.world_law.proofs.Found.{contains_found, find_record}
 use Rattle.guild_replica.specs.Replicas.{GuildCopy}
-use Rattle.worker_core.specs.InCode.{replica_id, guild_of}
+use Rattle.worker_core.specs.InCode.{KeptWorker, bare, replica_id, guild_of}
 
 -- a replica that is put is a record that is put
 pub put_guild : (r : GuildCopy) (rs : List GuildCopy) → map guild_of (put_id replica_id r rs) ≡ put_id record_id (guild_of r) (map guild_of rs)
@@ -27,6 +27,61 @@ put_guild r (x ∷ rs) = by_tests (nat_lt (replica_id r) (replica_id x)) (replic
     by_tests true same rest = refl
     by_tests false true rest = refl
     by_tests false false rest = ap (λ gs. guild_of x ∷ gs) rest
+
+-- ---- copies by their records alone
+
+bare_key : (r : GuildCopy) → replica_id (bare r) ≡ replica_id r
+bare_key r = refl
+
+pub put_bare : (r : GuildCopy) (rs : List GuildCopy) → map bare (put_id replica_id r rs) ≡ put_id replica_id (bare r) (map bare rs)
+put_bare r [] = refl
+put_bare r (x ∷ rs) = by_tests (nat_lt (replica_id r) (replica_id x)) (replica_id r == replica_id x) (put_bare r rs)
+  where
+    by_tests : (below same : Bool) → map bare (put_id replica_id r rs) ≡ put_id replica_id (bare r) (map bare rs)
+        → map bare (if below then r ∷ x ∷ rs else (if same then r ∷ rs else x ∷ put_id replica_id r rs))
+        ≡ (if below then bare r ∷ bare x ∷ map bare rs else (if same then bare r ∷ map bare rs else bare x ∷ put_id replica_id (bare r) (map bare rs)))
+    by_tests true same rest = refl
+    by_tests false true rest = refl
+    by_tests false false rest = ap (λ gs. bare x ∷ gs) rest
+
+pub find_bare : (g : ℕ) (rs : List GuildCopy) → find_id replica_id g (map bare rs) ≡ option_map bare (find_id replica_id g rs)
+find_bare g rs = find-map replica_id replica_id bare bare_key g rs
+
+pub bare_ascend : (rs : List GuildCopy) → IsById replica_id rs → IsById replica_id (map bare rs)
+bare_ascend rs ascend = IsById-map replica_id replica_id bare bare_key rs ascend
+
+-- what is made of their records alone
+pub of_bare : {B : Type 0} (f : GuildCopy → List B) → ((r : GuildCopy) → f (bare r) ≡ f r) → (rs : List GuildCopy) → flat_map f (map bare rs) ≡ flat_map f rs
+of_bare f same [] = refl
+of_bare f same (r ∷ rs) = ap (λ xs. xs ++ flat_map f (map bare rs)) (same r) ∙ ap (λ xs. f r ++ xs) (of_bare f same rs)
+
+pub bare_guilds : (rs : List GuildCopy) → map guild_of (map bare rs) ≡ map guild_of rs
+bare_guilds [] = refl
+bare_guilds (r ∷ rs) = ap (λ gs. guild_of r ∷ gs) (bare_guilds rs)
+
+pub has_bare : (g : ℕ) (rs : List GuildCopy) → has_id replica_id g (map bare rs) ≡ has_id replica_id g rs
+has_bare g rs = ap is_some (find_bare g rs) ∙ by_found (find_id replica_id g rs)
+  where
+    by_found : (o : Option GuildCopy) → is_some (option_map bare o) ≡ is_some o
+    by_found None = refl
+    by_found (Some r) = refl
+
+-- the logs of a worker's value, as its copies move
+pub logs_moved : (inside now : KeptWorker) → inside ≡ now → (copies logs : List GuildCopy) (f : List GuildCopy → List GuildCopy) → logs ≡ f inside.machine.logs
+    → record inside { copies = copies; machine = record inside.machine { logs = logs } } ≡ record now { copies = copies; machine = record now.machine { logs = f now.machine.logs } }
+logs_moved inside now is copies logs f moved =
+    ap (λ (ls : List GuildCopy). record inside { copies = copies; machine = record inside.machine { logs = ls } }) moved
+    ∙ ap (λ (h : KeptWorker). record h { copies = copies; machine = record h.machine { logs = f h.machine.logs } }) is
+
+-- one that is found by its record alone is found
+pub is_found : (g : ℕ) (rs : List GuildCopy) → IsSome (find_id replica_id g (map bare rs)) → IsSome (find_id replica_id g rs)
+is_found g rs there = by_found (find_id replica_id g rs) (subst IsSome (find_bare g rs) there)
+  where
+    by_found : (o : Option GuildCopy) → IsSome (option_map bare o) → IsSome o
+    by_found None there = there
+    by_found (Some r) there = there
+
+-- ---- their records
 
 own_key : (r : GuildCopy) → record_id (guild_of r) ≡ replica_id r
 own_key r = refl

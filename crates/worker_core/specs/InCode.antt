@@ -30,8 +30,12 @@ replica_id r = r.guild.id
 abbrev pub guild_of : GuildCopy → Record
 guild_of r = r.guild
 
+-- a copy by its record alone
 abbrev pub replica_of : Record → GuildCopy
-replica_of s = record { guild = s }
+replica_of s = record { guild = s; users = [] }
+
+abbrev pub bare : GuildCopy → GuildCopy
+bare r = replica_of r.guild
 
 -- with dispatches more
 abbrev pub held_with : List Dispatch → Replay → Replay
@@ -55,11 +59,12 @@ in_code = record {
 abbrev pub KeptMachine : Type 0
 KeptMachine = Machine Replay (List GuildCopy)
 
--- a worker's value: the fault by which it is finished, if it is, and the number of dispatches of the sessions that
--- have ended, or 2^64 - 1 if there are more
+-- a worker's value: the fault by which it is finished, if it is, the number of dispatches of the sessions that have
+-- ended, or 2^64 - 1 if there are more, and its copies of guilds, with the users whose masks each keeps
 pub record KeptWorker : Type 0 where
   pub finished : Option StepFault
   pub past : ℕ
+  pub copies : List GuildCopy
   pub machine : KeptMachine
 
 -- what becomes of it

@@ -1,4 +1,5 @@
 pub mod InCode
+pub mod Masks
 pub mod Made
 pub mod Outputs
 pub mod Represents

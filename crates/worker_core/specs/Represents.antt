@@ -15,6 +15,7 @@ use Rattle.worker_core.specs.declared.io.StepFault.{StepFault}
 use Rattle.worker_core.specs.declared.io.StepFault.TheVariants.{Spent, Memory}
 use Rattle.worker_core.specs.InCode.{wire_model, wire_text, guild_of, in_code, KeptMachine, KeptWorker, kept_after}
 use Rattle.worker_core.specs.Made.{ended_dispatches, live_dispatches}
+use Rattle.worker_core.specs.Masks.{keep_masks}
 use Rattle.worker_core.specs.Outputs.{all_written}
 
 -- a session by what a resume needs
@@ -43,6 +44,7 @@ pub record IsKept (k : KeptMachine) (w : Worker) : Type 0 where
 
 pub record Represents (k : KeptWorker) (w : Worker) : Type 0 where
   pub goes_on : k.finished ≡ None
+  pub keeps : keep_masks k.copies k.machine.core.sessions ≡ true
   pub past : k.past ≡ min (ended_dispatches w.core.sessions) (2 ^ 64 - 1)
   pub machine : IsKept k.machine w
 
@@ -62,10 +64,10 @@ Fails w i fault = FaultBy (spends wire_model w i) fault
 
 -- ---- internal: cited by private functions only
 
--- the same of what is kept
+-- the same of what is kept, whatever masks are
 abbrev pub Takes : KeptWorker → Input → KeptWorker → List Written → Type 0
 Takes old i new out =
-    (new ≡ kept_after old i) × ((out ≡ all_written (outputs in_code old.machine i)) × (spends in_code old.machine i ≡ false))
+    (new ≡ record (kept_after old i) { copies = new.copies }) × ((out ≡ all_written (outputs in_code old.machine i)) × (spends in_code old.machine i ≡ false))
 
 abbrev pub TakesNot : KeptWorker → Input → StepFault → Type 0
 TakesNot old i fault = FaultBy (spends in_code old.machine i) fault
@@ -104,4 +106,8 @@ counted_after k i = record (kept_after k i) { past = past_after k i }
 
 abbrev pub TakesCounted : KeptWorker → Input → KeptWorker → List Written → Type 0
 TakesCounted old i new out =
-    (new ≡ counted_after old i) × ((out ≡ all_written (outputs in_code old.machine i)) × (spends in_code old.machine i ≡ false))
+    (new ≡ record (counted_after old i) { copies = new.copies }) × ((out ≡ all_written (outputs in_code old.machine i)) × (spends in_code old.machine i ≡ false))
+
+-- and then masks are kept of each user who has a session
+abbrev pub TakesWhole : KeptWorker → Input → KeptWorker → List Written → Type 0
+TakesWhole old i new out = TakesCounted old i new out × (keep_masks new.copies new.machine.core.sessions ≡ true)

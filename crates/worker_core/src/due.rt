@@ -1,14 +1,13 @@
 //! What sessions are sent for one entry: sessions that are sent the same share one text.
 
-ghost use Rattle.std.specs.Prelude.{◌≡◌, ◌<◌, ◌↔◌, [], Option, Some, None, List, true, length, map, slice_get, IsTrue, IfOk, OnOk, MatchResult};
+ghost use Rattle.std.specs.Prelude.{◌≡◌, ◌<◌, ◌↔◌, Some, List, true, length, map, slice_get, IsTrue, IfOk, OnOk, MatchResult};
 ghost use Rattle.guild_model.specs.Record.{Record};
 ghost use Rattle.dispatch_types.specs.declared.dispatch.Dispatch.{Dispatch};
 ghost use Rattle.edit_apply.specs.Edits.{accepts, applied};
 ghost use Rattle.edit_events.specs.Due.{due};
 ghost use Rattle.edit_events.specs.Was.{was_of};
 ghost use Rattle.worker_core.specs.Recipients.{Picks, IsLonger, picked_by};
-ghost use Rattle.message_events.specs.declared.forms.MessageForm.{MessageForm};
-ghost use Rattle.worker_core.specs.Forms.{index_of_form, AreDue};
+ghost use Rattle.worker_core.specs.Forms.{AreDue};
 ghost use Rattle.worker_core.specs.Telling.{TellsAt, FailsAt};
 
 use crate::form_index::FormIndex;
@@ -108,23 +107,35 @@ fn index_of(
     Ok(index)
 }
 
-// Lists of dispatches, each once, and for each form of an edit of messages the index of its list.
-#[derive(Drop)]
-struct DueLists {
-    alloc: Global,
-    told: Vec<SharedDispatches>,
+/// What an entry owes to viewers: lists of dispatches, each once, and for each viewer, by its index, the
+/// index of its list.
+pub struct DueDispatches {
+    /// The lists, each once.
+    pub told: Vec<SharedDispatches>,
+    /// For each viewer, by its index, the index of its list.
+    pub whose: Vec<usize>,
+    /// For each form of an edit of messages, the index of its list.
     forms: FormIndex,
 }
 
-impl DueLists {
-    // No list.
-    fn new(alloc: Global) -> DueLists
-        ensures told { result.told.items ≡ [] }
-        ensures forms { (form : Option MessageForm) → index_of_form result.forms form ≡ None }
-    {
-        DueLists {
-            alloc,
+impl Drop for DueDispatches {
+    fn drop(self) {
+        let DueDispatches {
+            told,
+            whose,
+            forms: _,
+        } = self;
+        drop(told);
+        drop(whose);
+    }
+}
+
+impl DueDispatches {
+    /// Nothing. Does not allocate.
+    pub fn none(alloc: Global) -> DueDispatches {
+        DueDispatches {
             told: Vec::new(alloc),
+            whose: Vec::new(alloc),
             forms: FormIndex::new(),
         }
     }
@@ -133,6 +144,7 @@ impl DueLists {
     // seen before reuses that form's list.
     fn index_for(
         &mut self,
+        alloc: Global,
         replica: &Replica,
         entry: &Edit,
         was: &Was,
@@ -143,68 +155,47 @@ impl DueLists {
             → AreDue s entry.now self.old.told.items self.old.forms
             → (slice_get self.new.told.items index ≡ Some (due s entry.now viewer.now)) × AreDue s entry.now self.new.told.items self.new.forms) }
         ensures longer { OnOk result (IsLonger self.old.told.items self.new.told.items) }
+        ensures whose { self.new.whose.items ≡ self.old.whose.items }
     {
         let form = replica.form_for(entry, was, viewer, user);
         if let Some(index) = self.forms.index(form) {
             return Ok(index);
         }
-        let due = replica.events(self.alloc, entry, was, viewer, user)?;
-        let index = index_of(self.alloc, &mut self.told, due)?;
+        let due = replica.events(alloc, entry, was, viewer, user)?;
+        let index = index_of(alloc, &mut self.told, due)?;
         self.forms.keep(form, index);
         Ok(index)
     }
-}
 
-/// What an entry owes to viewers: lists of dispatches, each once, and for each viewer, by its index, the
-/// index of its list.
-pub struct DueDispatches {
-    /// The lists, each once.
-    pub told: Vec<SharedDispatches>,
-    /// For each viewer, by its index, the index of its list.
-    pub whose: Vec<usize>,
-}
-
-impl Drop for DueDispatches {
-    fn drop(self) {
-        let DueDispatches { told, whose } = self;
-        drop(told);
-        drop(whose);
-    }
-}
-
-impl DueDispatches {
-    /// What an accepted entry owes to each of the viewers, by the record after it and the notes of that
-    /// before it.
-    pub fn of(
+    /// Makes these what an accepted entry owes to each of the viewers, by the record after it and the notes
+    /// of that before it. The lists keep their memory.
+    pub fn update(
+        &mut self,
         alloc: Global,
         replica: &Replica,
         entry: &Edit,
         notes: &Notes,
         recipients: &Recipients,
-    ) -> Result<DueDispatches, AllocError>
-        ensures { IfOk result (λ o. (s : Record) → Picks notes.now.noted.items notes.now.whose.items (map (λ v. was_of s v entry.now) recipients.now.viewers.items) → replica.now.guild ≡ applied s entry.now → accepts s entry.now ≡ true
-            → Picks o.told.items o.whose.items (map (due s entry.now) recipients.now.viewers.items)) }
+    ) -> Result<(), AllocError>
+        ensures { OnOk result ((s : Record) → Picks notes.now.noted.items notes.now.whose.items (map (λ v. was_of s v entry.now) recipients.now.viewers.items) → replica.now.guild ≡ applied s entry.now → accepts s entry.now ≡ true
+            → Picks self.new.told.items self.new.whose.items (map (due s entry.now) recipients.now.viewers.items)) }
     {
         let viewers = recipients.viewers.as_slice();
-        let mut whose = Vec::with_capacity(alloc, viewers.len())?;
-        let mut lists = DueLists::new(alloc);
+        self.told.clear();
+        self.whose.clear();
+        self.forms = FormIndex::new();
+        self.whose.reserve(viewers.len())?;
         for index in 0..viewers.len() {
             let Some(was) = notes.at(index) else {
                 // Each viewer has a note.
-                return Ok(DueDispatches {
-                    told: lists.told,
-                    whose,
-                });
+                return Ok(());
             };
             let viewer = &viewers[index];
             let user = recipients.user_of(index);
-            let due = lists.index_for(replica, entry, was, viewer, user)?;
-            whose.push(due)?;
+            let due = self.index_for(alloc, replica, entry, was, viewer, user)?;
+            self.whose.push(due)?;
         }
-        Ok(DueDispatches {
-            told: lists.told,
-            whose,
-        })
+        Ok(())
     }
 
     /// Sends the session at an index what is due to the viewer at another.

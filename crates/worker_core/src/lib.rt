@@ -5,6 +5,7 @@
 mod due;
 mod form_index;
 pub mod io;
+mod keeping;
 mod look;
 mod made;
 mod notes;

@@ -23,6 +23,30 @@ use log_entry::Entry;
 use session_core::Sessions;
 use std::alloc::{AllocError, Global};
 
+// What is worked out for one entry. The memory of the lists serves for the next one too.
+struct Lists {
+    notes: Notes,
+    owed: DueDispatches,
+}
+
+impl Drop for Lists {
+    fn drop(self) {
+        let Lists { notes, owed } = self;
+        drop(notes);
+        drop(owed);
+    }
+}
+
+impl Lists {
+    // Empty lists. Does not allocate.
+    fn none(alloc: Global) -> Lists {
+        Lists {
+            notes: Notes::none(alloc),
+            owed: DueDispatches::none(alloc),
+        }
+    }
+}
+
 /// What an accepted entry owes, sent to each session.
 fn tell_each(
     lists: &DueDispatches,
@@ -55,6 +79,7 @@ fn apply_one(alloc: Global, guild: &mut Guild, entry: &Edit) -> Result<(), Alloc
 /// One entry: the record after it, and what it owes to each session. An entry that is refused
 /// changes nothing.
 fn enter(
+    lists: &mut Lists,
     alloc: Global,
     replica: &mut Replica,
     entry: &Edit,
@@ -69,10 +94,12 @@ fn enter(
     if judge(replica.guild(), entry).is_err() {
         return Ok(());
     }
-    let notes = Notes::of(alloc, replica, entry, recipients)?;
+    lists.notes.update(alloc, replica, entry, recipients)?;
     replica.make(alloc, entry)?;
-    let lists = DueDispatches::of(alloc, replica, entry, &notes, recipients)?;
-    tell_each(&lists, recipients, sessions, out)
+    lists
+        .owed
+        .update(alloc, replica, entry, &lists.notes, recipients)?;
+    tell_each(&lists.owed, recipients, sessions, out)
 }
 
 /// Entries in their order.
@@ -90,8 +117,10 @@ pub fn look(
     ensures out { OnOk result (out.new.items ≡ out.old.items ++ all_written (kept_sends replica.old.guild entries.now sessions.old.sessions)) }
     ensures spent { MatchResult result (λ _. kept_spends replica.old.guild entries.now sessions.old.sessions ≡ false) (FaultBy (kept_spends replica.old.guild entries.now sessions.old.sessions)) }
 {
+    let mut lists = Lists::none(alloc);
     for entry in entries {
-        enter(alloc, replica, entry.edit(), recipients, sessions, out)?;
+        let edit = entry.edit();
+        enter(&mut lists, alloc, replica, edit, recipients, sessions, out)?;
     }
     Ok(())
 }

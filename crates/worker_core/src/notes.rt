@@ -30,6 +30,14 @@ impl Drop for Notes {
 }
 
 impl Notes {
+    /// No note. Does not allocate.
+    pub fn none(alloc: Global) -> Notes {
+        Notes {
+            noted: Vec::new(alloc),
+            whose: Vec::new(alloc),
+        }
+    }
+
     // The index of the note of an earlier viewer that is served alike.
     fn index_of_alike(
         &self,
@@ -74,26 +82,27 @@ impl Notes {
         Ok(at)
     }
 
-    /// What has to be known of the record before an entry.
-    pub fn of(
+    /// Makes these what has to be known of the record before an entry. The lists keep their memory.
+    pub fn update(
+        &mut self,
         alloc: Global,
         replica: &Replica,
         entry: &Edit,
         recipients: &Recipients,
-    ) -> Result<Notes, AllocError>
-        ensures { IfOk result (λ notes. Picks notes.noted.items notes.whose.items (map (λ v. was_of replica.now.guild v entry.now) recipients.now.viewers.items)) }
+    ) -> Result<(), AllocError>
+        ensures { OnOk result (Picks self.new.noted.items self.new.whose.items (map (λ v. was_of replica.now.guild v entry.now) recipients.now.viewers.items)) }
     {
         let count = recipients.viewers.len();
-        let mut notes = Notes {
-            // Most users have one shard, so one note; for more the list grows.
-            noted: Vec::with_capacity(alloc, recipients.users.len())?,
-            whose: Vec::with_capacity(alloc, count)?,
-        };
+        self.noted.clear();
+        self.whose.clear();
+        // Most users have one shard, so one note; for more the list grows.
+        self.noted.reserve(recipients.users.len())?;
+        self.whose.reserve(count)?;
         for index in 0..count {
-            let at = notes.index_for(alloc, replica, entry, recipients, index)?;
-            notes.whose.push(at)?;
+            let at = self.index_for(alloc, replica, entry, recipients, index)?;
+            self.whose.push(at)?;
         }
-        Ok(notes)
+        Ok(())
     }
 
     /// The note for the viewer at an index.

@@ -1,7 +1,8 @@
 //! The viewers of sessions: sessions of one viewer are due the same.
 
-ghost use Rattle.std.specs.Prelude.{◌≡◌, ◌↔◌, [], Some, map, slice_get, IfOk, OnOk, IsTrue};
+ghost use Rattle.std.specs.Prelude.{◌≡◌, ◌↔◌, [], Some, true, map, slice_get, IfOk, OnOk, IsTrue};
 ghost use Rattle.std.specs.Option.{option_copied};
+ghost use Rattle.worker_core.specs.Masks.{has_users};
 ghost use Rattle.worker_core.specs.Recipients.{AreServedAlike, Picks, IsLonger, picked_by, viewer_of};
 
 use dispatch_types::Viewer;
@@ -21,6 +22,8 @@ pub struct Recipients {
     users_of: Vec<usize>,
     /// For each viewer, by its index, the index of the first that is served alike.
     firsts: Vec<usize>,
+    /// The users are those of the viewers.
+    pub ghost complete: { has_users users.items viewers.items ≡ true },
 }
 
 impl Drop for Recipients {
@@ -54,7 +57,10 @@ fn index_of(viewers: &mut Vec<Viewer>, viewer: &Viewer) -> Result<usize, AllocEr
 }
 
 // The index of a user in a list, to which it is added if it is not in it.
-fn index_of_user(users: &mut Vec<Snowflake>, user: Snowflake) -> Result<usize, AllocError> {
+fn index_of_user(users: &mut Vec<Snowflake>, user: Snowflake) -> Result<usize, AllocError>
+    ensures found { IfOk result (λ index. slice_get users.new.items index ≡ Some user) }
+    ensures longer { OnOk result (IsLonger users.old.items users.new.items) }
+{
     if let Some(index) = users.iter().position(|one| *one == user) {
         return Ok(index);
     }

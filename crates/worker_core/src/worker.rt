@@ -1,6 +1,6 @@
 //! A worker: its state and its step.
 
-ghost use Rattle.std.specs.Prelude.{◌≡◌, ◌+◌, ◌-◌, ◌^◌, ℕ, List, [], ◌∷◌, false, true, max, min, flat_map, position, option_map, length, Some, None, Err, IfOk, OnOk, OnErr, MatchResult, IsSome};
+ghost use Rattle.std.specs.Prelude.{◌≡◌, ◌+◌, ◌-◌, ◌^◌, ℕ, List, [], ◌∷◌, false, true, max, min, map, flat_map, position, option_map, length, Some, None, Err, IfOk, OnOk, OnErr, MatchResult, IsSome};
 ghost use Rattle.std.specs.List.{list_all};
 ghost use Rattle.std.specs.Option.{option_map_or, option_copied};
 ghost use Rattle.collections.specs.ById.{IsById, find_id, has_id, put_id};
@@ -22,16 +22,18 @@ ghost use Rattle.world_law.specs.Frames.{move_at};
 ghost use Rattle.world_law.specs.Inputs.{Input as ModelInput, Look, Rebase, Open, Frame, Lost, Closed, Tick};
 ghost use Rattle.world_law.specs.Model.{Worker as ModelWorker, first_worker};
 ghost use Rattle.world_law.specs.Spent.{is_past};
-ghost use Rattle.worker_core.specs.InCode.{replica_id, in_code, kept_after, after_frame};
+ghost use Rattle.worker_core.specs.InCode.{replica_id, replica_of, bare, in_code, kept_after, after_frame};
 ghost use Rattle.worker_core.specs.Outputs.{IsGiven, written, all_written};
-ghost use Rattle.worker_core.specs.Represents.{Represents, StepsTo, Fails, Takes, TakesNot, TakesCounted, FaultBy, may_end, with_ended};
+ghost use Rattle.worker_core.specs.Represents.{Represents, StepsTo, Fails, Takes, TakesNot, TakesCounted, TakesWhole, FaultBy, may_end, with_ended};
 ghost use Rattle.worker_core.specs.Made.{all_dispatches, live_dispatches};
+ghost use Rattle.worker_core.specs.Masks.{Lends, has_kept_session, keep_masks};
 ghost use Rattle.worker_core.specs.Looked.{kept_looked, kept_sends, kept_spends};
 ghost use Rattle.worker_core.specs.Recipients.{viewer_of};
 ghost use Rattle.worker_core.specs.Telling.{TellsAt, FailsAt};
 ghost use Rattle.worker_core.specs.Replies.{Greets, GreetsNot, Replies, RepliesNot, greeted, Gives, GivesNot, is_plain, plain};
 
 use crate::io::{Input, Output, StepFault, put};
+use crate::keeping::{has_session, keep_each};
 use crate::look::{apply_each, look};
 use crate::made::{Made, counted_more, live_dispatches};
 use crate::ready::{guild_creates, ready_guilds};
@@ -44,6 +46,7 @@ use gateway_frames::{Ask, Out, VoiceAsk};
 use guild_model::{Guild, Status, User};
 use guild_replica::Replica;
 use log_entry::Entry;
+use mask_cache::Masks;
 use member_chunks::answer;
 use payload_text::Payload;
 use session_core::{Bot, Holder, Mark, Reply, SessionFault, Sessions, Spent};
@@ -89,11 +92,12 @@ impl Drop for Worker {
 }
 
 impl Model for Worker {
-    ghost use Rattle.worker_core.specs.InCode.{KeptWorker};
+    ghost use Rattle.std.specs.Prelude.{map};
+    ghost use Rattle.worker_core.specs.InCode.{KeptWorker, bare};
 
     ghost Value = { KeptWorker };
 
-    ghost view = { λ w. record { finished = w.finished; past = w.past; machine = record { url = w.url; now = w.clock; chunks = w.chunks; logs = w.replicas; core = w.sessions } } };
+    ghost view = { λ w. record { finished = w.finished; past = w.past; copies = w.replicas; machine = record { url = w.url; now = w.clock; chunks = w.chunks; logs = map bare w.replicas; core = w.sessions } } };
 }
 
 impl Worker {
@@ -139,11 +143,32 @@ impl Worker {
         if let Some(fault) = self.finished {
             return Err(fault);
         }
-        let given = self.take_counted(input);
+        let given = self.take_whole(input);
         if let Err(fault) = &given {
             self.finished = Some(*fault);
         }
         given
+    }
+
+    /// The masks of a user in a guild, by the worker's record of it (Permissions, Permission Overwrites). `None`
+    /// exactly if no live session of the user is served the guild. Does not allocate.
+    pub fn masks(&self, guild: Snowflake, user: Snowflake) -> Option<&Masks>
+        ensures { (w : ModelWorker) → Represents self.now w → Lends w guild user (option_copied result) }
+    {
+        let Some(replica) = self.replica(guild) else {
+            return None;
+        };
+        if !self.has_session(user, replica.guild()) {
+            return None;
+        }
+        replica.masks(user)
+    }
+
+    // Whether a session of a user is served a guild.
+    fn has_session(&self, user: Snowflake, guild: &Guild) -> bool
+        ensures { result ≡ has_kept_session self.now.machine.core.sessions user guild.now }
+    {
+        has_session(&self.sessions, user, guild)
     }
 
     /// The numbers of sessions and of dispatches that the worker has made. Does not allocate.
@@ -183,6 +208,28 @@ impl Worker {
     {
         let ended = before.saturating_sub(live_dispatches(&self.sessions));
         self.past = counted_more(self.past, ended);
+    }
+
+    /// Handles an input, and keeps the masks of each user who has a session then.
+    fn take_whole(&mut self, input: Input) -> Result<Vec<Output>, StepFault>
+        ensures { (i : ModelInput) → IsGiven input i → MatchResult result (λ out. TakesWhole self.old i self.new out.items) (TakesNot self.old i) }
+    {
+        let out = self.take_counted(input)?;
+        self.keep_masks()?;
+        Ok(out)
+    }
+
+    // Keeps the masks of each user who has a session, in each guild. Most often they are kept.
+    fn keep_masks(&mut self) -> Result<(), AllocError>
+        ensures same { OnOk result (self.new ≡ record self.old { copies = self.new.copies }) }
+        ensures kept { OnOk result (keep_masks self.new.copies self.old.machine.core.sessions ≡ true) }
+    {
+        self.recipients.update(self.alloc, &self.sessions)?;
+        keep_each(
+            self.alloc,
+            &mut self.replicas,
+            self.recipients.users.as_slice(),
+        )
     }
 
     /// Handles an input, and counts the dispatches of the sessions that end by it.
@@ -235,10 +282,10 @@ impl Worker {
 
     /// Takes the replica of a guild out of the worker, which has an empty one instead.
     fn take_replica(&mut self, guild: Snowflake) -> Option<Replica>
-        ensures found { result ≡ find_id replica_id guild self.old.machine.logs }
+        ensures found { option_map bare result ≡ find_id replica_id guild self.old.machine.logs }
         ensures none { result ≡ None → self.new ≡ self.old }
         ensures taken { (r : Replica) → result ≡ Some r
-            → self.new ≡ record self.old { machine = record self.old.machine { logs = put_id replica_id (record { guild = closed guild }) self.old.machine.logs } } }
+            → self.new ≡ record self.old { copies = self.new.copies; machine = record self.old.machine { logs = put_id replica_id (replica_of (closed guild)) self.old.machine.logs } } }
         ensures ascend { IsById replica_id self.old.machine.logs }
     {
         if !self.has_replica(guild) {
@@ -260,7 +307,7 @@ impl Worker {
 
     fn put_replica(&mut self, replica: Replica)
         requires { IsSome (find_id replica_id (replica_id replica) self.old.machine.logs) }
-        ensures { self.new ≡ record self.old { machine = record self.old.machine { logs = put_id replica_id replica self.old.machine.logs } } }
+        ensures { self.new ≡ record self.old { copies = self.new.copies; machine = record self.old.machine { logs = put_id replica_id (bare replica) self.old.machine.logs } } }
     {
         self.replicas.replace(replica);
     }
@@ -317,7 +364,7 @@ impl Worker {
 
     /// Replaces the record of a guild by this one with entries more.
     fn replace_record(&mut self, basis: Guild, entries: &[Entry]) -> Result<(), AllocError>
-        ensures { OnOk result (self.new ≡ record self.old { machine = record self.old.machine { logs = put_id replica_id (record { guild = state_from basis entries.now }) self.old.machine.logs } }) }
+        ensures { OnOk result (self.new ≡ record self.old { copies = self.new.copies; machine = record self.old.machine { logs = put_id replica_id (replica_of (state_from basis entries.now)) self.old.machine.logs } }) }
     {
         let mut guild = basis;
         apply_each(self.alloc, &mut guild, entries)?;
@@ -489,13 +536,14 @@ impl Worker {
     }
 
     fn replicas(&self) -> &[Replica]
-        ensures { result.now ≡ self.now.machine.logs }
+        ensures { map bare result.now ≡ self.now.machine.logs }
     {
         self.replicas.as_slice()
     }
 
     fn replica(&self, guild: Snowflake) -> Option<&Replica>
-        ensures { option_copied result ≡ find_id replica_id guild self.now.machine.logs }
+        ensures copied { option_copied result ≡ find_id replica_id guild self.now.copies }
+        ensures found { option_map bare (option_copied result) ≡ find_id replica_id guild self.now.machine.logs }
     {
         self.replicas.get(guild.0)
     }

@@ -7,6 +7,7 @@ use Rattle.guild_model.specs.Record.{Record}
 use Rattle.guild_model.specs.Tests.{outcome}
 use Rattle.edit_apply.specs.Edits.{verdict, accepts}
 use Rattle.worker_core.proofs.Looking.{none_told}
+use Rattle.guild_replica.specs.Replicas.{GuildCopy}
 use Rattle.worker_core.proofs.look.enter.Goals as goal
 
 refused_by : (v : Option Verdict) → is_err (outcome v) ≡ true → is_none v ≡ false
@@ -28,4 +29,4 @@ returns-clause-told c =
     let g = c.args.replica.now.guild in
     let e = c.args.entry.now in
     let accepted : accepts g e ≡ true = accepted_by (verdict g e) (ap (λ (s : Record). is_err (outcome (verdict s e))) (sym c.guild.ensures) ∙ (ap is_err (sym c.judge.ensures) ∙ (sym c.is_err.ensures.value ∙ c.if-is_err.false))) in
-    c.tell_each.ensures g e (c.in_ok-lists.ensures g c.in_ok-notes.ensures c.in_ok-make.ensures accepted)
+    c.tell_each.ensures g e (c.in_ok-update-2.ensures g c.in_ok-update.ensures (ap (λ (r : GuildCopy). r.guild) c.in_ok-make.ensures) accepted)

@@ -29,7 +29,7 @@ returns-in_err-enter-clause-spent c =
     rw p.1 (subst (λ (f : StepFault). FaultBy (kept_spends c.args.replica.now.guild es c.args.sessions.now.sessions) f) (sym p.2)
     (subst (λ b. FaultBy b fault) c.loop-entry.invariant.spent
     (subst (λ (ds : List Edit). FaultBy (kept_spends g ds c.loop-entry.sessions.sessions) fault) (sym rest)
-    (spent_first g e (drop (i + 1) es) c.loop-entry.sessions fault (rw c.edit.ensures at c.in_err-enter.ensures.told)))))
+    (spent_first g e (drop (i + 1) es) c.loop-entry.sessions fault (rw c.edit-edit.ensures at c.in_err-enter.ensures.told)))))
 
 pub loop-entry-preserved : goal.loop-entry-preserved
 loop-entry-preserved c =
@@ -41,8 +41,8 @@ loop-entry-preserved c =
     let later : List Edit = drop (i + 1) es in
     let lt : i < length es = omega arith in
     let rest : drop i es ≡ e ∷ later = rest_dropped es i e lt (sym c.entry-item.is) in
-    let told = rw c.edit.ensures at c.in_ok-enter.ensures.told in
-    let now = rw c.edit.ensures at c.in_ok-enter.ensures.guild in
+    let told = rw c.edit-edit.ensures at c.in_ok-enter.ensures.told in
+    let now = rw c.edit-edit.ensures at c.in_ok-enter.ensures.guild in
     record {
       recipients = subst (λ (vs : List Viewer). Picks c.args.recipients.now.viewers.items c.args.recipients.now.whose.items vs)
           (sym (ap (λ (n : State Replay). map viewer_of n.sessions) told.0 ∙ viewers_stay g e s.sessions)) c.loop-entry.invariant.recipients;

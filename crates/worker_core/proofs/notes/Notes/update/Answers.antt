@@ -4,7 +4,7 @@ use Rattle.std.specs.Prelude.{option_map}
 use Rattle.dispatch_types.specs.declared.viewer.Viewer.{Viewer}
 use Rattle.edit_events.specs.Was.{was_of}
 use Rattle.worker_core.proofs.Picking.{item_at, picks_next}
-use Rattle.worker_core.proofs.notes.Notes.of.Goals as goal
+use Rattle.worker_core.proofs.notes.Notes.update.Goals as goal
 
 pub loop-index-preserved : goal.loop-index-preserved
 loop-index-preserved c =
@@ -14,5 +14,5 @@ loop-index-preserved c =
     let lt : i < length vs = omega arith in
     let here = item_at vs i lt in
     let pushed = c.in_ok-push.ensures.items ∙ ap (λ (ks : List ℕ). ks ++ c.in_ok-at.at ∷ []) c.index_for.ensures.whose in
-    picks_next note_of vs i here c.loop-index.notes.noted.items c.index_for.new.self.noted.items c.loop-index.notes.whose.items c.push.new.self.items c.in_ok-at.at lt
+    picks_next note_of vs i here c.loop-index.self.noted.items c.index_for.new.self.noted.items c.loop-index.self.whose.items c.push.new.self.items c.in_ok-at.at lt
     c.loop-index.invariant c.in_ok-at.ensures.longer pushed (c.in_ok-at.ensures.found c.loop-index.invariant ∙ ap (option_map note_of) here.found)

@@ -1,17 +1,17 @@
 -- One viewer more.
-use Rattle.std.proofs.Common.{◌≡◌, ◌<◌, List, Some, length, map, sym, ap, ◌∙◌, arith}
+use Rattle.std.proofs.Common.{◌≡◌, ◌<◌, ℕ, List, [], ◌∷◌, ◌++◌, Some, length, map, sym, ap, ◌∙◌, arith}
 use Rattle.std.specs.Prelude.{slice_get}
 use Rattle.std.proofs.lemmas.Option.{get_or_from_slice_get, none-some, same_Some}
 use Rattle.dispatch_types.specs.declared.viewer.Viewer.{Viewer}
 use Rattle.edit_events.specs.Due.{due}
 use Rattle.edit_events.specs.Was.{was_of}
-use Rattle.worker_core.proofs.due.DueDispatches.of.Goals as goal
+use Rattle.worker_core.proofs.due.DueDispatches.update.Goals as goal
 use Rattle.worker_core.proofs.Noting.{noted_at}
 use Rattle.worker_core.proofs.Picking.{item_at, picks_next}
 
 pub loop-index-init : goal.loop-index-init
 loop-index-init c s noted is accepted =
-    (ap (map (slice_get c.new-lists.result.told.items)) c.in_ok-whose.ensures.items, λ f index v at formed. absurd (cc (c.new-lists.ensures.forms (Some f), at)))
+    (ap (map (slice_get c.clear.new.self.items)) (c.in_ok-reserve.ensures.items ∙ c.clear-2.ensures.items), λ f index v at formed. absurd (cc (c.new-self.ensures (Some f), at)))
 
 -- each viewer has a note
 pub returns-in_default : goal.returns-in_default
@@ -35,7 +35,8 @@ loop-index-preserved c s noted is accepted =
     c.in-Some.ensures ∙ noted_at s e vs i c.args.notes.now.noted.items c.args.notes.now.whose.items here.item noted here.found in
     let noted_here : c.in-Some.was.now ≡ was_of s v e = same_Some _ _ kept ∙ ap (λ (w : Viewer). was_of s w e) (sym viewed) in
     let both = c.in_ok-due.ensures.due s noted_here is accepted (c.loop-index.invariant s noted is accepted).1 in
+    let pushed = c.in_ok-push.ensures.items ∙ ap (λ (ks : List ℕ). ks ++ c.in_ok-due.due ∷ []) c.index_for.ensures.whose in
     let picks =
-    picks_next (due s e) vs i here c.loop-index.lists.told.items c.index_for.new.self.told.items c.loop-index.whose.items c.push.new.self.items c.in_ok-due.due lt
-    (c.loop-index.invariant s noted is accepted).0 c.in_ok-due.ensures.longer c.in_ok-push.ensures.items (both.0 ∙ ap (λ (w : Viewer). Some (due s e w)) viewed) in
+    picks_next (due s e) vs i here c.loop-index.self.told.items c.index_for.new.self.told.items c.loop-index.self.whose.items c.push.new.self.items c.in_ok-due.due lt
+    (c.loop-index.invariant s noted is accepted).0 c.in_ok-due.ensures.longer pushed (both.0 ∙ ap (λ (w : Viewer). Some (due s e w)) viewed) in
     (picks, both.1)

@@ -11,7 +11,7 @@ use Rattle.edit_events.specs.declared.due.Was.{Was}
 use Rattle.worker_core.specs.declared.form_index.FormIndex.{FormIndex}
 use Rattle.worker_core.specs.Forms.{AreDue}
 use Rattle.worker_core.proofs.Forms.{due_longer, due_kept}
-use Rattle.worker_core.proofs.due.DueLists.index_for.Goals as goal
+use Rattle.worker_core.proofs.due.DueDispatches.index_for.Goals as goal
 
 pub returns-clause-due : goal.returns-clause-due
 returns-clause-due c s noted is accepted are =
