@@ -22,10 +22,10 @@ use Rattle.world_law.specs.Keeping.{record_at}
 use Rattle.world_law.specs.Sent.{Sent}
 use Rattle.world_law.specs.Model.{Worker}
 use Rattle.world_law.proofs.Folds.{same_id}
-use Rattle.worker_core.specs.InCode.{KeptWorker, bare, guild_of, in_code, replica_id, wire_model}
+use Rattle.worker_core.specs.InCode.{KeptWorker, bare, guild_of, replica_id, wire_model}
 use Rattle.worker_core.specs.Masks.{AllKeep, Lends, has_kept_session, has_session, has_users, is_served, keep_masks, keeps_masks}
 use Rattle.worker_core.specs.Recipients.{IsLonger, Picks, viewer_of}
-use Rattle.worker_core.specs.Represents.{Represents, counted, kept, kept_session}
+use Rattle.worker_core.specs.Represents.{Represents, kept_session}
 use Rattle.worker_core.proofs.Picking.{Item}
 use Rattle.worker_core.proofs.Records.{find_guild}
 use Rattle.worker_core.proofs.Representing.{found_kept}

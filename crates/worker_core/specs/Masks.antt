@@ -11,7 +11,6 @@ use Rattle.replay_ring.specs.Replay.{Replay}
 use Rattle.session_core.specs.State.{Session, is_live}
 use Rattle.guild_replica.specs.Replicas.{GuildCopy}
 use Rattle.world_law.specs.Keeping.{record_at}
-use Rattle.world_law.specs.Sent.{Sent}
 use Rattle.world_law.specs.Model.{Worker}
 use Rattle.worker_core.specs.InCode.{wire_model}
 

@@ -1,6 +1,6 @@
 //! What a worker is given, what it sends, and why it stops.
 
-ghost use Rattle.std.specs.Prelude.{◌≡◌, [], ◌∷◌, ◌++◌, IfOk, OnOk};
+ghost use Rattle.std.specs.Prelude.{◌≡◌, [], ◌∷◌, ◌++◌, OnOk};
 ghost use Rattle.worker_core.specs.Represents.{may_end_by};
 
 use crate::wished_edit::WishedEdit;

@@ -1,5 +1,5 @@
 -- One viewer more.
-use Rattle.std.proofs.Common.{◌≡◌, ◌<◌, length, take, take_all, refl, sym, ap, ◌∙◌, arith}
+use Rattle.std.proofs.Common.{◌≡◌, ◌<◌, length, take_all, refl, sym, ap, ◌∙◌, arith}
 use Rattle.std.proofs.lemmas.Option.{get_or_from_slice_get}
 use Rattle.dispatch_types.specs.declared.viewer.Viewer.{Viewer}
 use Rattle.worker_core.specs.Masks.{has_users}

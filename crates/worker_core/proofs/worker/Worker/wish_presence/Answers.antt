@@ -4,7 +4,7 @@ use Rattle.std.specs.Prelude.{OnOk, flat_map}
 use Rattle.wishes.specs.Wishes.{presence_wish}
 use Rattle.world_law.specs.Wants.{wished}
 use Rattle.guild_replica.specs.Replicas.{GuildCopy}
-use Rattle.worker_core.specs.InCode.{bare, replica_id}
+use Rattle.worker_core.specs.InCode.{replica_id}
 use Rattle.worker_core.specs.Outputs.{all_written}
 use Rattle.worker_core.proofs.Records.{of_bare}
 use Rattle.worker_core.proofs.worker.Worker.wish_presence.Goals as goal
