@@ -1,6 +1,5 @@
-use Rattle.std.proofs.Common.{◌≡◌, ◌∙◌, refl, ap, ap₂, subst, map, length, string_bytes, arith}
+use Rattle.std.proofs.Common.{◌≡◌, ◌∙◌, ap, ap₂, subst, map, length, arith}
 use Rattle.std.specs.List.{All, range_with_len}
-use Rattle.std.proofs.lemmas.Result.{IfOk-weaker}
 use Rattle.guild_hub.specs.Logs.{whole_record}
 use Rattle.log_summary.specs.Summary.{summary_text}
 use Rattle.gate_ends.proofs.Zips.{many_zip}
@@ -25,12 +24,10 @@ returns g c =
     let agree = subst (λ l. AllAgreeSo (map (λ log. whole_record log.1) l) 0 clients agrees) c.deref-3.ensures.value
     (subst (λ l. AllAgreeSo (map (λ log. whole_record log.1) c.deref-3.result.now) 0 l agrees) c.deref-2.ensures.value c.in_ok-agrees.ensures) in
     let ran = all_clients logs c.requires.clients.0 0 12 clients agrees c.requires.clients.1 finished agree in
-    IfOk-weaker c.summary.result (λ text. string_bytes text ≡ summary_text c.args.seed c.deref-4.result.now c.deref-5.result.now) (λ text. IsLoad c.args.seed (string_bytes text))
-    (λ text same. record {
+    record {
       logs = logs;
       are_logs = c.in_ok-settled.ensures c.args.seed c.requires.senders;
       agrees = agrees;
       clients = ran;
-      text_is = same ∙ ap₂ (summary_text c.args.seed) c.deref-4.ensures.value c.deref-5.ensures.value;
-    })
-    c.summary.ensures
+      text_is = c.in_ok-text.ensures ∙ ap₂ (summary_text c.args.seed) c.deref-4.ensures.value c.deref-5.ensures.value;
+    }
