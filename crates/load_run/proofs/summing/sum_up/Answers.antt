@@ -1,11 +1,10 @@
-use Rattle.std.proofs.Common.{◌≡◌, ◌∙◌, ap, ap₂, subst, map, length, arith}
+use Rattle.std.proofs.Common.{◌≡◌, ◌∙◌, refl, ap, ap₂, subst, map, length, arith}
 use Rattle.std.specs.List.{All, range_with_len}
 use Rattle.guild_hub.specs.Logs.{whole_record}
 use Rattle.log_summary.specs.Summary.{summary_text}
 use Rattle.gate_ends.proofs.Zips.{many_zip}
 use Rattle.load_run.specs.Ends.{HasFinished, AllAgreeSo}
 use Rattle.load_run.specs.Joined.{ClientEnds}
-use Rattle.load_run.specs.Loads.{IsLoad}
 use Rattle.load_run.proofs.Clients.{all_clients}
 use Rattle.load_run.proofs.summing.sum_up.Goals as goal
 
