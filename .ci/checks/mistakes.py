@@ -340,14 +340,14 @@ def try_threads(gate, folder):
 
 
 def try_each_start(gate, folder):
-    """A server of two actors, a script and a worker, of whose four threads each in turn does not start; a library makes it so."""
+    """A server of two actors, a script and a worker, whose threads do not start from one of the four on; a library makes it so."""
     if not shutil.which("gcc"):
         print("mistakes: each thread of serve: not tried: there is no gcc")
         return
     library = os.path.join(folder, "refused.so")
     subprocess.run(["gcc", "-O2", "-shared", "-fPIC", "-o", library, "bench/refused/refused.c", "-ldl"], check=True)
     for start in range(1, 5):
-        port, env = str(free_port(1)), dict(os.environ, LD_PRELOAD=library, REFUSED_START=str(start))
+        port, env = str(free_port(1)), dict(os.environ, LD_PRELOAD=library, REFUSED_START=str(start), REFUSED_ON="1")
         told = said(8, f"a thread of serve {port} did not start", "docs/SERVE.md")
         run = subprocess.run([gate, "serve", port, "1", "1", "examples/clients/edits.jsonl"], capture_output=True, timeout=60, env=env)
         compare(f"start {start} of serve fails", (8, "", told), (run.returncode, run.stdout.decode(), run.stderr.decode()))

@@ -1,7 +1,7 @@
 // An allocator that refuses allocations of a program: that with the number REFUSED_AT, from 1, and with REFUSED_ON all
 // after it too. Those that the C library makes for itself while it starts a thread are not counted. At the end it
-// writes how many there were to the file REFUSED_COUNT. The start of the thread with the number REFUSED_START fails. A library
-// beside it may say by `refuse` which allocation is refused, and where they are counted.
+// writes how many there were to the file REFUSED_COUNT. The start of a thread with the number REFUSED_START fails, and with
+// REFUSED_ON each after it. A library beside it may say by `refuse` which allocation is refused, and where they are counted.
 #define _GNU_SOURCE
 #include <dlfcn.h>
 #include <errno.h>
@@ -81,7 +81,8 @@ int posix_memalign(void **to, size_t align, size_t size) {
 
 int pthread_create(pthread_t *to, const pthread_attr_t *attributes, void *(*run)(void *), void *given) {
     static int (*real)(pthread_t *, const pthread_attr_t *, void *(*)(void *), void *);
-    if (atomic_fetch_add(&starts, 1) + 1 == start) return EAGAIN;
+    unsigned long number = atomic_fetch_add(&starts, 1) + 1;
+    if (start && (number == start || (on && number > start))) return EAGAIN;
     inside++;
     if (!real) real = (int (*)(pthread_t *, const pthread_attr_t *, void *(*)(void *), void *))dlsym(RTLD_NEXT, "pthread_create");
     int answer = real(to, attributes, run, given);

@@ -1,20 +1,32 @@
 //! The word by which all parts of a run begin.
 
-use gate_outside::machine_clock::PAUSE_MS;
 use std::alloc::{AllocError, Global};
-use std::sync::atomic::{AtomicBool, Ordering};
 use std::sync::{Arc, Wait};
-use std::thread;
-use std::time::{Clock, Duration};
+use std::time::Duration;
+use wake_bell::Bell;
+
+/// How many bytes a thread asks for before its part begins.
+const ROOM: usize = 4 << 20;
+
+/// A part that waits for the word looks for it again after so many milliseconds, if no ring woke it.
+const REST_MS: u64 = 1000;
+
+// Takes memory and gives it back, so that the heap of this thread grows by one call of the system. The C library
+// grows it a page at a time otherwise, and no other thread of the process gets a page during such a call. If the
+// memory is refused, that is how it grows.
+fn make_room(alloc: Global) {
+    drop(Vec::<u8>::with_capacity(alloc, ROOM));
+}
 
 /// The word by which all parts of a run begin. Each part has a share of it.
 pub struct StartWord {
-    given: Arc<AtomicBool, Global>,
+    alloc: Global,
+    given: Arc<Bell, Global>,
 }
 
 impl Drop for StartWord {
     fn drop(self) {
-        let StartWord { given } = self;
+        let StartWord { alloc: _, given } = self;
         drop(given);
     }
 }
@@ -25,8 +37,11 @@ impl StartWord {
     /// # Errors
     /// Out of memory.
     pub fn new(alloc: Global) -> Result<StartWord, AllocError> {
+        // A first piece of this size comes from the system. Those after it come from the heaps.
+        make_room(alloc);
         Ok(StartWord {
-            given: Arc::new(alloc, AtomicBool::new(false))?,
+            alloc,
+            given: Arc::new(alloc, Bell::new())?,
         })
     }
 
@@ -36,22 +51,24 @@ impl StartWord {
     /// Out of memory.
     pub fn share(&self) -> Result<StartWord, AllocError> {
         Ok(StartWord {
+            alloc: self.alloc,
             given: Arc::try_clone(&self.given)?,
         })
     }
 
     /// Gives the word: every part that waits for it begins. The call does not allocate.
     pub fn give(&self) {
-        self.given.store(true, Ordering::SeqCst);
+        self.given.ring();
     }
 
-    /// Waits until the word is given. It looks again each millisecond.
-    pub fn wait<R: Wait + Clock>(&self, rt: &R) {
+    /// Waits until the word is given. Before that it makes the heap of its thread larger.
+    pub fn wait<R: Wait>(&self, rt: &R) {
+        make_room(self.alloc);
         for _ in rt.forever() {
-            if self.given.load(Ordering::SeqCst) {
+            if self.given.heard() > 0 {
                 return;
             }
-            thread::sleep(rt, Duration::from_millis(PAUSE_MS));
+            self.given.rest(rt, 0, Duration::from_millis(REST_MS));
         }
         unreachable!()
     }

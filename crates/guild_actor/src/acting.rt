@@ -22,8 +22,8 @@ use wake_bell::Bell;
 // For so many milliseconds at most an actor rests that finds nothing to take.
 const REST_MS: u64 = 1;
 
-// Publishes what it takes, in order, until every sender has ended, and rings after each. After an `Err`
-// all requests that were taken are published but for the last.
+// Publishes what it takes, in order, until every sender has ended. It rings each time that it has taken all
+// that waited. After an `Err` all requests that were taken are published but for the last.
 fn deliver_all<R: Wait + Drop>(
     rt: &R,
     post: &Post<R>,
@@ -38,14 +38,19 @@ fn deliver_all<R: Wait + Drop>(
     ensures ok { OnOk result (desk.new ≡ held_after desk.old.writers pass.new.taken) }
     ensures err { OnErr result ((requests : List Request) × (last : Request) × (pass.new.taken ≡ requests ++ last ∷ []) × (logs_of desk.new.writers ≡ logs_of (held_after desk.old.writers requests).writers)) }
 {
+    let mut rung = true;
     for _ in rt.forever() {
         let heard = post.bell().heard();
         match post.take(pass) {
             Some(request) => {
                 desk.deliver(request)?;
-                shown.ring();
+                rung = false;
             }
             None => {
+                if !rung {
+                    shown.ring();
+                    rung = true;
+                }
                 if post.ended(pass) {
                     return Ok(());
                 }
@@ -57,9 +62,9 @@ fn deliver_all<R: Wait + Drop>(
 }
 
 /// Publishes what it takes from a post, in order, each request in the log of its guild, until every
-/// sender has ended; then it seals every log. It rings `shown` after each request, and after the seals.
-/// While nothing comes it rests until a sender has sent, and looks again at the latest after a
-/// millisecond. It waits for the senders.
+/// sender has ended; then it seals every log. It rings `shown` each time that it has published all that
+/// waited, and after the seals. While nothing comes it rests until a sender has sent, and looks again at
+/// the latest after a millisecond. It waits for the senders.
 ///
 /// # Errors
 /// Out of memory. All requests that were taken are then published but for the last, and every log that

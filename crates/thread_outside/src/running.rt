@@ -49,8 +49,8 @@ fn run_or_back<T: Task>(task: T, go: &AtomicBool) -> Outcome<T, T::Done>
     }
 }
 
-/// Starts a thread that runs the task. The task comes back where memory or threads are wanting.
-pub fn begin<T: Task + Drop + Send + 'static, R: Threads>(
+// Starts a thread that runs the task. The task comes back if the system refuses.
+fn try_begin<T: Task + Drop + Send + 'static, R: Threads>(
     runtime: &R,
     alloc: Global,
     task: T,
@@ -86,6 +86,24 @@ where
                 }),
             }
         }
+    }
+}
+
+/// Starts a thread that runs the task. What was wanting may be there a moment later, so a start that the system refuses
+/// is asked for once more (pthread_create(3), EAGAIN). The task comes back where memory or threads are wanting both times.
+pub fn begin<T: Task + Drop + Send + 'static, R: Threads>(
+    runtime: &R,
+    alloc: Global,
+    task: T,
+) -> Result<Running<T>, T>
+where
+    T::Done: Send + Drop + 'static,
+    ensures held { IfOk result (λ h. h ≡ task) }
+    ensures back { IfErr result (λ t. t ≡ task) }
+{
+    match try_begin(runtime, alloc, task) {
+        Ok(running) => Ok(running),
+        Err(task) => try_begin(runtime, alloc, task),
     }
 }
 
