@@ -1,7 +1,7 @@
 //! The grammar of the words, as `clap` has it.
 
 ghost use Rattle.std.specs.Prelude.{◌≡◌, false, IfOk, codes};
-ghost use Rattle.clap.specs.Words.{app_of, new_app, rule_of};
+ghost use Rattle.clap.specs.Words.{app_of, new_app, rule_of, with_rule};
 ghost use Rattle.serve_words.specs.Grammar.{required, files, one_word, serve, client, without_help, gate, HasNoGlobals};
 
 use clap::Arg;
@@ -23,6 +23,27 @@ fn files<'a>(alloc: Global) -> Arg<'a>
     required(alloc, "FILES").num_args(1..=12)
 }
 
+// A command with one positional more.
+fn with_arg<'a>(command: clap::Command<'a>, arg: Arg<'a>) -> Result<clap::Command<'a>, AllocError>
+    requires { arg.global ≡ false }
+    ensures app { IfOk result (λ more. app_of more ≡ with_rule (app_of command.entry) (rule_of arg.entry)) }
+    ensures globals { HasNoGlobals command.entry → IfOk result HasNoGlobals }
+{
+    command.arg(arg)
+}
+
+// A command with one positional more, which is required.
+fn with_word<'a>(
+    alloc: Global,
+    command: clap::Command<'a>,
+    word: &'a str,
+) -> Result<clap::Command<'a>, AllocError>
+    ensures app { IfOk result (λ more. app_of more ≡ with_rule (app_of command.entry) (required word.entry.now)) }
+    ensures globals { HasNoGlobals command.entry → IfOk result HasNoGlobals }
+{
+    with_arg(command, required(alloc, word))
+}
+
 // A subcommand with one positional, which is required.
 fn one_word<'a>(
     alloc: Global,
@@ -32,7 +53,7 @@ fn one_word<'a>(
     ensures app { IfOk result (λ command. app_of command ≡ one_word name.entry.now word.entry.now) }
     ensures globals { IfOk result HasNoGlobals }
 {
-    clap::Command::new(alloc, name).arg(required(alloc, word))
+    with_word(alloc, clap::Command::new(alloc, name), word)
 }
 
 // The subcommand `serve`.
@@ -40,10 +61,10 @@ fn serve<'a>(alloc: Global) -> Result<clap::Command<'a>, AllocError>
     ensures app { IfOk result (λ command. app_of command ≡ serve) }
     ensures globals { IfOk result HasNoGlobals }
 {
-    one_word(alloc, "serve", "PORT")?
-        .arg(required(alloc, "WORKERS"))?
-        .arg(required(alloc, "ACCEPTS"))?
-        .arg(files(alloc))
+    let command = one_word(alloc, "serve", "PORT")?;
+    let command = with_word(alloc, command, "WORKERS")?;
+    let command = with_word(alloc, command, "ACCEPTS")?;
+    with_arg(command, files(alloc))
 }
 
 // The subcommand `client`.
@@ -51,10 +72,10 @@ fn client<'a>(alloc: Global) -> Result<clap::Command<'a>, AllocError>
     ensures app { IfOk result (λ command. app_of command ≡ client) }
     ensures globals { IfOk result HasNoGlobals }
 {
-    one_word(alloc, "client", "URL")?
-        .arg(required(alloc, "TOKEN"))?
-        .arg(required(alloc, "INTENTS"))?
-        .arg(required(alloc, "COUNT"))
+    let command = one_word(alloc, "client", "URL")?;
+    let command = with_word(alloc, command, "TOKEN")?;
+    let command = with_word(alloc, command, "INTENTS")?;
+    with_word(alloc, command, "COUNT")
 }
 
 // The command without its subcommands. It takes neither the name of the program nor words for help.
