@@ -5,7 +5,7 @@ use Rattle.edit_post.specs.Post.{PostId, Taker, new_taker}
 use Rattle.gate_outside.specs.Clocks.{ClockTale}
 use Rattle.gate_outside.specs.Doors.{DoorTale}
 use Rattle.guild_hub.specs.Writes.{Publishing}
-use Rattle.worker_core.specs.declared.io.Input.{Input as Given}
+use Rattle.worker_run.specs.Works.{Given}
 use Rattle.gate_parts.specs.Actors.{Acts, ActorGives}
 use Rattle.gate_parts.specs.Workers.{WorkerGives, outside_before, outside_after}
 use Rattle.gate_parts.specs.declared.actor_part.ActorPart.{ActorPart}

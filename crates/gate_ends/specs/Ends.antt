@@ -5,8 +5,7 @@ use Rattle.guild_hub.specs.Writes.{Publishing}
 use Rattle.run_ends.specs.Senders.{new_passes}
 use Rattle.run_stage.specs.Dealing.{dealt_to}
 use Rattle.run_stage.specs.Hubs.{new_reader}
-use Rattle.worker_core.specs.InCode.{KeptWorker}
-use Rattle.worker_run.specs.Works.{Outside}
+use Rattle.worker_run.specs.Works.{KeptWorker, Outside}
 use Rattle.gate_parts.specs.Actors.{Acts}
 use Rattle.gate_parts.specs.Workers.{WorksOrStops}
 use Rattle.gate_parts.specs.declared.actor_part.ActorDone.{ActorDone}

@@ -3,10 +3,8 @@ use Rattle.std.specs.Prelude.{◌≡◌, ℕ, List, map, Option, Result}
 use Rattle.edit_post.specs.Post.{after_end}
 use Rattle.gate_outside.specs.Clocks.{ClockTale}
 use Rattle.gate_outside.specs.Doors.{DoorTale}
-use Rattle.worker_core.specs.InCode.{KeptWorker}
-use Rattle.worker_core.specs.declared.io.Input.{Input as Given}
 use Rattle.worker_run.specs.Histories.{History}
-use Rattle.worker_run.specs.Works.{Outside, outside, Works}
+use Rattle.worker_run.specs.Works.{Given, KeptWorker, Outside, outside, Works}
 use Rattle.worker_run.specs.declared.fault.WorkFault.{WorkFault}
 use Rattle.worker_run.specs.declared.report.WorkReport.{WorkReport}
 use Rattle.gate_parts.specs.declared.ending.Ending.{Ending}

@@ -17,8 +17,7 @@ use std::alloc::Global;
 use std::sync::Wait;
 use std::time;
 use stop_flag::StopSeat;
-use worker_core::{Input, Worker};
-use worker_run::{WorkFault, WorkReport, work};
+use worker_run::{Input, WorkFault, WorkReport, Worker, work};
 
 /// A worker's part of a run.
 pub struct WorkerPart<D, C, J, R: Drop> {

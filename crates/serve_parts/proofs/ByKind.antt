@@ -10,7 +10,8 @@ use Rattle.gate_parts.specs.declared.actor_part.ActorPart.{ActorPart}
 use Rattle.gate_parts.specs.declared.actor_part.ActorDone.{ActorDone}
 use Rattle.gate_parts.specs.declared.worker_part.WorkerPart.{WorkerPart}
 use Rattle.gate_parts.specs.declared.worker_part.WorkerDone.{WorkerDone}
-use Rattle.load_parts.proofs.OneKind.{own, other, in_front}
+use Rattle.load_parts.proofs.OneKind.{own, in_front}
+pub use Rattle.load_parts.proofs.OneKind.{other}
 use Rattle.serve_parts.specs.declared.file_part.FilePart.{FilePart}
 use Rattle.serve_parts.specs.declared.file_part.FileDone.{FileDone}
 use Rattle.serve_parts.specs.declared.serve_part.ServePart.{ServePart}

@@ -18,7 +18,7 @@ use Rattle.serve_parts.specs.declared.serve_part.ServePart.{ServePart}
 use Rattle.serve_parts.specs.declared.serve_part.ServePart.TheVariants as part
 use Rattle.serve_parts.specs.declared.serve_part.ServeDone.{ServeDone}
 use Rattle.serve_parts.specs.declared.serve_part.ServeDone.TheVariants as done
-use Rattle.load_parts.proofs.OneKind.{other}
+use Rattle.serve_parts.proofs.ByKind.{other}
 use Rattle.serve_stage.specs.Parts.{IsActor, IsScript, IsWorker}
 use Rattle.serve_stage.specs.Stages.{AreLent, IsStage, senders_of}
 use Rattle.serve_stage.specs.declared.lent.Lent.{Lent}

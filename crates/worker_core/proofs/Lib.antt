@@ -12,3 +12,4 @@ pub mod Moving
 pub mod Counting
 pub mod Noting
 pub mod Masks
+pub mod Viewing

@@ -5,7 +5,7 @@ use Rattle.std.specs.List.{list_any}
 use Rattle.guild_model.specs.Record.{Record}
 use Rattle.edit_apply.specs.Edits.{after}
 use Rattle.edit_apply.specs.declared.Edit.{Edit}
-use Rattle.edit_events.specs.Due.{due}
+pub use Rattle.edit_events.specs.Due.{due}
 use Rattle.session_core.specs.State.{Session}
 use Rattle.replay_ring.specs.Replay.{Replay}
 use Rattle.world_law.specs.Outputs.{Output}

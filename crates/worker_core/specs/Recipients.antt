@@ -1,5 +1,5 @@
 -- The viewers of sessions, and what is picked from a list by indexes.
-use Rattle.std.specs.Prelude.{◌≡◌, ℕ, List, ◌++◌, Option, Some, None, map, slice_get}
+use Rattle.std.specs.Prelude.{◌≡◌, ℕ, List, ◌++◌, Bool, true, Option, Some, None, map, slice_get}
 use Rattle.dispatch_types.specs.declared.viewer.Viewer.{Viewer}
 use Rattle.session_core.specs.State.{Session}
 use Rattle.replay_ring.specs.Replay.{Replay}
@@ -10,6 +10,10 @@ viewer_of x = x.viewer
 -- each of these stands in a list at its index
 abbrev pub Picks : {A : Type 0} → List A → List ℕ → List A → Type 0
 Picks items indexes picked = map (slice_get items) indexes ≡ map (λ x. Some x) picked
+
+-- where it is known, these are the viewers of the sessions
+abbrev pub AreKnown : Bool → List Viewer → List ℕ → List (Session Replay) → Type 0
+AreKnown known viewers whose xs = known ≡ true → Picks viewers whose (map viewer_of xs)
 
 -- a list with more at its end
 abbrev pub IsLonger : {A : Type 0} → List A → List A → Type 0

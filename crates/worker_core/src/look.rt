@@ -114,6 +114,7 @@ pub fn look(
     requires { Picks recipients.now.viewers.items recipients.now.whose.items (map viewer_of sessions.old.sessions) }
     ensures guild { OnOk result (replica.new.guild ≡ state_from replica.old.guild entries.now) }
     ensures sessions { OnOk result (sessions.new ≡ with_sessions (kept_looked replica.old.guild entries.now sessions.old.sessions) sessions.old) }
+    ensures viewers { OnOk result (Picks recipients.now.viewers.items recipients.now.whose.items (map viewer_of sessions.new.sessions)) }
     ensures out { OnOk result (out.new.items ≡ out.old.items ++ all_written (kept_sends replica.old.guild entries.now sessions.old.sessions)) }
     ensures spent { MatchResult result (λ _. kept_spends replica.old.guild entries.now sessions.old.sessions ≡ false) (FaultBy (kept_spends replica.old.guild entries.now sessions.old.sessions)) }
 {

@@ -3,7 +3,7 @@
 ghost use Rattle.std.specs.Prelude.{◌≡◌, ◌↔◌, [], Some, true, map, slice_get, IfOk, OnOk, IsTrue};
 ghost use Rattle.std.specs.Option.{option_copied};
 ghost use Rattle.worker_core.specs.Masks.{has_users};
-ghost use Rattle.worker_core.specs.Recipients.{AreServedAlike, Picks, IsLonger, picked_by, viewer_of};
+ghost use Rattle.worker_core.specs.Recipients.{AreKnown, AreServedAlike, Picks, IsLonger, picked_by, viewer_of};
 
 use dispatch_types::Viewer;
 use session_core::Sessions;
@@ -143,11 +143,18 @@ impl Recipients {
         true
     }
 
-    /// Makes these the viewers of these sessions. Most often they are, and are only compared.
-    pub fn update(&mut self, alloc: Global, sessions: &Sessions) -> Result<(), AllocError>
+    /// Makes these the viewers of these sessions. If they are not known to be, they are compared, and most
+    /// often they are.
+    pub fn update(
+        &mut self,
+        known: bool,
+        alloc: Global,
+        sessions: &Sessions,
+    ) -> Result<(), AllocError>
+        requires { AreKnown known self.old.viewers.items self.old.whose.items sessions.now.sessions }
         ensures { OnOk result (Picks self.new.viewers.items self.new.whose.items (map viewer_of sessions.now.sessions)) }
     {
-        if !self.are_of(sessions) {
+        if !known && !self.are_of(sessions) {
             *self = Recipients::of(alloc, sessions)?;
         }
         Ok(())

@@ -68,6 +68,8 @@ pub struct Worker {
     sessions: Sessions,
     /// The viewers of the sessions, as of the last look.
     recipients: Recipients,
+    /// Whether they are known to be those of the sessions as they are now.
+    knows_recipients: bool,
 }
 
 // One call drops it, so that no crate above proves the drop of each of its parts again.
@@ -83,6 +85,7 @@ impl Drop for Worker {
             replicas,
             sessions,
             recipients,
+            knows_recipients: _,
         } = self;
         drop(url);
         drop(replicas);
@@ -94,10 +97,13 @@ impl Drop for Worker {
 impl Model for Worker {
     ghost use Rattle.std.specs.Prelude.{map};
     ghost use Rattle.worker_core.specs.InCode.{KeptWorker, bare};
+    ghost use Rattle.worker_core.specs.Recipients.{AreKnown};
 
     ghost Value = { KeptWorker };
 
     ghost view = { λ w. record { finished = w.finished; past = w.past; copies = w.replicas; machine = record { url = w.url; now = w.clock; chunks = w.chunks; logs = map bare w.replicas; core = w.sessions } } };
+
+    ghost invariant = { λ w. AreKnown w.knows_recipients w.recipients.viewers.items w.recipients.whose.items w.sessions.sessions };
 }
 
 impl Worker {
@@ -126,6 +132,7 @@ impl Worker {
             replicas,
             sessions: Sessions::new(alloc, number, bots),
             recipients: Recipients::none(alloc),
+            knows_recipients: false,
         })
     }
 
@@ -224,7 +231,10 @@ impl Worker {
         ensures same { OnOk result (self.new ≡ record self.old { copies = self.new.copies }) }
         ensures kept { OnOk result (keep_masks self.new.copies self.old.machine.core.sessions ≡ true) }
     {
-        self.recipients.update(self.alloc, &self.sessions)?;
+        let known = self.knows_recipients;
+        self.knows_recipients = false;
+        self.recipients.update(known, self.alloc, &self.sessions)?;
+        self.knows_recipients = true;
         keep_each(
             self.alloc,
             &mut self.replicas,
@@ -330,7 +340,9 @@ impl Worker {
         ensures live { length (live self.old.machine.core) ≡ length self.old.machine.core.sessions }
     {
         let mut out = Vec::with_capacity(self.alloc, self.room_for(entries))?;
-        self.recipients.update(self.alloc, &self.sessions)?;
+        let known = self.knows_recipients;
+        self.knows_recipients = false;
+        self.recipients.update(known, self.alloc, &self.sessions)?;
         replica.keep_masks(self.alloc, self.recipients.users.as_slice())?;
         look(
             self.alloc,
@@ -340,6 +352,7 @@ impl Worker {
             &mut self.sessions,
             &mut out,
         )?;
+        self.knows_recipients = true;
         Ok(out)
     }
 
@@ -376,6 +389,7 @@ impl Worker {
         ensures replies { IfOk result (λ replies. replies.items ≡ end_all_replies self.old.machine.core) }
         ensures ended { OnOk result (self.new ≡ record self.old { machine = record self.old.machine { core = all_ended (λ x. []) self.old.machine.core } }) }
     {
+        self.knows_recipients = false;
         self.sessions.end_all()
     }
 
@@ -390,6 +404,7 @@ impl Worker {
         ensures replies { IfOk result (λ replies. replies.items ≡ open_replies conn self.old.machine.core) }
         ensures opened { OnOk result (self.new ≡ kept_after self.old (Open conn)) }
     {
+        self.knows_recipients = false;
         self.sessions.open(conn, self.clock)
     }
 
@@ -406,6 +421,7 @@ impl Worker {
         ensures counted { OnOk result (is_spent (move_at in_code self.old.machine conn text.now) self.old.machine.core ≡ false) }
         ensures spent { result ≡ Err SessionFault.Spent → is_spent (move_at in_code self.old.machine conn text.now) self.old.machine.core ≡ true }
     {
+        self.knows_recipients = false;
         self.sessions.frame(conn, text, self.clock)
     }
 
@@ -419,6 +435,7 @@ impl Worker {
     fn lose_session(&mut self, conn: u32)
         ensures { self.new ≡ kept_after self.old (Lost conn) }
     {
+        self.knows_recipients = false;
         self.sessions.lost(conn, self.clock);
     }
 
@@ -432,6 +449,7 @@ impl Worker {
     fn close_session(&mut self, conn: u32, code: u16)
         ensures { self.new ≡ kept_after self.old (Closed conn code) }
     {
+        self.knows_recipients = false;
         self.sessions.closed(conn, code, self.clock);
     }
 
@@ -446,8 +464,14 @@ impl Worker {
         ensures replies { IfOk result (λ replies. replies.items ≡ tick_replies (max self.old.machine.now now) self.old.machine.core) }
         ensures ticked { OnOk result (self.new ≡ kept_after self.old (Tick now)) }
     {
+        let known = self.knows_recipients;
+        let before = self.sessions.len();
+        self.knows_recipients = false;
         self.clock = self.clock.max(now);
-        self.sessions.tick(self.clock)
+        let replies = self.sessions.tick(self.clock)?;
+        // Time ends sessions, and changes no viewer of the others.
+        self.knows_recipients = known && self.sessions.len() == before;
+        Ok(replies)
     }
 
     /// The outputs for the replies of a call, in order.
@@ -640,6 +664,7 @@ impl Worker {
         ensures told { (index : ℕ) → position (is_numbered session) self.old.machine.core.sessions ≡ Some index
             → MatchResult result (λ _. TellsAt index (λ x. dispatches.now) self.old.machine.core self.new.machine.core out.old.items out.new.items) (FailsAt index (λ x. dispatches.now) self.old.machine.core) }
     {
+        self.knows_recipients = false;
         tell(
             self.alloc,
             &mut self.sessions,

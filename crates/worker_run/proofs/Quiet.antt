@@ -7,7 +7,6 @@ use Rattle.gateway_frames.specs.declared.out.Out.{Out}
 use Rattle.gateway_frames.specs.declared.out.Out.TheVariants.{Hello}
 use Rattle.edit_apply.specs.Edits.{after}
 use Rattle.edit_apply.specs.declared.Edit.{Edit}
-use Rattle.edit_events.specs.Due.{due}
 use Rattle.session_core.specs.State.{State, Session, Condition, Attached, Detached, Ended, has_connection}
 use Rattle.session_core.specs.Ends.{silent_of, session_conns}
 use Rattle.world_law.specs.Keeping.{record_at}
@@ -20,6 +19,7 @@ use Rattle.world_law.proofs.Lists.{map_join}
 use Rattle.worker_core.specs.declared.io.Output.{Output as Written}
 use Rattle.worker_core.specs.declared.io.Output.TheVariants.{Send, Close, Wish}
 use Rattle.worker_core.specs.InCode.{wire_text, wire_model, KeptWorker}
+use Rattle.worker_core.specs.Looked.{due}
 use Rattle.worker_core.specs.Outputs.{written, all_written}
 use Rattle.worker_run.specs.Histories.{History, Took, given_out, wishes}
 use Rattle.worker_run.specs.Workers.{Follows, FollowsAll}

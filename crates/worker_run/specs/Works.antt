@@ -12,8 +12,9 @@ use Rattle.edit_post.specs.Post.{Sender, after_end}
 use Rattle.session_core.specs.declared.bot.Bot.{Bot}
 use Rattle.world_law.specs.Model.{Worker, first_worker}
 use Rattle.world_law.specs.TheLaw.{all_taken, WorkerHolds}
-use Rattle.worker_core.specs.declared.io.Input.{Input as Given}
-use Rattle.worker_core.specs.InCode.{wire_text, KeptWorker}
+pub use Rattle.worker_core.specs.declared.io.Input.{Input as Given}
+use Rattle.worker_core.specs.InCode.{wire_text}
+pub use Rattle.worker_core.specs.InCode.{KeptWorker}
 use Rattle.worker_core.specs.Represents.{Represents}
 use Rattle.worker_core.specs.Made.{all_dispatches}
 use Rattle.worker_run.specs.Histories.{History, inputs, events, ticks, wishes, transcript}

@@ -14,4 +14,5 @@ mod working;
 
 pub use fault::WorkFault;
 pub use report::WorkReport;
+pub use worker_core::{Input, Worker};
 pub use working::work;
