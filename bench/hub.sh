@@ -4,5 +4,5 @@
 set -euo pipefail
 here=$(cd "$(dirname "${BASH_SOURCE[0]}")/.." && pwd)
 [ $# -gt 0 ] || set -- 100000 900000
-"$here/gate" run /dev/null
+"$here/gate" --build
 python3 "$here/bench/hub.py" "$here/out/gate" "$@"

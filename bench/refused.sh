@@ -10,7 +10,7 @@ step=${2:-4001}
 work=$(mktemp -d)
 trap 'rm -rf "$work"' EXIT
 gcc -O2 -shared -fPIC -o "$work/refused.so" "$here/bench/refused/refused.c" -ldl
-"$here/gate" run /dev/null
+"$here/gate" --build
 cd "$here"
 python3 bench/refused.py "$work/refused.so" 0,6 1000 1 0 out/gate run examples/first.jsonl
 python3 bench/refused.py "$work/refused.so" 0,6 "$first" "$step" 21 out/gate load 7

@@ -9,7 +9,7 @@ here=$(cd "$(dirname "${BASH_SOURCE[0]}")/.." && pwd)
 lines=${1:-200000}
 work=$(mktemp -d)
 trap 'rm -rf "$work"' EXIT
-"$here/gate" run /dev/null
+"$here/gate" --build
 python3 "$here/bench/steps.py" "$lines" 1 8 16 >"$work/few.jsonl"
 python3 "$here/bench/steps.py" "$((lines / 10))" 4 64 1 >"$work/many.jsonl"
 for figure in few many; do

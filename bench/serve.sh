@@ -6,7 +6,7 @@
 set -euo pipefail
 here=$(cd "$(dirname "${BASH_SOURCE[0]}")/.." && pwd)
 if [ $# -eq 0 ]; then
-  "$here/gate" run /dev/null
+  "$here/gate" --build
   set -- "$here/out/gate"
 fi
 exec python3 "$here/bench/serve.py" "$@"

@@ -197,7 +197,7 @@ def compare_words():
             compare("forms of lines", page, line, form, form if not word or f'"{word}' in said else "no such line in the sources")
     ends = re.findall(r"^    ((?:guild|strays) \d.*)$", text_of(SERVE), re.M)
     compare("forms of lines", SERVE, 1, ends, text_of("examples/clients/edits.out").splitlines())
-    literals = re.findall(r"\"(gate: [^\"]*)\"", text_of("crates/gateway_main/src/complaint.rt"))
+    literals = re.findall(r"\"(gate: [^\"]*)\"", text_of(*(f"crates/{crate}/src/complaint.rt" for crate in ("file_commands", "gateway_main"))))
     forms = [re.sub(r"\\\{\w*\\\}", ".+", re.escape(literal)) for literal in literals]
     for page in FOR_AUTHORS:
         for number, line in enumerate(text_of(page).split("\n"), 1):
@@ -235,7 +235,7 @@ def compare_readme():
     compare("fields of the law", README, 1, fields, set(re.findall(r"pub (\w+) :", record)))
     told = {status for page, head in STATUSES for _, (status, *_) in rows(page, head)}
     compare("statuses", README, 1, {status for _, (cell, _) in rows(README, "status") for status in cell.split(", ")}, told)
-    calls = [(1, "gateway_main::gate", {"law", "does"}), (1, "scenario::play", {"law", "plays"}), (1, "worker_run::work", {"law"})]
+    calls = [(1, "gateway_main::gate", {"law", "does"}), (1, "files_main::gate_files", {"law", "does"}), (1, "scenario::play", {"law", "plays"}), (1, "worker_run::work", {"law"})]
     for line, (_, call, says) in rows(README, "family"):
         calls.append((line, call.strip("`"), set(re.findall(r"`(\w+)`", says.split(":")[0])) if ":" in says else {"ensures"}))
     for line, call, wanted in calls:
@@ -260,8 +260,8 @@ def compare_tables():
     codes = {name: code for name, code in constants("gateway_frames").items() if 4000 <= code < 4100 and re.search(rf"\b{name}\b", sent)}
     source = sorted((code, name.lower().replace("_", " ")) for name, code in codes.items())
     compare_rows("close codes", TRANSCRIPT, [(line, (int(code), name)) for line, (code, name, *_) in rows(TRANSCRIPT, "code")], source)
-    statuses = functions("crates/gateway_main/src/statuses.rt")
-    others = constants("gateway_main")
+    statuses = {**functions("crates/file_commands/src/statuses.rt"), **functions("crates/gateway_main/src/statuses.rt")}
+    others = constants("file_commands")
     for (page, head), name in zip(STATUSES, ("play_status", "load_status", "serve_status", "follow_status", "lift_status")):
         told = [int(others.get(status, status)) for status in re.findall(r"=> (\w+),", statuses[name])]
         compare_rows("statuses", page, [(line, int(status)) for line, (status, *_) in rows(page, head)], sorted({*told, others["BAD_WORDS"]}))

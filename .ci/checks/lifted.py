@@ -68,7 +68,8 @@ gate = rig.program("lifted")
 if not gate:
     sys.exit(0)
 for path in sorted(glob.glob("examples/*.jsonl") + glob.glob("examples/worked/*.jsonl")):
-    lift(gate, path)
+    for program in filter(None, (gate, rig.program_for_files("lifted"))):
+        lift(program, path)
 with open("examples/first.jsonl", "rb") as file:
     first = call(gate, "lift", file.read())[1].decode().split("\n")[0]
 with open("docs/STEPS.md", encoding="utf-8") as page:

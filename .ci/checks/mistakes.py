@@ -387,10 +387,25 @@ def try_client(gate):
         compare(what, (status, printed, said(status, text, "docs/CLIENT.md")), (run.returncode, run.stdout.decode(), run.stderr.decode()))
 
 
+def try_files(files, folder):
+    """What the program for files alone says: the same of a file, and of a command that it does not know where that is."""
+    try_lines(files, folder)
+    try_little_memory(files, folder)
+    try_lift(files, folder)
+    try_outside(files)
+    for words in (["load", "7"], ["serve", "8080", "1", "1", "nosuch.jsonl"], ["client", "ws://127.0.0.1:1", "t1", "1", "1"]):
+        run = subprocess.run([files, *words], capture_output=True, timeout=60)
+        text = f"this program runs and lifts files; ./gate {words[0]} builds the whole program"
+        compare(f"{words[0]}, to the program for files", (2, USAGE + "\n", said(2, text)), (run.returncode, run.stdout.decode(), run.stderr.decode()))
+
+
 gate = rig.program("mistakes")
 if not gate:
     sys.exit(0)
+files = rig.program_for_files("mistakes")
 with tempfile.TemporaryDirectory() as folder:
+    if files:
+        try_files(files, folder)
     try_lines(gate, folder)
     try_little_memory(gate, folder)
     try_serve(gate, folder)

@@ -1,5 +1,5 @@
 """Plays each step file of examples/worked, and compares its transcript, byte by byte, its status and its line on standard error with
-those that are wanted; then the first session through a pipe whose reader leaves before the second write, which then has the Hello line
+those that are wanted, also by the program for files alone; then the first session through a pipe whose reader leaves before the second write, which then has the Hello line
 alone. Without a built program nothing is played.
 
 Where the reference is at hand (bench/faults/rig.py), it folds what each session was sent and has to find the projection of the record
@@ -35,13 +35,13 @@ def names():
     return sorted({os.path.splitext(os.path.basename(path))[0] for path in glob.glob(f"{FOLDER}/*.*")})
 
 
-def play_all(gate):
+def play_all(gate, program):
     for name in names():
         path, wanted = f"{FOLDER}/{name}.jsonl", read(f"{name}.out")
         run = subprocess.run([gate, "run", path], capture_output=True, timeout=SECONDS)
-        compare(name, "the same", "the same" if run.stdout == wanted else rig.first_difference(wanted, run.stdout))
+        compare(f"{name}{program}", "the same", "the same" if run.stdout == wanted else rig.first_difference(wanted, run.stdout))
         status = 5 if wanted.splitlines()[-1].startswith(b"stop line ") else 0
-        compare(f"{name}: the end", (status, rig.complaint(status, path, wanted)), (run.returncode, run.stderr))
+        compare(f"{name}{program}: the end", (status, rig.complaint(status, path, wanted)), (run.returncode, run.stderr))
 
 
 def lose_the_second_write(gate):
@@ -75,8 +75,11 @@ def verify_all(oracle):
 gate = rig.program("worked")
 if not gate:
     sys.exit(0)
-play_all(gate)
+play_all(gate, "")
 lose_the_second_write(gate)
+files = rig.program_for_files("worked")
+if files:
+    play_all(files, " by the program for files")
 oracle = rig.oracle()
 if oracle:
     verify_all(oracle)

@@ -20,6 +20,7 @@ import threading
 ROOT = os.path.dirname(os.path.dirname(os.path.dirname(os.path.abspath(__file__))))
 ORACLE = os.environ.get("ORACLE") or "none"
 BUILT = ("crates/gateway_main/out/gateway_main", "out/gate")
+BUILT_FOR_FILES = ("crates/files_main/out/files_main", "out/gate-files")
 STAGE = "e15"  # what the program has of the stages of the reference
 MEMBERS = 5000  # the most members of a guild
 REQUEST = struct.Struct("8I200s200s200s")
@@ -41,22 +42,31 @@ def last_change():
     return max(map(os.path.getmtime, [*paths, os.path.join(ROOT, "crates.txt"), os.path.join(ROOT, "HANDLES")]))
 
 
-def program(script):
-    """The program that GATE names, which has to be one, or else a built one that is newer than its sources; if there is none, the
-    script says that it plays nothing."""
-    named = os.environ.get("GATE")
+def program_at_hand(script, variable, paths):
+    """The program that a variable of the environment names, which has to be one, or else a built one that is newer than its sources."""
+    named = os.environ.get(variable)
     if named:
-        return os.path.abspath(named) if is_program(named) else sys.exit(f"{script}: GATE names no program: {named}")
-    built = [path for path in (os.path.join(ROOT, path) for path in BUILT) if is_program(path)]
-    newer = [path for path in built if os.path.getmtime(path) > last_change()]
-    if not newer:
+        return os.path.abspath(named) if is_program(named) else sys.exit(f"{script}: {variable} names no program: {named}")
+    built = [path for path in (os.path.join(ROOT, path) for path in paths) if is_program(path)]
+    return next((path for path in built if os.path.getmtime(path) > last_change()), None)
+
+
+def program(script):
+    """The program of GATE, or a built one; if there is none, the script says that it plays nothing."""
+    found = program_at_hand(script, "GATE", BUILT)
+    if not found:
         print(f"{script}: no built program at hand that is newer than its sources: nothing was played", flush=True)
-    return next(iter(newer), None)
+    return found
+
+
+def program_for_files(script):
+    """The program for files alone, of GATE_FILES or a built one, if there is one."""
+    return program_at_hand(script, "GATE_FILES", BUILT_FOR_FILES)
 
 
 def needed_program():
     """The program, without which a script has nothing to do."""
-    return program(os.path.basename(sys.argv[0])) or sys.exit("run ./gate run /dev/null, or name the program by GATE")
+    return program(os.path.basename(sys.argv[0])) or sys.exit("run ./gate --build, or name the program by GATE")
 
 
 def oracle():
@@ -83,7 +93,7 @@ def by_reference(found, data):
 
 def said_of_lines():
     """What the program says of a line on standard error, by the name of its fault."""
-    with open(os.path.join(ROOT, "crates/gateway_main/src/complaint.rt"), encoding="utf-8") as file:
+    with open(os.path.join(ROOT, "crates/file_commands/src/complaint.rt"), encoding="utf-8") as file:
         return dict(re.findall(r'LineFault::(\w+) =>\s*\{?\s*"([^"]*)"', file.read()))
 
 

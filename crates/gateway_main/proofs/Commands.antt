@@ -1,8 +1,7 @@
 -- What is done for each command.
-use Rattle.std.proofs.Common.{◌≡◌, ℕ, List, [], ◌++◌, Result, Ok, Err, OnOk, OnErr, is_err, true, false, inl, inr, refl, sym, subst, arith, append-nil}
+use Rattle.std.proofs.Common.{◌≡◌, ℕ, List, [], Result, Ok, Err, OnOk, OnErr, is_err, true, false, inl, inr, refl, sym, subst, arith}
 use Rattle.std.specs.declared.option.Option.{Option}
 use Rattle.std.specs.declared.option.Option.TheVariants.{Some, None}
-use Rattle.std.specs.Io.KnownBytes.{Appends}
 use Rattle.gate_outside.specs.Houses.{HouseTale}
 use Rattle.serve_words.specs.Words.{Asked as Command, run, load, serve, client, lift}
 use Rattle.load_run.specs.declared.fault.LoadFault.TheVariants as ends
@@ -14,13 +13,10 @@ use Rattle.serve_run.specs.declared.fault.ServeFault.TheVariants as serving
 use Rattle.serve_run.proofs.Back.{ran_out}
 use Rattle.client_follow.specs.declared.fault.FollowFault.TheVariants as follow
 use Rattle.file_lift.specs.declared.fault.LiftFault.TheVariants as lifting
+use Rattle.file_commands.proofs.Usage.{no_usage}
+use Rattle.file_commands.proofs.Unread.{plays_none, lifts_none}
 use Rattle.gateway_main.specs.declared.fault.GateFault.{GateFault}
 use Rattle.gateway_main.specs.Gate.{Outside, Does, Plays, RunsServe, RunsLift, LeavesDial, LeavesTeams}
-use Rattle.gateway_main.specs.Usage.{usage}
-
-appends_none : (got : Option (List ℕ)) → Appends got got []
-appends_none None = tt
-appends_none (Some xs) = sym (append-nil xs)
 
 -- what holds after an answer that is no error
 pub ok_holds : {T E : Type 0} (r : Result T E) (P : Type 0) → is_err r ≡ false → OnOk r P → P
@@ -60,7 +56,7 @@ module _ (old : Outside) where
   -- out of memory before the command began
   pub out_of_memory : (R : Type 0) (command : Option Command) → Does R command old old None 6
   out_of_memory R None = record {
-    usage = inr (inr (refl, ([], old.sink.waits ++ usage, refl, appends_none old.sink.got)));
+    usage = no_usage old.sink.got old.sink.waits old.sink.faults;
     house = refl;
     dial = leaves_dial;
     teams = leaves_teams;
@@ -69,15 +65,7 @@ module _ (old : Outside) where
   out_of_memory R (Some (run file)) = record {
     played = Err play.Memory;
     status_is = refl;
-    runs = inl (refl, refl, inr refl);
-    asks = inr (refl, refl);
-    cause = (refl, refl);
-    rest = record {
-      contents = refl;
-      doors = refl;
-      clocks = refl;
-      door_faults = refl;
-    };
+    plays = plays_none file old.house old.sink.got old.sink.waits old.sink.faults;
     dial = leaves_dial;
     teams = leaves_teams;
     fault = inr (refl, refl);
@@ -112,22 +100,12 @@ module _ (old : Outside) where
     fault = inr (refl, refl);
   }
   out_of_memory R (Some (lift file)) = record {
-    lifts = record {
-      lifted = Err lifting.Memory;
-      status_is = refl;
-      lifts = inl (refl, refl, inr refl);
-      asks = inr (refl, refl);
-      cause = (omega arith, refl);
-      rest = record {
-        contents = refl;
-        doors = refl;
-        clocks = refl;
-        door_faults = refl;
-      };
-      fault = inr (refl, refl);
-    };
+    lifted = Err lifting.Memory;
+    status_is = refl;
+    lifts = lifts_none file old.house old.sink.got old.sink.waits old.sink.faults;
     dial = leaves_dial;
     teams = leaves_teams;
+    fault = inr (refl, refl);
   }
 
 -- ---- what is done, by what the words ask for

@@ -1,4 +1,2 @@
-pub mod Usage
 pub mod Bounds
 pub mod Commands
-pub mod Meaning

@@ -1,16 +1,10 @@
 -- What the command answers and leaves.
-use Rattle.std.specs.Prelude.{◌≡◌, ◌⊎◌, ℕ, List, ◌++◌, Result, Ok, Err, Some, None, MatchResult}
+use Rattle.std.specs.Prelude.{◌≡◌, ℕ, List, Result, Ok, Err, Some, None}
 use Rattle.std.specs.declared.option.Option.{Option}
 use Rattle.gate_outside.specs.Dials.{DialTale}
-use Rattle.gate_outside.specs.Houses.{HouseTale, ReturnedSource}
+use Rattle.gate_outside.specs.Houses.{HouseTale}
 use Rattle.scenario.specs.declared.fault.PlayFault.{PlayFault}
 use Rattle.scenario.specs.declared.fault.PlayFault.TheVariants as play
-use Rattle.gate_outside.specs.Streams.{AppendsFront}
-use Rattle.scenario.specs.Played.{PlaysAll, PlaysTo, PlayCause}
-use Rattle.std.specs.Io.KnownBytes.{Appends}
-use Rattle.gate_outside.specs.Causes.{Rose}
-use Rattle.gate_outside.specs.declared.faults.Fault.{Fault}
-use Rattle.gate_outside.specs.declared.faults.Fault.TheVariants as sink_fault
 use Rattle.serve_words.specs.Words.{Asked as Command, run, load, serve, client, lift}
 use Rattle.load_run.specs.declared.fault.LoadFault.{LoadFault}
 use Rattle.load_run.specs.declared.fault.LoadFault.TheVariants as ends
@@ -23,22 +17,13 @@ use Rattle.client_follow.specs.declared.fault.FollowFault.{FollowFault}
 use Rattle.client_follow.specs.declared.fault.FollowFault.TheVariants as follow
 use Rattle.file_lift.specs.declared.fault.LiftFault.{LiftFault}
 use Rattle.file_lift.specs.declared.fault.LiftFault.TheVariants as lifting
-use Rattle.file_lift.specs.Lifting.{LiftCause}
+use Rattle.file_commands.specs.Files.{TellsFault}
+use Rattle.file_commands.specs.Playing.{play_status, PlaysFile}
+use Rattle.file_commands.specs.Lifting.{lift_status, LiftsFile}
+use Rattle.file_commands.specs.Usage.{TellsUsage}
 use Rattle.gateway_main.specs.declared.fault.GateFault.{GateFault}
 use Rattle.gateway_main.specs.declared.fault.GateFault.TheVariants as gate_fault
 use Rattle.gateway_main.specs.Following.{following as client_of, FollowsOver}
-use Rattle.gateway_main.specs.Files.{TakesFile, AsksForFile}
-use Rattle.gateway_main.specs.Lifting.{lift_status, LiftsNamed}
-use Rattle.gateway_main.specs.Usage.{usage}
-
--- the exit status of a play
-abbrev pub play_status : Result (Unit {0}) PlayFault → ℕ
-play_status (Ok x) = 0
-play_status (Err play.Read) = 3
-play_status (Err play.Write) = 4
-play_status (Err (play.Line line fault)) = 5
-play_status (Err play.Memory) = 6
-play_status (Err play.Spent) = 12
 
 -- the exit status of a load
 abbrev pub load_status : Result (Unit {0}) LoadFault → ℕ
@@ -96,30 +81,6 @@ abbrev pub lift_fault : Result (Unit {0}) LiftFault → Option GateFault
 lift_fault (Ok x) = None
 lift_fault (Err fault) = Some (gate_fault.Lift fault)
 
--- the file was played, if its source was given, after the bytes that waited before the sink
-abbrev pub Runs : Option (List ℕ) → (returned0 returned1 : Option (List ReturnedSource)) (got0 got1 : Option (List ℕ)) → (before : List ℕ) → Result (Unit {0}) PlayFault → Type 0
-Runs own returned0 returned1 got0 got1 before played = TakesFile play.Read play.Memory own returned0 returned1 got0 got1 (λ (left0 left1 : Option (List ℕ)). MatchResult played (λ _. PlaysAll left0 left1 got0 got1 before) (PlaysTo left0 left1 got0 got1 before)) played
-
-abbrev pub usage_status : Result (Unit {0}) Fault → ℕ
-usage_status (Ok x) = 2
-usage_status (Err sink_fault.Failed) = 2
-usage_status (Err sink_fault.Memory) = 6
-
--- the whole usage line after the bytes that waited before the sink, or a front of both if the sink's count rose or
--- memory ran out
-abbrev pub TellsUsage : (got0 got1 : Option (List ℕ)) → (before : List ℕ) → (faults0 faults1 : ℕ) → (status : ℕ) → Type 0
-TellsUsage got0 got1 before faults0 faults1 status =
-    ((status ≡ 2) × Appends got0 got1 (before ++ usage) × (faults1 ≡ faults0))
-    ⊎ (((status ≡ 2) × AppendsFront got0 got1 (before ++ usage) × Rose faults0 faults1)
-    ⊎ ((status ≡ 6) × AppendsFront got0 got1 (before ++ usage)))
-
--- no door and no clock was put back, no door failed, and each name has the bytes that it had
-pub record LeavesRest (old new : HouseTale) : Type 0 where
-  pub contents : new.contents ≡ old.contents
-  pub doors : new.doors ≡ old.doors
-  pub clocks : new.clocks ≡ old.clocks
-  pub door_faults : new.door_faults ≡ old.door_faults
-
 -- what is outside of the command tells: its house, also as a dial, with its count of faults as one; its sink, and its teams
 pub record Outside : Type 0 where
   pub house : HouseTale
@@ -143,10 +104,6 @@ pub record LeavesTeams (old new : Outside) : Type 0 where
   pub load_team : new.load_team ≡ old.load_team
   pub serve_team : new.serve_team ≡ old.serve_team
 
--- the fault is told, unless memory ran out before the command began
-abbrev pub TellsFault : (told fault : Option GateFault) → (ran_out : Type 0) → Type 0
-TellsFault told fault ran_out = (told ≡ fault) ⊎ ((told ≡ None) × ran_out)
-
 -- words that are not in the grammar: the usage line is told, and nothing is asked for
 pub record Refuses (old new : Outside) (told : Option GateFault) (status : ℕ) : Type 0 where
   pub usage : TellsUsage old.sink.got new.sink.got old.sink.waits old.sink.faults new.sink.faults status
@@ -159,10 +116,7 @@ pub record Refuses (old new : Outside) (told : Option GateFault) (status : ℕ) 
 pub record Plays (file : List ℕ) (old new : Outside) (told : Option GateFault) (status : ℕ) : Type 0 where
   pub played : Result (Unit {0}) PlayFault
   pub status_is : status ≡ play_status played
-  pub runs : Runs (old.house.contents file) old.house.sources new.house.sources old.sink.got new.sink.got old.sink.waits played
-  pub asks : AsksForFile play.Memory old.house.asks new.house.asks file played
-  pub cause : PlayCause old.house.source_faults new.house.source_faults old.sink.faults new.sink.faults played
-  pub rest : LeavesRest old.house new.house
+  pub plays : PlaysFile file old.house new.house old.sink.got new.sink.got old.sink.waits old.sink.faults new.sink.faults played
   pub dial : LeavesDial old new
   pub teams : LeavesTeams old new
   pub fault : TellsFault told (play_fault played) (played ≡ Err play.Memory)
@@ -196,21 +150,14 @@ pub record RunsClient (url token : List ℕ) (intents count : ℕ) (old new : Ou
   pub teams : LeavesTeams old new
   pub fault : TellsFault told (follow_fault followed) (followed ≡ Err follow.Memory)
 
--- the file is asked for, lifted, and put back
-pub record LiftsFile (file : List ℕ) (house0 house1 : HouseTale) (sink0 sink1 : SinkTale) (told : Option GateFault) (status : ℕ) : Type 0 where
+-- `lift FILE`: the file is asked for and lifted
+pub record RunsLift (file : List ℕ) (old new : Outside) (told : Option GateFault) (status : ℕ) : Type 0 where
   pub lifted : Result (Unit {0}) LiftFault
   pub status_is : status ≡ lift_status lifted
-  pub lifts : LiftsNamed (house0.contents file) house0.sources house1.sources sink0.got sink1.got sink0.waits lifted
-  pub asks : AsksForFile lifting.Memory house0.asks house1.asks file lifted
-  pub cause : LiftCause house0.source_faults house1.source_faults sink0.faults sink1.faults lifted
-  pub rest : LeavesRest house0 house1
-  pub fault : TellsFault told (lift_fault lifted) (lifted ≡ Err lifting.Memory)
-
--- `lift FILE`
-pub record RunsLift (file : List ℕ) (old new : Outside) (told : Option GateFault) (status : ℕ) : Type 0 where
-  pub lifts : LiftsFile file old.house new.house old.sink new.sink told status
+  pub lifts : LiftsFile file old.house new.house old.sink.got new.sink.got old.sink.waits old.sink.faults new.sink.faults lifted
   pub dial : LeavesDial old new
   pub teams : LeavesTeams old new
+  pub fault : TellsFault told (lift_fault lifted) (lifted ≡ Err lifting.Memory)
 
 -- what is done for what the words ask for
 abbrev pub Does : (R : Type 0) → Option Command → (old new : Outside) → (told : Option GateFault) → (status : ℕ) → Type 0

@@ -1,5 +1,2 @@
-pub mod Usage
-pub mod Files
 pub mod Following
-pub mod Lifting
 pub mod Gate

@@ -4,19 +4,17 @@ ghost use Rattle.std.specs.Prelude.{◌≡◌, None, map, string_bytes};
 ghost use Rattle.world_law.specs.TheLaw.{TheLaw};
 ghost use Rattle.serve_words.specs.Words.{command_of};
 ghost use Rattle.serve_run.specs.Serving.{sink_tale, team_tale};
+ghost use Rattle.file_commands.specs.Lifting.{MeansTheSame};
 ghost use Rattle.gateway_main.specs.Gate.{outside, Does};
-ghost use Rattle.gateway_main.specs.Lifting.{MeansTheSame};
 
 use crate::fault::GateFault;
 use crate::following::run_client;
-use crate::lifting::{lift_file, lift_law};
 use crate::loading::run_load;
-use crate::playing::run;
-use crate::refusing::refuse;
 use crate::statuses::{
-    NO_MEMORY, follow_fault, follow_status, load_fault, load_status, play_fault, play_status,
-    serve_fault, serve_status,
+    follow_fault, follow_status, lift_fault, load_fault, load_status, play_fault, serve_fault,
+    serve_status,
 };
+use file_commands::{NO_MEMORY, lift_file, lift_law, lift_status, play_file, play_status, refuse};
 use gate_outside::doors::Door;
 use gate_outside::houses::House;
 use gate_outside::spawners::Spawner;
@@ -105,7 +103,7 @@ where
     };
     match command {
         Command::Run { file } => {
-            let played = run(alloc, file, house, sink);
+            let played = play_file(alloc, file, house, sink);
             *fault = play_fault(&played);
             play_status(&played)
         }
@@ -136,6 +134,10 @@ where
             *fault = follow_fault(&followed);
             follow_status(&followed)
         }
-        Command::Lift { file } => lift_file(alloc, file, house, sink, fault),
+        Command::Lift { file } => {
+            let lifted = lift_file(alloc, file, house, sink);
+            *fault = lift_fault(&lifted);
+            lift_status(&lifted)
+        }
     }
 }

@@ -5,37 +5,22 @@ mod complaint;
 mod fault;
 mod following;
 mod gate;
-mod lifting;
 mod loading;
-mod playing;
-mod refusing;
-mod shown;
 mod statuses;
 mod team;
 
-use complaint::{tell, tell_memory, tell_no_text};
+use complaint::tell;
+use file_commands::{BAD_WORDS, NO_MEMORY, tell_memory, tell_no_text, words_of};
 use gate_outside::buffered_sink::BufferedSink;
 use gate_outside::std_house::RealHouse;
 use gate_outside::std_streams::StdoutSink;
 use link_edge::socket_network::SocketNetwork;
 use load_parts::with_part_threads;
 use serve_parts::with_serve_threads;
-use statuses::{BAD_WORDS, NO_MEMORY};
 use std::alloc::Alloc;
-use std::env::Env;
-use std::io::ErrorKind;
+use std::io;
 use std::process::ExitCode;
-use std::{env, io};
 use team::{Ended, GateWork, LoadWork, ServeWork};
-
-// The words after the program's name.
-fn words_of<R: Env + Alloc>(rt: &R) -> io::Result<Vec<String<R::A>, R::A>> {
-    let mut words = Vec::new(rt.alloc());
-    for word in env::args(rt)?.skip(1) {
-        words.push(word)?;
-    }
-    Ok(words)
-}
 
 // Whether the first word is `serve`.
 fn is_serve(words: &[String]) -> bool {
@@ -46,18 +31,9 @@ fn is_serve(words: &[String]) -> bool {
 }
 
 fn main(rt: HostRuntime) -> io::Result<ExitCode> {
-    let mut is_text = true;
-    let words = match words_of(&rt) {
-        Ok(words) => words,
-        // A word that is not UTF-8 is outside the grammar, as no words are.
-        Err(error) if error.kind() == ErrorKind::InvalidData => {
-            is_text = false;
-            Vec::new(rt.alloc())
-        }
-        Err(_) => {
-            let _ = tell_memory(&rt);
-            return Ok(ExitCode::from(NO_MEMORY));
-        }
+    let Ok((words, are_text)) = words_of(&rt) else {
+        let _ = tell_memory(&rt);
+        return Ok(ExitCode::from(NO_MEMORY));
     };
     let Ok(sink) = BufferedSink::new(rt.alloc(), StdoutSink::new(rt.clone()?)) else {
         let _ = tell_memory(&rt);
@@ -77,7 +53,7 @@ fn main(rt: HostRuntime) -> io::Result<ExitCode> {
         with_part_threads(&rt, rt.alloc(), none_fails, LoadWork(work))
     };
     // If standard error takes nothing, the status still says what happened.
-    if status == BAD_WORDS && !is_text {
+    if status == BAD_WORDS && !are_text {
         let _ = tell_no_text(&rt);
     } else if status != 0 {
         let _ = tell(&rt, words.as_slice(), fault, status);

@@ -1,36 +1,15 @@
 //! The exit statuses of the command, and the faults that they tell.
 
 ghost use Rattle.std.specs.Prelude.{◌≡◌};
-ghost use Rattle.gateway_main.specs.Gate.{play_status, play_fault, load_status, load_fault, serve_status, serve_fault, follow_status, follow_fault, lift_fault, usage_status};
-ghost use Rattle.gateway_main.specs.Lifting.{lift_status};
+ghost use Rattle.gateway_main.specs.Gate.{play_fault, load_status, load_fault, serve_status, serve_fault, follow_status, follow_fault, lift_fault};
 
 use crate::fault::GateFault;
 use client_follow::FollowFault;
+use file_commands::NO_MEMORY;
 use file_lift::LiftFault;
-use gate_outside::faults::Fault;
 use load_run::LoadFault;
 use scenario::PlayFault;
 use serve_run::ServeFault;
-
-/// The exit status if the words are not those of a command.
-pub const BAD_WORDS: u8 = 2;
-
-/// The exit status if memory ran out.
-pub const NO_MEMORY: u8 = 6;
-
-/// The exit status of a play.
-pub fn play_status(played: &Result<(), PlayFault>) -> u8
-    ensures { result ≡ play_status played.now }
-{
-    match played {
-        Ok(()) => 0,
-        Err(PlayFault::Read) => 3,
-        Err(PlayFault::Write) => 4,
-        Err(PlayFault::Line { .. }) => 5,
-        Err(PlayFault::Memory) => NO_MEMORY,
-        Err(PlayFault::Spent) => 12,
-    }
-}
 
 /// Why a play did not come to its end.
 pub fn play_fault(played: &Result<(), PlayFault>) -> Option<GateFault>
@@ -118,19 +97,6 @@ pub fn follow_fault(followed: &Result<(), FollowFault>) -> Option<GateFault>
     }
 }
 
-/// The exit status of a lift.
-pub fn lift_status(lifted: &Result<(), LiftFault>) -> u8
-    ensures { result ≡ lift_status lifted.now }
-{
-    match lifted {
-        Ok(()) => 0,
-        Err(LiftFault::Read) => 3,
-        Err(LiftFault::Write) => 4,
-        Err(LiftFault::Line { .. }) => 5,
-        Err(LiftFault::Memory) => NO_MEMORY,
-    }
-}
-
 /// Why a lift did not come to its end.
 pub fn lift_fault(lifted: &Result<(), LiftFault>) -> Option<GateFault>
     ensures { result ≡ lift_fault lifted.now }
@@ -138,16 +104,5 @@ pub fn lift_fault(lifted: &Result<(), LiftFault>) -> Option<GateFault>
     match lifted {
         Ok(()) => None,
         Err(fault) => Some(GateFault::Lift(*fault)),
-    }
-}
-
-/// The exit status after the usage line.
-pub fn usage_status(told: Result<(), Fault>) -> u8
-    ensures { result ≡ usage_status told }
-{
-    match told {
-        Ok(()) => BAD_WORDS,
-        Err(Fault::Failed) => BAD_WORDS,
-        Err(Fault::Memory) => NO_MEMORY,
     }
 }

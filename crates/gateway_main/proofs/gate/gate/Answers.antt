@@ -38,13 +38,15 @@ run_serve-ended-requires-clause-ports g c =
 pub returns-in-Run-clause-does : goal.returns-in-Run-clause-does
 returns-in-Run-clause-does g c =
     plays _ _ _ _ _ _ _ (sym c.in-Ok.ensures ∙ (ap (option_map asked) c.in-Some.is ∙ ap (λ x. Some (asked x)) c.in-Run.is)) (record {
-      played = c.run-played.result;
+      played = c.play_file-played.result;
       status_is = c.play_status.ensures;
-      runs = c.run-played.ensures.runs;
-      asks = c.run-played.ensures.asks;
-      cause = c.run-played.ensures.cause;
-      rest = c.run-played.ensures.rest;
-      dial = record { dial = c.run-played.ensures.dial; dial_faults = c.run-played.ensures.dial_faults };
+      plays = record {
+        runs = c.play_file-played.ensures.runs;
+        asks = c.play_file-played.ensures.asks;
+        cause = c.play_file-played.ensures.cause;
+        rest = c.play_file-played.ensures.rest;
+      };
+      dial = record { dial = c.play_file-played.ensures.dial; dial_faults = c.play_file-played.ensures.dial_faults };
       teams = record { load_team = refl; serve_team = refl };
       fault = inl c.play_fault.ensures;
     })
@@ -63,7 +65,15 @@ returns-in-Serve-clause-does g c =
 pub returns-in-Lift-clause-does : goal.returns-in-Lift-clause-does
 returns-in-Lift-clause-does g c =
     lifts _ _ _ _ _ _ _ (sym c.in-Ok.ensures ∙ (ap (option_map asked) c.in-Some.is ∙ ap (λ x. Some (asked x)) c.in-Lift.is)) (record {
-      lifts = c.lift_file.ensures.lifts;
-      dial = record { dial = c.lift_file.ensures.dial; dial_faults = c.lift_file.ensures.dial_faults };
+      lifted = c.lift_file-lifted.result;
+      status_is = c.lift_status.ensures;
+      lifts = record {
+        lifts = c.lift_file-lifted.ensures.lifts;
+        asks = c.lift_file-lifted.ensures.asks;
+        cause = c.lift_file-lifted.ensures.cause;
+        rest = c.lift_file-lifted.ensures.rest;
+      };
+      dial = record { dial = c.lift_file-lifted.ensures.dial; dial_faults = c.lift_file-lifted.ensures.dial_faults };
       teams = record { load_team = refl; serve_team = refl };
+      fault = inl c.lift_fault.ensures;
     })

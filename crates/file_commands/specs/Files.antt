@@ -1,9 +1,9 @@
--- The one file that a command asks for by its name.
-use Rattle.std.specs.Prelude.{◌≡◌, ◌⊎◌, ℕ, List, Result, Err}
+-- The one file that a command asks a house for by its name.
+use Rattle.std.specs.Prelude.{◌≡◌, ◌⊎◌, ℕ, List, Result, Err, Option as Maybe, None as Nothing}
 use Rattle.std.specs.declared.option.Option.{Option}
 use Rattle.gate_outside.specs.declared.asked.Asked.{Asked}
 use Rattle.gate_outside.specs.declared.asked.Asked.TheVariants as ask
-use Rattle.gate_outside.specs.Houses.{ReturnedSource, returned_source, GivesOwn}
+use Rattle.gate_outside.specs.Houses.{HouseTale, ReturnedSource, returned_source, GivesOwn}
 use Rattle.gate_outside.specs.Told.{GrowsBy}
 
 -- no source was given, and nothing was written or put back; `read` and `memory` are the faults that say so
@@ -23,3 +23,14 @@ TakesFile read memory own returned0 returned1 got0 got1 Takes answer =
 -- the file was asked for once, or memory ran out before
 abbrev pub AsksForFile : {E : Type 0} → (memory : E) → (asks0 asks1 : Option (List Asked)) → List ℕ → Result (Unit {0}) E → Type 0
 AsksForFile memory asks0 asks1 file answer = GrowsBy asks0 asks1 (ask.Source file) ⊎ ((asks1 ≡ asks0) × (answer ≡ Err memory))
+
+-- no door and no clock was put back, no door failed, and each name has the bytes that it had
+pub record LeavesRest (old new : HouseTale) : Type 0 where
+  pub contents : new.contents ≡ old.contents
+  pub doors : new.doors ≡ old.doors
+  pub clocks : new.clocks ≡ old.clocks
+  pub door_faults : new.door_faults ≡ old.door_faults
+
+-- the fault is told, unless memory ran out before the command began
+abbrev pub TellsFault : {F : Type 0} → (told fault : Maybe F) → (ran_out : Type 0) → Type 0
+TellsFault told fault ran_out = (told ≡ fault) ⊎ ((told ≡ Nothing) × ran_out)

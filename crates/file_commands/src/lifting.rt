@@ -1,23 +1,19 @@
 //! The command `lift FILE`.
 
 ghost use Rattle.std.specs.Prelude.{◌≡◌};
-ghost use Rattle.serve_run.specs.Serving.{sink_tale};
 ghost use Rattle.file_lift.specs.Lifting.{LiftCause};
 ghost use Rattle.file_lift.specs.declared.fault.LiftFault.TheVariants.{Memory};
-ghost use Rattle.gateway_main.specs.Files.{AsksForFile};
-ghost use Rattle.gateway_main.specs.Gate.{LeavesRest, LiftsFile};
-ghost use Rattle.gateway_main.specs.Lifting.{LiftsNamed, MeansTheSame};
+ghost use Rattle.file_commands.specs.Files.{AsksForFile, LeavesRest};
+ghost use Rattle.file_commands.specs.Lifting.{LiftsNamed, MeansTheSame};
 
-use crate::fault::GateFault;
-use crate::statuses::{lift_fault, lift_status};
 use file_lift::{LiftFault, lift};
 use gate_outside::back::Back;
 use gate_outside::faults::Fault;
 use gate_outside::houses::House;
 use std::alloc::Global;
 
-// Lifts the file of that name, and puts its source back.
-fn run_lift<H: House>(
+/// Lifts the step file of that name, and puts its source back. What waited before the sink goes out first.
+pub fn lift_file<H: House>(
     alloc: Global,
     file: &str,
     house: &mut H,
@@ -45,25 +41,6 @@ fn run_lift<H: House>(
         Err(Fault::Failed) => Err(LiftFault::Read),
         Err(Fault::Memory) => Err(LiftFault::Memory),
     }
-}
-
-/// Lifts the file of that name, and answers the exit status. `fault` is then why it did not come to its end.
-pub fn lift_file<H: House>(
-    alloc: Global,
-    file: &str,
-    house: &mut H,
-    sink: &mut H::Out,
-    fault: &mut Option<GateFault>,
-) -> u8
-    ensures lifts { LiftsFile file.now (H.house_tale house.old) (H.house_tale house.new)
-        (sink_tale (H.Out.got sink.old) (H.Out.waits sink.old) (H.Out.faults sink.old))
-        (sink_tale (H.Out.got sink.new) (H.Out.waits sink.new) (H.Out.faults sink.new)) fault.new result }
-    ensures dial { H.tale house.new ≡ H.tale house.old }
-    ensures dial_faults { H.faults house.new ≡ H.faults house.old }
-{
-    let lifted = run_lift(alloc, file, house, sink);
-    *fault = lift_fault(&lifted);
-    lift_status(&lifted)
 }
 
 /// What the lifted file is played as.

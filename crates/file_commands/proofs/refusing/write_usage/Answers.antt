@@ -1,7 +1,7 @@
 use Rattle.std.proofs.lemmas.Result.{err_from_is_err_and, on_ok_weaker, on_err_weaker}
 use Rattle.gate_outside.proofs.Fronts.{part_front, carries_part, carries_on, all_sent}
-use Rattle.gateway_main.proofs.Usage.{front_out}
-use Rattle.gateway_main.proofs.refusing.write_usage.Goals as goal
+use Rattle.file_commands.proofs.Usage.{front_out}
+use Rattle.file_commands.proofs.refusing.write_usage.Goals as goal
 
 pub returns-clause-ok : goal.returns-clause-ok
 returns-clause-ok g c =

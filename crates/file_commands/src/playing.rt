@@ -3,8 +3,8 @@
 ghost use Rattle.std.specs.Prelude.{◌≡◌};
 ghost use Rattle.scenario.specs.Played.{PlayCause};
 ghost use Rattle.scenario.specs.declared.fault.PlayFault.TheVariants.{Memory};
-ghost use Rattle.gateway_main.specs.Files.{AsksForFile};
-ghost use Rattle.gateway_main.specs.Gate.{Runs, LeavesRest};
+ghost use Rattle.file_commands.specs.Files.{AsksForFile, LeavesRest};
+ghost use Rattle.file_commands.specs.Playing.{Runs};
 
 use gate_outside::back::Back;
 use gate_outside::faults::Fault;
@@ -12,8 +12,8 @@ use gate_outside::houses::House;
 use scenario::{PlayFault, play};
 use std::alloc::Global;
 
-/// Plays the file of that name, and puts its source back.
-pub fn run<H: House>(
+/// Plays the step file of that name, and puts its source back. What waited before the sink goes out first.
+pub fn play_file<H: House>(
     alloc: Global,
     file: &str,
     house: &mut H,

@@ -1,7 +1,7 @@
 use Rattle.std.proofs.Common.{sym, subst}
-use Rattle.gateway_main.specs.Gate.{TellsUsage}
-use Rattle.gateway_main.proofs.Usage.{tells_usage}
-use Rattle.gateway_main.proofs.refusing.refuse.Goals as goal
+use Rattle.file_commands.specs.Usage.{TellsUsage}
+use Rattle.file_commands.proofs.Usage.{tells_usage}
+use Rattle.file_commands.proofs.refusing.refuse.Goals as goal
 
 pub returns : goal.returns
 returns g c =

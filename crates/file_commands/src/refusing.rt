@@ -4,8 +4,7 @@ ghost use Rattle.std.specs.Prelude.{◌≡◌, ◌++◌, OnOk, OnErr};
 ghost use Rattle.std.specs.Io.KnownBytes.{Appends};
 ghost use Rattle.gate_outside.specs.Causes.{FaultHasCause};
 ghost use Rattle.gate_outside.specs.Streams.{AppendsFront};
-ghost use Rattle.gateway_main.specs.Usage.{usage};
-ghost use Rattle.gateway_main.specs.Gate.{TellsUsage};
+ghost use Rattle.file_commands.specs.Usage.{usage, TellsUsage};
 
 use crate::statuses::usage_status;
 use gate_outside::faults::Fault;

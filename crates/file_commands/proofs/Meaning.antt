@@ -14,7 +14,7 @@ use Rattle.file_lift.specs.Lifted.{newest_said, said_from, SaysTheSame}
 use Rattle.file_lift.proofs.Sayings.{newest_after}
 use Rattle.scenario.specs.Server.{Server, first_server, played}
 use Rattle.scenario.specs.Transcript.{line_text, line_ending, Ending, read_text, after_read, read_ending, is_read, text_from, ending_from, then_ending, transcript, ending}
-use Rattle.gateway_main.specs.Lifting.{MeansTheSame}
+use Rattle.file_commands.specs.Lifting.{MeansTheSame}
 
 -- ---- one line
 

@@ -1,0 +1,4 @@
+pub mod Usage
+pub mod Files
+pub mod Playing
+pub mod Lifting
